@@ -1,0 +1,180 @@
+-- The groups of a list of numbers are the classes of its members; k and m count the groups of touched and of bare cells. Assumes nothing.
+use mathlib.Core.Path.{_≡_, refl, sym, _∙_, subst}
+use mathlib.Core.Logic.{inl, inr}
+use mathlib.Core.Bool.{Bool, true, false, not, _&&_}
+use mathlib.Core.List.{List, [], _∷_}
+use Prim.Native.Nat.{ℕ, zero, suc, _/_, _%_, _≤_, _<_}
+use native.Mathlib.Omega.{arith}
+use native.Mathlib.Decide.{decLt}
+use lib.Dec.{eqb}
+use lib.ListN.{length, getD}
+use borrow.Author.Tests.{eqb-true, eq-eqb, ne-eqb}
+use Rattle.cells.specs.Groups.{any, those, groups}
+use Rattle.cells.specs.Linked.{Linked, OnePiece}
+use Rattle.cells.specs.Cells.{contains, spans, joined, places, touched, groupCount, testOf, test}
+use Rattle.cells.specs.Classes.{among, together, Classes, Counted, Symmetric, Reflexive, GroupsAreClasses, cells, TestCounts}
+use Rattle.cells.proofs.Bools.{and-true, true-and, or-true, true-or, both-ways, two}
+use Rattle.cells.proofs.Lists.{Mem, here, there, any-true, true-any, false-any, those-mem, mem-those}
+use Rattle.cells.proofs.Chains.{first-member}
+use Rattle.cells.proofs.Groups.{At, at-lt, group-filled, group-of, group-member, group-linked, linked-group, linked-same, group-one, one-group}
+
+-- ---- members of a list of numbers, as a test
+
+pub among-mem : (xs : List ℕ) (x : ℕ) → among xs x ≡ true → Mem x xs
+among-mem xs x e = let r = any-true (eqb x) xs e in subst (λ (y : ℕ). Mem y xs) (sym (eqb-true x (r .0) (r .2))) (r .1)
+
+pub mem-among : (xs : List ℕ) (x : ℕ) → Mem x xs → among xs x ≡ true
+mem-among xs x m = true-any (eqb x) xs x m (eq-eqb x x refl)
+
+pub among-those : (p : ℕ → Bool) (xs : List ℕ) (x : ℕ) → among (those p xs) x ≡ among xs x && p x
+among-those p xs x =
+    both-ways (among (those p xs) x) (among xs x && p x)
+    (λ e. let r = those-mem p xs x (among-mem (those p xs) x e) in true-and (among xs x) (p x) (mem-among xs x (r .0)) (r .1))
+    (λ e. let r = and-true (among xs x) (p x) e in mem-among (those p xs) x (mem-those p xs x (among-mem xs x (r .0)) (r .1)))
+
+-- ---- the group at a place is one of the groups, and one of the groups has a place
+
+pub getD-mem : {A : Type 0} (d : A) (l : List A) (i : ℕ) → i < length l → Mem (getD l i d) l
+getD-mem d [] i h = absurd (omega arith)
+getD-mem d (x ∷ l) zero h = here
+getD-mem d (x ∷ l) (suc i) h = there (getD-mem d l i (omega arith))
+
+pub mem-getD : {A : Type 0} (d x : A) (l : List A) → Mem x l → (i : ℕ) × (i < length l) × (getD l i d ≡ x)
+mem-getD d x (y ∷ l) here = (zero, omega arith, refl)
+mem-getD d x (y ∷ l) (there m) = let r = mem-getD d x l m in (suc (r .0), (let h = r .1 in omega arith), r .2)
+
+-- ---- the groups of members
+
+module _ (joined : ℕ → ℕ → Bool) (turn : Symmetric joined) (self : Reflexive joined) (member : ℕ → Bool) (xs : List ℕ)
+    (are : (x : ℕ) → Mem x xs → member x ≡ true) (all : (x : ℕ) → member x ≡ true → Mem x xs) where
+  pub groups-classes : Classes member joined (groups joined xs)
+  groups-classes = record { members = members; filled = filled; linked = linked; whole = whole }
+    where
+      at-any : (f : List ℕ → Bool) (i x : ℕ) → At (groups joined xs) i x → f (getD (groups joined xs) i []) ≡ true → any f (groups joined xs) ≡ true
+      at-any f i x a e = true-any f (groups joined xs) (getD (groups joined xs) i []) (getD-mem [] (groups joined xs) i (at-lt (groups joined xs) i x a)) e
+
+      members : (x : ℕ) → any (λ g. among g x) (groups joined xs) ≡ member x
+      members x =
+          both-ways (any (λ g. among g x) (groups joined xs)) (member x)
+          (λ e.
+          let r = any-true (λ g. among g x) (groups joined xs) e in
+          let q = mem-getD [] (r .0) (groups joined xs) (r .1) in
+          group-member joined turn self member xs are all (q .0) x (subst (λ (g : List ℕ). Mem x g) (sym (q .2)) (among-mem (r .0) x (r .2))))
+          (λ m. let r = group-of joined turn self member xs are all x m in at-any (λ g. among g x) (r .0) x (r .1) (mem-among (getD (groups joined xs) (r .0) []) x (r .1)))
+
+      filled : any (λ g. eqb (length g) 0) (groups joined xs) ≡ false
+      filled =
+          false-any (λ g. eqb (length g) 0) (groups joined xs)
+          (λ g m. ne-eqb (length g) 0 (λ e.
+          let q = mem-getD [] g (groups joined xs) m in
+          let p = group-filled joined turn self member xs are all (q .0) (q .1) in
+          empty g (p .0) (subst (λ (h : List ℕ). Mem (p .0) h) (q .2) (p .1)) e))
+        where
+          empty : (g : List ℕ) (x : ℕ) → Mem x g → length g ≡ 0 → ⊥
+          empty g x here e = omega arith
+          empty g x (there m) e = omega arith
+
+      linked : (x y : ℕ) → together (groups joined xs) x y ≡ true → Linked member joined x y
+      linked x y e =
+          let r = any-true (λ g. among g x && among g y) (groups joined xs) e in
+          let q = mem-getD [] (r .0) (groups joined xs) (r .1) in
+          let b = and-true (among (r .0) x) (among (r .0) y) (r .2) in
+          group-linked joined turn self member xs are all (q .0) x y
+          (subst (λ (g : List ℕ). Mem x g) (sym (q .2)) (among-mem (r .0) x (b .0)))
+          (subst (λ (g : List ℕ). Mem y g) (sym (q .2)) (among-mem (r .0) y (b .1)))
+
+      whole : (x y : ℕ) → Linked member joined x y → together (groups joined xs) x y ≡ true
+      whole x y l =
+          let r = group-of joined turn self member xs are all x (first-member l) in
+          at-any (λ g. among g x && among g y) (r .0) x (r .1)
+          (true-and (among (getD (groups joined xs) (r .0) []) x) (among (getD (groups joined xs) (r .0) []) y) (mem-among (getD (groups joined xs) (r .0) []) x (r .1))
+          (mem-among (getD (groups joined xs) (r .0) []) y (linked-group joined turn self member xs are all (r .0) l (r .1))))
+
+  pub groups-counted : Counted member joined (length (groups joined xs))
+  groups-counted =
+      record {
+        pick = λ i. pick i (decLt i n);
+        picked = λ i h. group-member joined turn self member xs are all i (pick i (decLt i n)) (at i h (decLt i n));
+        apart = λ i j h k l. linked-same joined turn self member xs are all i j l (at i h (decLt i n)) (at j k (decLt j n));
+        reach = λ x m.
+            let r = group-of joined turn self member xs are all x m in
+            let h = at-lt (groups joined xs) (r .0) x (r .1) in
+            (r .0, h, group-linked joined turn self member xs are all (r .0) x (pick (r .0) (decLt (r .0) n)) (r .1) (at (r .0) h (decLt (r .0) n)));
+      }
+    where
+      n : ℕ
+      n = length (groups joined xs)
+
+      pick : (i : ℕ) → Dec (i < n) → ℕ
+      pick i (yes h) = group-filled joined turn self member xs are all i h .0
+      pick i (no h) = 0
+
+      at : (i : ℕ) → i < n → (d : Dec (i < n)) → At (groups joined xs) i (pick i d)
+      at i h (yes k) = group-filled joined turn self member xs are all i k .1
+      at i h (no k) = absurd (k h)
+
+pub groups-are-classes : GroupsAreClasses
+groups-are-classes joined turn self xs =
+    (groups-classes joined turn self (among xs) xs (mem-among xs) (among-mem xs), groups-counted joined turn self (among xs) xs (mem-among xs) (among-mem xs))
+
+-- ---- cells
+
+pub joined-turn : Symmetric joined
+unfolding joined
+joined-turn c d e = elim (or-true (contains c d) (contains d c) e) [
+  | inl h ↦ true-or (contains d c) (contains c d) (inr h)
+  | inr h ↦ true-or (contains d c) (contains c d) (inl h)
+]
+
+pub joined-self : Reflexive joined
+unfolding joined contains
+joined-self c = true-or (contains c c) (contains c c) (inl (true-and (spans x x) (spans y y && spans z z) (same x) (true-and (spans y y) (spans z z) (same y) (same z))))
+  where
+    x : ℕ
+    x = c % 3
+
+    y : ℕ
+    y = c / 3 % 3
+
+    z : ℕ
+    z = c / 9
+
+    same : (a : ℕ) → spans a a ≡ true
+    same a = true-or (eqb a 1) (eqb a a) (inr (eq-eqb a a refl))
+
+module _ (p : ℕ → Bool) where
+  are : (c : ℕ) → Mem c (those p places) → cells p c ≡ true
+  are c m = sym (among-those p places c) ∙ mem-among (those p places) c m
+
+  all : (c : ℕ) → cells p c ≡ true → Mem c (those p places)
+  all c e = among-mem (those p places) c (among-those p places c ∙ e)
+
+  -- the groups of the cells that pass the test are their classes
+  pub cells-classes : Classes (cells p) joined (groups joined (those p places))
+  cells-classes = groups-classes joined joined-turn joined-self (cells p) (those p places) are all
+
+  pub cells-counted : Counted (cells p) joined (groupCount (those p places))
+  unfolding groupCount
+  cells-counted = groups-counted joined joined-turn joined-self (cells p) (those p places) are all
+
+  -- one group: any two of the cells are linked
+  pub cells-one-piece : groupCount (those p places) ≡ 1 → OnePiece (cells p) joined
+  unfolding groupCount
+  cells-one-piece e = group-one joined joined-turn joined-self (cells p) (those p places) are all e
+
+  pub one-piece-cells : (c : ℕ) → cells p c ≡ true → OnePiece (cells p) joined → groupCount (those p places) ≡ 1
+  unfolding groupCount
+  one-piece-cells c m o = one-group joined joined-turn joined-self (cells p) (those p places) are all c m o
+
+  -- a cell that passes: at least one group
+  pub cells-some : (c : ℕ) → cells p c ≡ true → 1 ≤ groupCount (those p places)
+  unfolding groupCount
+  cells-some c m = let r = cells-counted .reach c m in let h = r .1 in omega arith
+
+  -- at least one group: a cell that passes
+  pub some-cells : 1 ≤ groupCount (those p places) → (c : ℕ) × (cells p c ≡ true)
+  some-cells h = (cells-counted .pick 0, cells-counted .picked 0 h)
+
+pub test-counts : TestCounts
+unfolding test testOf
+test-counts kept = (cells-counted (touched kept), cells-counted (λ c. not (touched kept c)))

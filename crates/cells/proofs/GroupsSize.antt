@@ -1,0 +1,197 @@
+-- Lists with no element twice; the groups of such a list have none twice, and as many elements as the list. Assumes nothing.
+use mathlib.Core.Path.{_≡_, refl, ap, subst}
+use mathlib.Core.Logic.{_⊎_, inl, inr}
+use mathlib.Core.Bool.{Bool, true, false}
+use mathlib.Core.List.{List, [], _∷_, _++_}
+use Prim.Native.Nat.{ℕ, zero, suc, _+_, _≤_}
+use native.Mathlib.Omega.{arith}
+use lib.ListN.{length, getD, length-append}
+use Rattle.cells.specs.Groups.{any, consIf, those, appendIf, reached, consUnless, others, enter, gather, groups}
+use Rattle.cells.proofs.Lists.{Mem, here, there, mem-cons, mem-left, mem-right, mem-split, those-mem, mem-those}
+use Rattle.cells.proofs.Groups.{At, mem-none, groups-only}
+
+-- ---- no element twice
+
+abbrev pub Distinct : {A : Type 0} → List A → Type 0
+Distinct [] = Unit {0}
+Distinct (x ∷ xs) = (Mem x xs → ⊥) × (Distinct xs)
+
+module _ {A : Type 0} where
+  pub distinct-append : (g h : List A) → Distinct g → Distinct h → ((x : A) → Mem x g → Mem x h → ⊥) → Distinct (g ++ h)
+  distinct-append [] h d e f = e
+  distinct-append (x ∷ g) h d e f =
+      (λ m. elim (mem-split x g h m) [ inl a ↦ d .0 a | inr b ↦ f x here b ], distinct-append g h (d .1) e (λ y a b. f y (there a) b))
+
+  pub append-distinct : (g h : List A) → Distinct (g ++ h) → (Distinct g) × (Distinct h) × ((x : A) → Mem x g → Mem x h → ⊥)
+  append-distinct [] h d = (tt, d, λ x a b. mem-none a)
+  append-distinct (x ∷ g) h d = let r = append-distinct g h (d .1) in ((λ m. d .0 (mem-left x g h m), r .0), r .1, none (r .2))
+    where
+      none : ((y : A) → Mem y g → Mem y h → ⊥) → (y : A) → Mem y (x ∷ g) → Mem y h → ⊥
+      none f y here b = d .0 (mem-right y g h b)
+      none f y (there a) b = f y a b
+
+  pub distinct-those : (p : A → Bool) (xs : List A) → Distinct xs → Distinct (those p xs)
+  unfolding those
+  distinct-those p [] d = tt
+  distinct-those p (x ∷ xs) d = go (p x) (distinct-those p xs (d .1))
+    where
+      go : (t : Bool) → Distinct (those p xs) → Distinct (consIf t x (those p xs))
+      go true r = (λ m. d .0 (those-mem p xs x m .0), r)
+      go false r = r
+
+  -- the list without one of its elements
+  remove : {x : A} {xs : List A} → Mem x xs → List A
+  remove (here {xs = xs}) = xs
+  remove (there {y = y} m) = y ∷ remove m
+
+  remove-length : {x : A} {xs : List A} (m : Mem x xs) → length xs ≡ suc (length (remove m))
+  unfolding remove
+  remove-length here = refl
+  remove-length (there m) = ap suc (remove-length m)
+
+  remove-mem : {x : A} {xs : List A} (m : Mem x xs) (y : A) → Mem y xs → (y ≡ x) ⊎ (Mem y (remove m))
+  unfolding remove
+  remove-mem here y n = mem-cons n
+  remove-mem (there m) y here = inr here
+  remove-mem (there m) y (there n) = elim (remove-mem m y n) [ inl e ↦ inl e | inr r ↦ inr (there r) ]
+
+  -- a list with no element twice is no longer than a list that has its elements
+  pub distinct-le : (g h : List A) → Distinct g → ((x : A) → Mem x g → Mem x h) → length g ≤ length h
+  distinct-le [] h d sub = omega arith
+  distinct-le (x ∷ g) h d sub =
+      let e = remove-length (sub x here) in
+      let r =
+      distinct-le g (remove (sub x here)) (d .1) (λ y m. elim (remove-mem (sub x here) y (sub y (there m))) [
+        | inl q ↦ absurd (d .0 (subst (λ (z : A). Mem z g) q m))
+        | inr n ↦ n
+      ]) in
+      omega arith
+
+  pub distinct-length : (g h : List A) → Distinct g → Distinct h → ((x : A) → Mem x g → Mem x h) → ((x : A) → Mem x h → Mem x g) → length g ≡ length h
+  distinct-length g h d e f k = let a = distinct-le g h d f in let b = distinct-le h g e k in omega arith
+
+-- ---- all groups as one list
+
+abbrev pub flat : {A : Type 0} → List (List A) → List A
+flat [] = []
+flat (g ∷ gs) = g ++ flat gs
+
+module _ {A : Type 0} where
+  pub flat-at : (gs : List (List A)) (i : ℕ) (x : A) → At gs i x → Mem x (flat gs)
+  flat-at (g ∷ gs) zero x a = mem-left x g (flat gs) a
+  flat-at (g ∷ gs) (suc i) x a = mem-right x g (flat gs) (flat-at gs i x a)
+
+  pub at-flat : (gs : List (List A)) (x : A) → Mem x (flat gs) → (i : ℕ) × (At gs i x)
+  at-flat [] x m = absurd (mem-none m)
+  at-flat (g ∷ gs) x m = go (mem-split x g (flat gs) m) (λ m. at-flat gs x m)
+    where
+      go : (Mem x g) ⊎ (Mem x (flat gs)) → (Mem x (flat gs) → (i : ℕ) × (At gs i x)) → (i : ℕ) × (At (g ∷ gs) i x)
+      go (inl a) ih = (zero, a)
+      go (inr b) ih = let r = ih b in (suc (r .0), r .1)
+
+  pub distinct-at : (gs : List (List A)) (i : ℕ) → Distinct (flat gs) → Distinct (getD gs i [])
+  distinct-at [] i d = tt
+  distinct-at (g ∷ gs) zero d = append-distinct g (flat gs) d .0
+  distinct-at (g ∷ gs) (suc i) d = distinct-at gs i (append-distinct g (flat gs) d .1)
+
+module _ {A : Type 0} (joined : A → A → Bool) where
+  -- the groups reached, and then the others
+  split : A → List (List A) → List A
+  split x gs = reached joined x gs ++ flat (others joined x gs)
+
+  split-mem : (x : A) (gs : List (List A)) (y : A) → Mem y (split x gs) → Mem y (flat gs)
+  unfolding split reached others
+  split-mem x [] y m = m
+  split-mem x (g ∷ gs) y m = go (any (joined x) g) m (λ m. split-mem x gs y m)
+    where
+      r : List A
+      r = reached joined x gs
+
+      o : List (List A)
+      o = others joined x gs
+
+      go : (t : Bool) → Mem y (appendIf joined t g r ++ flat (consUnless joined t g o)) → (Mem y (r ++ flat o) → Mem y (flat gs))
+          → Mem y (g ++ flat gs)
+      go true m ih =
+          elim (mem-split y (g ++ r) (flat o) m) [
+            | inl a ↦ elim (mem-split y g r a) [ inl b ↦ mem-left y g (flat gs) b | inr b ↦ mem-right y g (flat gs) (ih (mem-left y r (flat o) b)) ]
+            | inr a ↦ mem-right y g (flat gs) (ih (mem-right y r (flat o) a))
+          ]
+      go false m ih =
+          elim (mem-split y r (g ++ flat o) m) [
+            | inl a ↦ mem-right y g (flat gs) (ih (mem-left y r (flat o) a))
+            | inr a ↦ elim (mem-split y g (flat o) a) [ inl b ↦ mem-left y g (flat gs) b | inr b ↦ mem-right y g (flat gs) (ih (mem-right y r (flat o) b)) ]
+          ]
+
+  split-length : (x : A) (gs : List (List A)) → length (split x gs) ≡ length (flat gs)
+  unfolding split reached others
+  split-length x [] = refl
+  split-length x (g ∷ gs) = go (any (joined x) g) (split-length x gs)
+    where
+      r : List A
+      r = reached joined x gs
+
+      o : List (List A)
+      o = others joined x gs
+
+      go : (t : Bool) → length (r ++ flat o) ≡ length (flat gs)
+          → length (appendIf joined t g r ++ flat (consUnless joined t g o)) ≡ length (g ++ flat gs)
+      go true e = omega (arith, length-append (g ++ r) (flat o), length-append g r, length-append r (flat o), length-append g (flat gs))
+      go false e = omega (arith, length-append r (g ++ flat o), length-append g (flat o), length-append r (flat o), length-append g (flat gs))
+
+  split-distinct : (x : A) (gs : List (List A)) → Distinct (flat gs) → Distinct (split x gs)
+  unfolding split reached others
+  split-distinct x [] d = tt
+  split-distinct x (g ∷ gs) d = let p = append-distinct g (flat gs) d in go (any (joined x) g) p (split-distinct x gs (p .1)) (split-mem x gs)
+    where
+      r : List A
+      r = reached joined x gs
+
+      o : List (List A)
+      o = others joined x gs
+
+      go : (t : Bool) → (Distinct g) × (Distinct (flat gs)) × ((y : A) → Mem y g → Mem y (flat gs) → ⊥) → Distinct (r ++ flat o)
+          → ((y : A) → Mem y (r ++ flat o) → Mem y (flat gs))
+          → Distinct (appendIf joined t g r ++ flat (consUnless joined t g o))
+      go true p ih sub =
+          let q = append-distinct r (flat o) ih in
+          distinct-append (g ++ r) (flat o)
+          (distinct-append g r (p .0) (q .0) (λ y a b. p .2 y a (sub y (mem-left y r (flat o) b)))) (q .1)
+          (λ y a b. elim (mem-split y g r a) [ inl c ↦ p .2 y c (sub y (mem-right y r (flat o) b)) | inr c ↦ q .2 y c b ])
+      go false p ih sub =
+          let q = append-distinct r (flat o) ih in
+          distinct-append r (g ++ flat o) (q .0)
+          (distinct-append g (flat o) (p .0) (q .1) (λ y a b. p .2 y a (sub y (mem-right y r (flat o) b))))
+          (λ y a b. elim (mem-split y g (flat o) b) [ inl c ↦ p .2 y c (sub y (mem-left y r (flat o) a)) | inr c ↦ q .2 y a c ])
+
+  gather-length : (xs : List A) (gs : List (List A)) → length (flat (gather joined xs gs)) ≡ length xs + length (flat gs)
+  unfolding gather enter split
+  gather-length [] gs = omega arith
+  gather-length (x ∷ xs) gs = omega (arith, gather-length xs (enter joined x gs), split-length x gs)
+
+  gather-distinct : (xs : List A) (gs : List (List A)) → Distinct xs → Distinct (flat gs) → ((x : A) → Mem x xs → Mem x (flat gs) → ⊥)
+      → Distinct (flat (gather joined xs gs))
+  unfolding gather enter split
+  gather-distinct [] gs d e f = e
+  gather-distinct (x ∷ xs) gs d e f =
+      gather-distinct xs (enter joined x gs) (d .1) (λ m. f x here (split-mem x gs x m), split-distinct x gs e) (λ y a b. none y a b)
+    where
+      none : (y : A) → Mem y xs → Mem y (x ∷ split x gs) → ⊥
+      none y a here = d .0 a
+      none y a (there b) = f y (there a) (split-mem x gs y b)
+
+  -- the groups have as many elements as the list
+  pub groups-length : (xs : List A) → length (flat (groups joined xs)) ≡ length xs
+  unfolding groups
+  groups-length xs = omega (arith, gather-length xs [])
+
+  pub groups-distinct : (xs : List A) → Distinct xs → Distinct (flat (groups joined xs))
+  unfolding groups
+  groups-distinct xs d = gather-distinct xs [] d tt (λ x a b. mem-none b)
+
+  -- the size of a group is the number of the list's elements that are in it
+  pub group-size : (xs : List A) → Distinct xs → (i : ℕ) (label : A → Bool) → ((x : A) → At (groups joined xs) i x → label x ≡ true)
+      → ((x : A) → Mem x xs → label x ≡ true → At (groups joined xs) i x) → length (getD (groups joined xs) i []) ≡ length (those label xs)
+  group-size xs d i label f k =
+      distinct-length (getD (groups joined xs) i []) (those label xs) (distinct-at (groups joined xs) i (groups-distinct xs d)) (distinct-those label xs d)
+      (λ x a. mem-those label xs x (groups-only joined xs i x a) (f x a)) (λ x m. let r = those-mem label xs x m in k x (r .0) (r .1))

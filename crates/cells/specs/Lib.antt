@@ -1,0 +1,6 @@
+pub mod Groups
+pub mod Linked
+pub mod Cells
+pub mod Examples
+pub mod Classes
+pub mod Rank
