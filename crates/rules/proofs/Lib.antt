@@ -1,0 +1,14 @@
+pub mod Voxels
+pub mod Places
+pub mod Foremost
+pub mod InsideLeast
+pub mod Inside
+pub mod Distance
+pub mod Boxes
+pub mod Topology
+pub mod Demand
+pub mod Cases
+pub mod BoundHalfUlp
+pub mod BoundOps
+pub mod BoundSums
+pub mod Bound

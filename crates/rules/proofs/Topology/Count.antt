@@ -1,0 +1,103 @@
+-- How many voxels pass a test. Assumes nothing.
+use mathlib.Core.Path.{_≡_, refl, ap}
+use mathlib.Core.Bool.{Bool, true, false, _||_}
+use mathlib.Core.List.{List, [], _∷_}
+use Prim.Native.Nat.{ℕ, zero, suc, _+_, _≤_, _<_}
+use native.Mathlib.Omega.{arith}
+use native.Mathlib.Decide.{ℕ-discrete}
+use lib.Dec.{eqb}
+use lib.ListN.{length}
+use borrow.Author.Tests.{eq-eqb, ne-eqb}
+use Rattle.cells.specs.Groups.{any, those, consIf}
+use Rattle.cells.specs.Cells.{bit}
+use Rattle.cells.proofs.Lists.{Mem, here, there}
+use Rattle.rules.specs.declared.Sides.{Sides}
+use Rattle.rules.specs.Grid.{size, from, voxels}
+use Rattle.rules.specs.Meaning.{found}
+use Rattle.rules.proofs.Voxels.{mem-from}
+use Rattle.rules.proofs.Topology.Surface.{omit, omit-true}
+use Rattle.rules.proofs.Topology.Removal.{omit-self}
+
+countIn : (ℕ → Bool) → List ℕ → ℕ
+countIn p l = length (those p l)
+
+count-cons : (p : ℕ → Bool) (x : ℕ) (l : List ℕ) → countIn p (x ∷ l) ≡ bit (p x) + countIn p l
+unfolding countIn those
+count-cons p x l = go (p x)
+  where
+    go : (t : Bool) → length (consIf t x (those p l)) ≡ bit t + length (those p l)
+    go true = omega arith
+    go false = omega arith
+
+count-nil : (p : ℕ → Bool) → countIn p [] ≡ 0
+unfolding countIn those
+count-nil p = refl
+
+bit-mono : (t u : Bool) → (t ≡ true → u ≡ true) → bit t ≤ bit u
+bit-mono true u h = rw (h refl) (omega arith)
+bit-mono false u h = omega arith
+
+bit-or : (t u : Bool) → bit (t || u) ≤ bit t + bit u
+bit-or true u = omega arith
+bit-or false u = omega arith
+
+mono-in : (p q : ℕ → Bool) (l : List ℕ) → ((j : ℕ) → p j ≡ true → q j ≡ true) → countIn p l ≤ countIn q l
+mono-in p q [] h = omega (arith, count-nil p)
+mono-in p q (x ∷ l) h = omega (arith, count-cons p x l, count-cons q x l, bit-mono (p x) (q x) (h x), mono-in p q l h)
+
+or-in : (p q : ℕ → Bool) (l : List ℕ) → countIn (λ j. p j || q j) l ≤ countIn p l + countIn q l
+or-in p q [] = omega (arith, count-nil (λ j. p j || q j))
+or-in p q (x ∷ l) = omega (arith, count-cons (λ j. p j || q j) x l, count-cons p x l, count-cons q x l, bit-or (p x) (q x), or-in p q l)
+
+none-in : (l : List ℕ) → countIn (λ j. false) l ≡ 0
+none-in [] = count-nil (λ j. false)
+none-in (x ∷ l) = omega (arith, count-cons (λ j. false) x l, none-in l)
+
+-- one voxel
+at-from : (x k n : ℕ) → (countIn (λ j. eqb j x) (from k n) ≤ 1) × (x < k → countIn (λ j. eqb j x) (from k n) ≡ 0)
+unfolding from
+at-from x k zero = (omega (arith, count-nil (λ j. eqb j x)), λ h. count-nil (λ j. eqb j x))
+at-from x k (suc n) = go (ℕ-discrete k x) (at-from x (suc k) n)
+  where
+    go : Dec (k ≡ x) → (countIn (λ j. eqb j x) (from (suc k) n) ≤ 1) × (x < suc k → countIn (λ j. eqb j x) (from (suc k) n) ≡ 0)
+        → (countIn (λ j. eqb j x) (k ∷ from (suc k) n) ≤ 1) × (x < k → countIn (λ j. eqb j x) (k ∷ from (suc k) n) ≡ 0)
+    go (yes e) ih =
+        let z : countIn (λ j. eqb j x) (from (suc k) n) ≡ 0 = ih .1 (omega arith) in
+        (omega (arith, count-cons (λ j. eqb j x) k (from (suc k) n), ap (λ (t : Bool). bit t) (eq-eqb k x e)), λ h. let f : ⊥ = omega arith in absurd f)
+    go (no f) ih =
+        let z : bit (eqb k x) ≡ 0 = ap (λ (t : Bool). bit t) (ne-eqb k x f) in
+        (omega (arith, count-cons (λ j. eqb j x) k (from (suc k) n), ih .0), λ h. omega (arith, count-cons (λ j. eqb j x) k (from (suc k) n), ih .1 (omega arith)))
+
+omit-in : (p : ℕ → Bool) (i : ℕ) (l : List ℕ) → Mem i l → p i ≡ true → suc (countIn (omit p i) l) ≤ countIn p l
+omit-in p i (x ∷ l) here e =
+    omega (
+      arith,
+      count-cons (omit p i) i l,
+      count-cons p i l,
+      ap (λ (t : Bool). bit t) (omit-self p i),
+      ap (λ (t : Bool). bit t) e,
+      mono-in (omit p i) p l (λ j h. omit-true p i j h .0),
+    )
+omit-in p i (x ∷ l) (there m) e =
+    omega (arith, count-cons (omit p i) x l, count-cons p x l, bit-mono (omit p i x) (p x) (λ h. omit-true p i x h .0), omit-in p i l m e)
+
+-- ---- over the grid
+
+module _ (s : Sides) where
+  pub found-mono : (p q : ℕ → Bool) → ((j : ℕ) → p j ≡ true → q j ≡ true) → found s p ≤ found s q
+  unfolding countIn
+  found-mono p q h = mono-in p q (voxels s) h
+
+  pub found-or : (p q : ℕ → Bool) → found s (λ j. p j || q j) ≤ found s p + found s q
+  unfolding countIn
+  found-or p q = or-in p q (voxels s)
+
+  pub found-omit : (p : ℕ → Bool) (i : ℕ) → i < size s → p i ≡ true → suc (found s (omit p i)) ≤ found s p
+  unfolding countIn voxels
+  found-omit p i h e = omit-in p i (voxels s) (mem-from 0 (size s) i (omega arith) (omega arith)) e
+
+  -- at most as many as a list has
+  pub found-list : (xs : List ℕ) → found s (λ j. any (eqb j) xs) ≤ length xs
+  unfolding any countIn voxels
+  found-list [] = omega (arith, none-in (voxels s))
+  found-list (x ∷ xs) = omega (arith, or-in (λ j. eqb j x) (λ j. any (eqb j) xs) (voxels s), at-from x 0 (size s) .0, found-list xs)

@@ -1,0 +1,100 @@
+-- Document 01, "Grid and worked distances", begin: S, M, worked distances, box and status.
+use mathlib.Core.Bool.{Bool, true, false, not, cond, _&&_, _||_}
+use mathlib.Core.List.{List, [], _∷_, map}
+use Prim.Native.Nat.{ℕ, zero, suc, _+_, min, max}
+use lib.Dec.{leb, ltb, eqb}
+use lib.ListN.{length}
+use lib.IntN.{ℤ, pos}
+use Rattle.cells.specs.Groups.{any, those, groups}
+use Rattle.rules.specs.declared.Sides.{Sides}
+use Rattle.rules.specs.declared.Record.{Record}
+use Rattle.rules.specs.Grid.{fitSides, size, voxel, voxels, onBorder, touch, steps, shareFace, block, facePlaces, measuredNegative, measuredNonNegative, amount, valueAt}
+use Rattle.rules.specs.Answer.{done, Outcome, outcome, Check, _when_, unless, untouched}
+
+unfoldable pub least : ℕ → List ℕ → ℕ
+least start [] = start
+least start (x ∷ xs) = min x (least start xs)
+
+unfoldable pub greatest : ℕ → List ℕ → ℕ
+greatest start [] = start
+greatest start (x ∷ xs) = max x (greatest start xs)
+
+unfoldable pub isIn : List ℕ → ℕ → Bool
+isIn l i = any (eqb i) l
+
+-- ---- step 1: S is the largest group of measured negative voxels; of equal groups the one with the smallest index
+
+unfoldable pub negatives : Sides → List ℤ → List ℕ
+negatives s values = those (λ i. measuredNegative (valueAt values i)) (voxels s)
+
+-- g goes before h
+unfoldable pub larger : Sides → List ℕ → List ℕ → Bool
+larger s g h = ltb (length h) (length g) || (eqb (length g) (length h) && ltb (least (size s) g) (least (size s) h))
+
+unfoldable pub largest : Sides → List (List ℕ) → List ℕ
+largest s [] = []
+largest s (g ∷ gs) = let h = largest s gs in cond (larger s h g) h g
+
+unfoldable pub inside : Sides → List ℤ → List ℕ
+inside s values = largest s (groups (touch s) (negatives s values))
+
+-- ---- steps 2 and 3: M, and the worked distance of a voxel
+
+unfoldable pub facing : Sides → List ℕ → ℕ → Bool
+facing s S i = any (shareFace s i) S
+
+unfoldable pub greatestFacing : Sides → List ℤ → List ℕ → ℕ
+greatestFacing s values S =
+    greatest 1 (map (λ i. amount (valueAt values i)) (those (λ i. measuredNonNegative (valueAt values i) && facing s S i) (voxels s)))
+
+-- d: no two voxels of the grid are as many steps apart as the sides' sum
+unfoldable pub distance : Sides → List ℕ → ℕ → ℕ
+distance s S i = least (s .a + s .b + s .c) (map (steps s i) S)
+
+unfoldable pub workedAt : Sides → List ℤ → List ℕ → ℕ → ℕ → ℤ
+workedAt s values S M i =
+    cond (isIn S i || (measuredNonNegative (valueAt values i) && facing s S i)) (valueAt values i)
+    (pos (cond (facing s S i) M (M + distance s S i)))
+
+unfoldable pub worked : Sides → List ℤ → List ℕ → List ℤ
+worked s values S = let M = greatestFacing s values S in map (workedAt s values S M) (voxels s)
+
+-- ---- step 4: the smallest box that holds S, and what is pending
+
+abbrev pub between : ℕ → List ℕ → ℕ → Bool
+between side ps p = leb (least side ps) p && leb p (greatest 0 ps)
+
+unfoldable pub inBox : Sides → List ℕ → ℕ → Bool
+inBox s S i =
+    between (s .a) (map (λ j. voxel s j .x) S) (voxel s i .x)
+    && (between (s .b) (map (λ j. voxel s j .y) S) (voxel s i .y) && between (s .c) (map (λ j. voxel s j .z) S) (voxel s i .z))
+
+-- a face neighbour is not kept
+unfoldable pub exposed : Sides → (ℕ → Bool) → ℕ → Bool
+exposed s kept i = any (λ p. not (block s kept i p)) facePlaces
+
+-- 0 gone, 1 kept, 3 kept and pending
+unfoldable pub statusAt : Sides → List ℕ → ℕ → ℕ
+statusAt s S i = cond (inBox s S i) (cond (not (isIn S i) && exposed s (inBox s S) i) 3 1) 0
+
+unfoldable pub boxStatus : Sides → List ℕ → List ℕ
+boxStatus s S = map (statusAt s S) (voxels s)
+
+-- ---- the call
+
+abbrev pub newRecord : Sides → ℕ → Record
+newRecord s T = record { sides = s; allowed = T; openings = 0; removals = 0; examinations = 0; euler = pos 1; finished = false }
+
+unfoldable pub beginChecks : Sides → List ℤ → List ℤ → List ℕ → List Check
+beginChecks s values dist status =
+    1 when not (fitSides s)
+    ∷ 2 when not (eqb (length values) (size s) && (eqb (length dist) (size s) && eqb (length status) (size s)))
+    ∷ 3 when any (λ i. onBorder s i && measuredNegative (valueAt values i)) (voxels s)
+    ∷ 4 when not (any (λ i. measuredNegative (valueAt values i)) (voxels s))
+    ∷ []
+
+unfoldable pub begun : Sides → ℕ → List ℤ → Outcome Record
+begun s T values = let S = inside s values in outcome (done (newRecord s T)) (worked s values S) (boxStatus s S)
+
+unfoldable pub begin : Sides → ℕ → List ℤ → List ℤ → List ℕ → Outcome Record
+begin s T values dist status = unless (beginChecks s values dist status) (untouched dist status) (begun s T values)

@@ -1,0 +1,116 @@
+-- Document 01, "Grid and worked distances": sides, voxels, and what a value means.
+use mathlib.Core.Bool.{Bool, true, false, not, _&&_, _||_}
+use mathlib.Core.List.{List, [], _∷_}
+use Prim.Native.Nat.{ℕ, zero, suc, _+_, _-_, _*_, _/_, _%_}
+use lib.Dec.{leb, ltb, eqb}
+use lib.ListN.{getD}
+use lib.IntN.{ℤ, pos, negsuc}
+pub use Rattle.cells.specs.Cells.{facePlaces}
+use Rattle.rules.specs.declared.Sides.{Sides}
+
+-- ---- sides and voxels
+
+abbrev pub fitSide : ℕ → Bool
+fitSide n = leb 3 n && leb n 64
+
+unfoldable pub fitSides : Sides → Bool
+fitSides s = fitSide (s .a) && (fitSide (s .b) && fitSide (s .c))
+
+-- n
+unfoldable pub size : Sides → ℕ
+size s = s .a * s .b * s .c
+
+pub record Voxel : Type 0 where
+  pub x : ℕ
+  pub y : ℕ
+  pub z : ℕ
+
+unfoldable pub index : Sides → Voxel → ℕ
+index s v = v .x + s .a * (v .y + s .b * v .z)
+
+unfoldable pub voxel : Sides → ℕ → Voxel
+voxel s i = record { x = i % s .a; y = i / s .a % s .b; z = i / (s .a * s .b) }
+
+-- k, k + 1, .., n of them
+unfoldable pub from : ℕ → ℕ → List ℕ
+from k zero = []
+from k (suc n) = k ∷ from (suc k) n
+
+-- every voxel, by its index
+unfoldable pub voxels : Sides → List ℕ
+voxels s = from 0 (size s)
+
+-- at 0 or at the side less 1
+abbrev pub end : ℕ → ℕ → Bool
+end side x = eqb x 0 || eqb (suc x) side
+
+unfoldable pub onBorder : Sides → ℕ → Bool
+onBorder s i = end (s .a) (voxel s i .x) || (end (s .b) (voxel s i .y) || end (s .c) (voxel s i .z))
+
+-- ---- neighbours
+
+unfoldable pub gap : ℕ → ℕ → ℕ
+gap p q = (p - q) + (q - p)
+
+-- touch: no coordinate differs by more than 1
+unfoldable pub near : Voxel → Voxel → Bool
+near u v = leb (gap (u .x) (v .x)) 1 && (leb (gap (u .y) (v .y)) 1 && leb (gap (u .z) (v .z)) 1)
+
+unfoldable pub touch : Sides → ℕ → ℕ → Bool
+touch s i j = near (voxel s i) (voxel s j)
+
+-- |dx| + |dy| + |dz|
+unfoldable pub apart : Voxel → Voxel → ℕ
+apart u v = gap (u .x) (v .x) + gap (u .y) (v .y) + gap (u .z) (v .z)
+
+unfoldable pub steps : Sides → ℕ → ℕ → ℕ
+steps s i j = apart (voxel s i) (voxel s j)
+
+unfoldable pub shareFace : Sides → ℕ → ℕ → Bool
+shareFace s i j = eqb (steps s i j) 1
+
+-- A digit 0, 1, 2 of a place of the block is one lower, the same, one higher. So x + digit counts coordinates from 1, and is 0, or more
+-- than the side, beyond the grid.
+abbrev pub reaches : ℕ → ℕ → ℕ → Bool
+reaches side x digit = leb 1 (x + digit) && leb (x + digit) side
+
+abbrev pub neighbour : Voxel → ℕ → Voxel
+neighbour v p = record { x = v .x + p % 3 - 1; y = v .y + p / 3 % 3 - 1; z = v .z + p / 9 - 1 }
+
+-- the block around a voxel, of what a test on indices finds: beyond the grid it finds nothing
+unfoldable pub blockOf : Sides → (ℕ → Bool) → Voxel → ℕ → Bool
+blockOf s found v p =
+    reaches (s .a) (v .x) (p % 3) && (reaches (s .b) (v .y) (p / 3 % 3) && (reaches (s .c) (v .z) (p / 9) && found (index s (neighbour v p))))
+
+unfoldable pub block : Sides → (ℕ → Bool) → ℕ → ℕ → Bool
+block s found i p = blockOf s found (voxel s i) p
+
+-- ---- values
+
+-- -32,768
+abbrev pub missing : ℤ
+missing = negsuc 32767
+
+unfoldable pub measuredNegative : ℤ → Bool
+measuredNegative (pos v) = false
+measuredNegative (negsuc v) = not (eqb v 32767)
+
+unfoldable pub measuredNonNegative : ℤ → Bool
+measuredNonNegative (pos v) = true
+measuredNonNegative (negsuc v) = false
+
+-- a value of 0 or more as a number
+abbrev pub amount : ℤ → ℕ
+amount (pos v) = v
+amount (negsuc v) = 0
+
+abbrev pub isNegative : ℤ → Bool
+isNegative (pos v) = false
+isNegative (negsuc v) = true
+
+-- what the value buffer, and the distance buffer, hold at an index
+abbrev pub valueAt : List ℤ → ℕ → ℤ
+valueAt values i = getD values i missing
+
+abbrev pub distanceAt : List ℤ → ℕ → ℤ
+distanceAt dist i = getD dist i (pos 0)

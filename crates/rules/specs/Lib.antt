@@ -1,0 +1,11 @@
+pub mod Grid
+pub mod Answer
+pub mod Begin
+pub mod Meaning
+pub mod Machine
+pub mod Choice
+pub mod Body
+pub mod Demand
+pub mod Surface
+pub mod File
+pub mod Cases
