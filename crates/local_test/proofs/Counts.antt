@@ -1,0 +1,114 @@
+-- The test of a block from the bits of its touched cells: kinds by masked counts of ones, groups by the rank. Assumes nothing.
+use mathlib.Core.Path.{_≡_, refl, sym, ap, _∙_, subst₂}
+use mathlib.Core.Bool.{Bool, true, false, _&&_}
+use mathlib.Core.List.{List, [], _∷_, _++_}
+use Prim.Native.Nat.{ℕ, _+_, _≤_, _<_}
+use native.Mathlib.Nat.{lt-of-le-of-lt}
+use lib.Dec.{eqb, lit<}
+use lib.Bits.{bitAnd, and-le-l}
+use lib.Count.{ones, ones-le}
+use lib.ListN.{length}
+use Rattle.cells.specs.Groups.{any, consIf, those}
+use Rattle.cells.specs.Cells.{contains, places, touched, dimension, countOf, testOf, test}
+use Rattle.cells.specs.Rank.{rankBy, rank}
+use Rattle.cells.proofs.Lists.{those-append}
+use Rattle.cells.proofs.EveryBlock.{place-lt, touched-ext, euler, k-by-rank}
+use Rattle.local_test.specs.Bits.{has, bits}
+use Rattle.local_test.proofs.Bits.{bits-lt, has-bits, bits-and, upFrom, ones-bits}
+
+-- ---- the test goes by the bits of the kept voxels
+
+touched-bits : (kept : ℕ → Bool) → touched (has (bits 27 kept)) ≡ touched kept
+touched-bits kept = touched-ext (has (bits 27 kept)) kept (λ v m. has-bits 27 kept v (place-lt v m))
+
+pub touched-of-bits : (kept : ℕ → Bool) {x t : ℕ} → x ≡ bits 27 kept → t ≡ bits 27 (touched (has x)) → t ≡ bits 27 (touched kept)
+touched-of-bits kept p q = q ∙ ap (λ (x : ℕ). bits 27 (touched (has x))) p ∙ ap (bits 27) (touched-bits kept)
+
+-- ---- counts of ones
+
+pub touched-middle : (kept : ℕ → Bool) → touched kept 13 ≡ false
+unfolding touched any contains
+touched-middle kept = refl
+
+-- the middle is no cell
+pub ones-places : (p : ℕ → Bool) → p 13 ≡ false → ones (bits 27 p) ≡ length (those p places)
+unfolding those
+ones-places p e =
+    ones-bits 27 p
+    ∙ ap length
+    (those-append p (upFrom 0 13) (13 ∷ upFrom 14 13)
+    ∙ ap (λ (b : Bool). those p (upFrom 0 13) ++ consIf b 13 (those p (upFrom 14 13))) e
+    ∙ sym (those-append p (upFrom 0 13) (upFrom 14 13)))
+
+-- a cell of dimension d
+abbrev pub isOf : ℕ → ℕ → Bool
+isOf d c = eqb (dimension c) d
+
+pub those-both : (s q : ℕ → Bool) (cs : List ℕ) → those (λ c. s c && q c) cs ≡ those q (those s cs)
+unfolding those
+those-both s q [] = refl
+those-both s q (c ∷ cs) = ap (consIf (s c && q c) c) (those-both s q cs) ∙ split (s c)
+  where
+    split : (b : Bool) → consIf (b && q c) c (those q (those s cs)) ≡ those q (consIf b c (those s cs))
+    split true = refl
+    split false = refl
+
+countOf-ones : (d : ℕ) (s : ℕ → Bool) {mask : ℕ} → mask ≡ bits 27 (isOf d) → s 13 ≡ false
+    → ones (bitAnd (bits 27 s) mask) ≡ countOf d (those s places)
+unfolding countOf
+countOf-ones d s e m =
+    ap (λ (x : ℕ). ones (bitAnd (bits 27 s) x)) e
+    ∙ ap ones (bits-and 27 s (isOf d))
+    ∙ ones-places (λ c. s c && isOf d c) (ap (λ (b : Bool). b && isOf d 13) m)
+    ∙ ap length (those-both s (isOf d) places)
+
+pub corner-mask : 0o505000505 ≡ bits 27 (isOf 0)
+unfolding bits dimension
+corner-mask = refl
+
+pub edge-mask : 0o252505252 ≡ bits 27 (isOf 1)
+unfolding bits dimension
+edge-mask = refl
+
+pub face-mask : 0o020252020 ≡ bits 27 (isOf 2)
+unfolding bits dimension
+face-mask = refl
+
+-- ---- the test
+
+pub record Counted (kept : ℕ → Bool) (t r : ℕ) : Type 0 where
+  pub corners : ones (bitAnd t 0o505000505) ≡ test kept .corners
+  pub edges : ones (bitAnd t 0o252505252) ≡ test kept .edges
+  pub faces : ones (bitAnd t 0o020252020) ≡ test kept .faces
+  pub groups : test kept .k + r ≡ test kept .corners
+  pub law : test kept .m + test kept .corners + test kept .faces ≡ test kept .k + 1 + test kept .edges
+  pub few-corners : ones (bitAnd t 0o505000505) ≤ 27
+  pub few-edges : ones (bitAnd t 0o252505252) ≤ 27
+
+few : (s : ℕ → Bool) (mask : ℕ) → ones (bitAnd (bits 27 s) mask) ≤ 27
+few s mask = ones-le 27 (bitAnd (bits 27 s) mask) (lt-of-le-of-lt (and-le-l (bits 27 s) mask) (bits-lt 27 s))
+
+rank-ext : (s s′ : ℕ → Bool) → ((c : ℕ) → c < 27 → s c ≡ s′ c) → rank s ≡ rank s′
+unfolding rank
+rank-ext s s′ h = λ i.
+    rankBy (h 1 (lit< tt) i) (h 3 (lit< tt) i) (h 9 (lit< tt) i) (h 7 (lit< tt) i) (h 5 (lit< tt) i) (h 17 (lit< tt) i)
+    (h 19 (lit< tt) i) (h 23 (lit< tt) i) (h 11 (lit< tt) i) (h 25 (lit< tt) i) (h 21 (lit< tt) i) (h 15 (lit< tt) i)
+
+at-bits : (kept : ℕ → Bool) → Counted kept (bits 27 (touched kept)) (rank (touched kept))
+unfolding test testOf
+at-bits kept =
+    record {
+      corners = countOf-ones 0 (touched kept) corner-mask (touched-middle kept);
+      edges = countOf-ones 1 (touched kept) edge-mask (touched-middle kept);
+      faces = countOf-ones 2 (touched kept) face-mask (touched-middle kept);
+      groups = k-by-rank kept;
+      law = euler kept;
+      few-corners = few (touched kept) 0o505000505;
+      few-edges = few (touched kept) 0o252505252;
+    }
+
+pub counted : (kept : ℕ → Bool) (t r : ℕ) → t ≡ bits 27 (touched kept) → r ≡ rank (has t) → Counted kept t r
+counted kept t r p q =
+    let e : r ≡ rank (touched kept) =
+    q ∙ ap (λ (t : ℕ). rank (has t)) p ∙ rank-ext (has (bits 27 (touched kept))) (touched kept) (has-bits 27 (touched kept)) in
+    subst₂ (λ (t r : ℕ). Counted kept t r) (sym p) (sym e) (at-bits kept)

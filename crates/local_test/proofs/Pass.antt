@@ -1,0 +1,132 @@
+-- The pass by two counts of ones: where the touched cells differ from the edges, and the touched corners. Assumes nothing.
+use mathlib.Core.Path.{_≡_, refl, sym, ap, _∙_}
+use mathlib.Core.Bool.{Bool, true, false, not, _&&_, _||_, true≢false}
+use mathlib.Core.List.{List, [], _∷_}
+use Prim.Native.Nat.{ℕ, _+_}
+use native.Mathlib.Omega.{arith}
+use lib.Dec.{eqb}
+use lib.Bits.{bitAnd, bitXor}
+use lib.Count.{ones}
+use lib.ListN.{length}
+use borrow.Author.Tests.{eqb-true, eq-eqb}
+use Rattle.cells.specs.Groups.{any, those}
+use Rattle.cells.specs.Cells.{bit, places, touched, dimension, countOf, testOf, test, passes}
+use Rattle.cells.proofs.Bools.{and-true, true-and, both-ways}
+use Rattle.cells.proofs.Lists.{Mem, here, there}
+use Rattle.cells.proofs.EveryBlock.{all-in}
+use Rattle.local_test.specs.Bits.{bits}
+use Rattle.local_test.proofs.Bits.{bits-xor, unlike, length-consIf}
+use Rattle.local_test.proofs.Counts.{touched-middle, ones-places, isOf, those-both, edge-mask, Counted}
+
+-- ---- a sum over cells, from the sum at each
+
+abbrev Balanced : (p q a b e : Bool) → Type 0
+Balanced p q a b e = bit p + bit q ≡ bit a + bit b + bit e
+
+size : (ℕ → Bool) → List ℕ → ℕ
+size p cs = length (those p cs)
+
+balance : (p q a b e : ℕ → Bool) (cs : List ℕ) → ((c : ℕ) → Mem c cs → Balanced (p c) (q c) (a c) (b c) (e c))
+    → size p cs + size q cs ≡ size a cs + size b cs + size e cs
+unfolding size those
+balance p q a b e [] h = refl
+balance p q a b e (c ∷ cs) h =
+    let i = balance p q a b e cs (λ d m. h d (there m)) in
+    let z = h c here in
+    omega (
+      arith,
+      length-consIf (p c) c (those p cs),
+      length-consIf (q c) c (those q cs),
+      length-consIf (a c) c (those a cs),
+      length-consIf (b c) c (those b cs),
+      length-consIf (e c) c (those e cs),
+    )
+
+-- ---- a cell is a corner, an edge or a face
+
+data Kind : Bool → Bool → Bool → Type 0 where
+  corner : Kind true false false
+  edge : Kind false true false
+  face : Kind false false true
+
+-- just one of three
+abbrev one : Bool → Bool → Bool → Bool
+one true q r = not (q || r)
+one false true r = not r
+one false false r = r
+
+kind : (v e f : Bool) → one v e f ≡ true → Kind v e f
+kind true true f h = absurd (true≢false (sym h))
+kind true false true h = absurd (true≢false (sym h))
+kind true false false h = corner
+kind false true true h = absurd (true≢false (sym h))
+kind false true false h = edge
+kind false false true h = face
+kind false false false h = absurd (true≢false (sym h))
+
+at-cell : (x : Bool) {v e f : Bool} → Kind v e f → Balanced (unlike x e) (x && e) (x && v) (x && f) e
+at-cell true corner = refl
+at-cell true edge = refl
+at-cell true face = refl
+at-cell false corner = refl
+at-cell false edge = refl
+at-cell false face = refl
+
+kind-of : (c : ℕ) → Mem c places → Kind (isOf 0 c) (isOf 1 c) (isOf 2 c)
+unfolding any dimension
+kind-of c m = kind (isOf 0 c) (isOf 1 c) (isOf 2 c) (all-in (λ c. one (isOf 0 c) (isOf 1 c) (isOf 2 c)) places refl c m)
+
+twelve-edges : size (isOf 1) places ≡ 12
+unfolding size those dimension
+twelve-edges = refl
+
+size-both : (s : ℕ → Bool) (d : ℕ) → size (λ c. s c && isOf d c) places ≡ countOf d (those s places)
+unfolding size countOf
+size-both s d = ap length (those-both s (isOf d) places)
+
+ones-unlike : (s : ℕ → Bool) → s 13 ≡ false → ones (bitXor (bits 27 s) 0o252505252) ≡ size (λ c. unlike (s c) (isOf 1 c)) places
+unfolding size dimension
+ones-unlike s e =
+    ap (λ (x : ℕ). ones (bitXor (bits 27 s) x)) edge-mask
+    ∙ ap ones (bits-xor 27 s (isOf 1))
+    ∙ ones-places (λ c. unlike (s c) (isOf 1 c)) (ap (λ (b : Bool). unlike b (isOf 1 13)) e)
+
+-- there are 12 edges, so the touched ones count against the corners and the faces
+unlike-edges : (kept : ℕ → Bool) → ones (bitXor (bits 27 (touched kept)) 0o252505252) + test kept .edges ≡ test kept .corners + test kept .faces + 12
+unfolding test testOf
+unlike-edges kept =
+    let s = touched kept in
+    omega (
+      arith,
+      ones-unlike s (touched-middle kept),
+      balance (λ c. unlike (s c) (isOf 1 c)) (λ c. s c && isOf 1 c) (λ c. s c && isOf 0 c) (λ c. s c && isOf 2 c) (isOf 1) places (λ c m. at-cell (s c) (kind-of c m)),
+      size-both s 0,
+      size-both s 1,
+      size-both s 2,
+      twelve-edges,
+    )
+
+-- ---- the pass
+
+two-counts : (x v e f r k m : ℕ) → k + r ≡ v → m + v + f ≡ k + 1 + e → x + e ≡ v + f + 12 → (eqb x 13 && eqb v (r + 1)) ≡ (eqb k 1 && eqb m 1)
+two-counts x v e f r k m p q s =
+    both-ways (eqb x 13 && eqb v (r + 1)) (eqb k 1 && eqb m 1)
+    (λ h.
+    let g = and-true (eqb x 13) (eqb v (r + 1)) h in
+    let a : x ≡ 13 = eqb-true x 13 (g .0) in
+    let b : v ≡ r + 1 = eqb-true v (r + 1) (g .1) in
+    true-and (eqb k 1) (eqb m 1) (eq-eqb k 1 (omega arith)) (eq-eqb m 1 (omega arith)))
+    (λ h.
+    let g = and-true (eqb k 1) (eqb m 1) h in
+    let a : k ≡ 1 = eqb-true k 1 (g .0) in
+    let b : m ≡ 1 = eqb-true m 1 (g .1) in
+    true-and (eqb x 13) (eqb v (r + 1)) (eq-eqb x 13 (omega arith)) (eq-eqb v (r + 1) (omega arith)))
+
+pub pass-by-counts : (kept : ℕ → Bool) (t r : ℕ) → t ≡ bits 27 (touched kept) → Counted kept t r
+    → (eqb (ones (bitXor t 0o252505252)) 13 && eqb (ones (bitAnd t 0o505000505)) (r + 1)) ≡ passes (test kept)
+unfolding passes
+pass-by-counts kept t r p f =
+    let x : ones (bitXor t 0o252505252) + test kept .edges ≡ test kept .corners + test kept .faces + 12 =
+    ap (λ (t : ℕ). ones (bitXor t 0o252505252) + test kept .edges) p ∙ unlike-edges kept in
+    two-counts (ones (bitXor t 0o252505252)) (ones (bitAnd t 0o505000505)) (test kept .edges) (test kept .faces) r (test kept .k) (test kept .m)
+    (omega (arith, f .groups, f .corners)) (omega (arith, f .law, f .corners)) (omega (arith, x, f .corners))

@@ -1,0 +1,11 @@
+-- `local_test::low` meets its contract. Assumes nothing.
+use lib.Bits.{and-le-r}
+use Rattle.local_test.proofs.Bits.{low}
+use Rattle.local_test.proofs.low.Statement.{statement}
+use Rattle.local_test.proofs.low.Tie as tie
+
+returns : tie.Need-returns
+returns c = (low (c .args .x), and-le-r (c .args .x) 1)
+
+pub low-spec : {M : Type 1} → statement M
+low-spec = tie.close (tie.spec returns)

@@ -1,0 +1,126 @@
+// The 26-neighbour test of document 01. The touched cells are the bits of one number, at x + 3 y + 9 z with the middle left out; masked
+// counts of ones give their kinds, and the rank of the touched edges gives their groups.
+ghost use mathlib.Core.Path.{_≡_};
+ghost use mathlib.Core.List.{[], _∷_};
+ghost use Prim.Native.Nat.{_+_, _≤_};
+ghost use lib.ListN.{getD};
+ghost use Rattle.cells.specs.Cells.{bit, touched, test, passes};
+ghost use Rattle.cells.specs.Rank.{rank, rankOf3, rankOf4};
+ghost use Rattle.local_test.specs.Bits.{has, bits};
+ghost use Rattle.local_test.specs.Block.{keptIn, keptInLayer, asTest};
+
+// The groups of touched cells and of bare ones, and the kinds of the touched cells.
+pub struct Local {
+    pub k: u32,
+    pub m: u32,
+    pub corners: u32,
+    pub edges: u32,
+    pub faces: u32,
+}
+
+fn wide(x: u8) -> u32
+    ensures { λ r. ⌜ r ≡ x ⌝ }
+{
+    x as u32
+}
+
+// Three voxels as a row. A voxel's status is 0 where it is gone, 1 or 3 where it is kept: bit 0 says which.
+pub fn row(a: u8, b: u8, c: u8) -> u8
+    ensures { λ r. ⌜ r ≡ bits 3 (λ x. has (getD (a ∷ b ∷ c ∷ []) x 0) 0) ⌝ }
+{
+    a & 1 | (b & 1) << 1 | (c & 1) << 2
+}
+
+// The kept voxels of a layer: its rows side by side.
+fn layer_bits(layer: [u8; 3]) -> u32
+    ensures { λ r. ⌜ r ≡ bits 9 (keptInLayer layer) ⌝ }
+{
+    wide(layer[0]) & 7 | (wide(layer[1]) & 7) << 3 | (wide(layer[2]) & 7) << 6
+}
+
+// The kept voxels of a block: its layers side by side.
+fn block_bits(block: [[u8; 3]; 3]) -> u32
+    ensures { λ r. ⌜ r ≡ bits 27 (keptIn block) ⌝ }
+{
+    layer_bits(block[0]) | layer_bits(block[1]) << 9 | layer_bits(block[2]) << 18
+}
+
+// The touched cells, from the kept voxels. A neighbour contains what it spans: along each axis in turn the middle is copied to both ends.
+fn touched_bits(kept: u32) -> u32
+    ensures { λ r. ⌜ r ≡ bits 27 (touched (has kept)) ⌝ }
+{
+    let k = kept & 0o777757777;
+    let kx = k & 0o222222222;
+    let u = k | kx << 1 | kx >> 1;
+    let uy = u & 0o070070070;
+    let v = u | uy << 3 | uy >> 3;
+    let vz = v & 0o000777000;
+    v | vz << 9 | vz >> 9
+}
+
+// The low bit.
+fn low(x: u32) -> u32
+    ensures { λ r. ⌜ (r ≡ bit (has x 0)) × (r ≤ 1) ⌝ }
+{
+    x & 1
+}
+
+// The rank of three corners, joined two by two where a low bit is set.
+fn rank_of_3(ab: u32, ac: u32, bc: u32) -> u32
+    ensures { λ r. ⌜ (r ≡ rankOf3 (has ab 0) (has ac 0) (has bc 0)) × (r ≤ 2) ⌝ }
+{
+    low(ab | ac) + low(bc | ab & ac)
+}
+
+// The rank of four corners: those that the last is joined to are joined through it.
+fn rank_of_4(ab: u32, ac: u32, bc: u32, ad: u32, bd: u32, cd: u32) -> u32
+    ensures { λ r. ⌜ (r ≡ rankOf4 (has ab 0) (has ac 0) (has bc 0) (has ad 0) (has bd 0) (has cd 0)) × (r ≤ 3) ⌝ }
+{
+    low(ad | bd | cd) + rank_of_3(ab | ad & bd, ac | ad & cd, bc | bd & cd)
+}
+
+// The rank of a set's edges: the even corners that have one, and the odd corners, joined through even ones. An edge stands at its place.
+fn rank(t: u32) -> u32
+    ensures { λ r. ⌜ r ≡ rank (has t) ⌝ }
+{
+    let at0 = low(t >> 1 | t >> 3 | t >> 9);
+    let at8 = low(t >> 7 | t >> 5 | t >> 17);
+    let at20 = low(t >> 19 | t >> 23 | t >> 11);
+    let at24 = low(t >> 25 | t >> 21 | t >> 15);
+    let odd = rank_of_4(
+        t >> 1 & t >> 3 | t >> 7 & t >> 5,
+        t >> 1 & t >> 9 | t >> 19 & t >> 11,
+        t >> 3 & t >> 9 | t >> 21 & t >> 15,
+        t >> 5 & t >> 17 | t >> 23 & t >> 11,
+        t >> 7 & t >> 17 | t >> 25 & t >> 15,
+        t >> 19 & t >> 23 | t >> 25 & t >> 21,
+    );
+    at0 + at8 + at20 + at24 + odd
+}
+
+// The test of a block.
+pub fn local_test(block: [[u8; 3]; 3]) -> Local
+    ensures { λ r. ⌜ asTest r ≡ test (keptIn block) ⌝ }
+{
+    let t = touched_bits(block_bits(block));
+    let r = rank(t);
+    let corners = u32::count_ones(t & 0o505000505);
+    let edges = u32::count_ones(t & 0o252505252);
+    let faces = u32::count_ones(t & 0o020252020);
+    Local {
+        k: corners - r,
+        m: edges + 1 - r - faces,
+        corners: corners,
+        edges: edges,
+        faces: faces,
+    }
+}
+
+// Whether the middle of a block may go: k = 1 and m = 1.
+pub fn passes(block: [[u8; 3]; 3]) -> bool
+    ensures { λ r. ⌜ r ≡ passes (test (keptIn block)) ⌝ }
+{
+    let t = touched_bits(block_bits(block));
+    let r = rank(t);
+    (u32::count_ones(t ^ 0o252505252) == 13) & (u32::count_ones(t & 0o505000505) == r + 1)
+}
