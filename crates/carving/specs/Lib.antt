@@ -1,0 +1,4 @@
+pub mod Steps
+pub mod Around
+pub mod Opening
+pub mod Carving
