@@ -1,0 +1,5 @@
+pub mod Axis
+pub mod Sizes
+pub mod Indices
+pub mod Between
+pub mod Checks

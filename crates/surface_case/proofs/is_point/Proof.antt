@@ -1,0 +1,32 @@
+-- `surface_case::is_point` meets its contract. Assumes nothing.
+use borrow.Author.Needs.{needs}
+use mathlib.Core.Path.{sym, ap}
+use Rattle.rules.specs.declared.Crossing.{Crossing}
+use Rattle.rules.specs.Answer.{crossingAnswer}
+use Rattle.surface_case.specs.Points.{isPoint}
+use Rattle.surface_case.proofs.is_point.Statement.{statement}
+use Rattle.surface_case.proofs.is_point.Tie as tie
+
+enum-known-c : tie.Need-enum-known-c
+enum-known-c c = search needs
+
+enum-told : tie.Need-enum-told
+enum-told c = search needs
+
+enum-told-2 : tie.Need-enum-told-2
+enum-told-2 c = search needs
+
+returns : tie.Need-returns
+returns c =
+    let k = c .before .before .before .before in
+    let a = k .before .before .args in
+    ap (λ (o : Crossing). isPoint (a .x) (a .y) (a .z) (crossingAnswer o)) (sym (k .c .given .1))
+
+returns-2 : tie.Need-returns-2
+returns-2 c = search needs
+
+returns-3 : tie.Need-returns-3
+returns-3 c = search needs
+
+pub is-point-spec : {M : Type 1} → statement M
+is-point-spec = tie.close (tie.spec enum-known-c enum-told enum-told-2 returns returns-2 returns-3)
