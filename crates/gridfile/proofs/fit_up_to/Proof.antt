@@ -1,0 +1,21 @@
+-- `gridfile::fit_up_to` meets its contract. Assumes nothing.
+use mathlib.Core.Path.{ap}
+use mathlib.Core.Bool.{Bool, _&&_}
+use lib.Dec.{leb}
+use Rattle.gridfile.specs.Checks.{fitUpTo}
+use borrow.Author.Needs.{needs}
+use Rattle.gridfile.proofs.fit_up_to.Statement.{statement}
+use Rattle.gridfile.proofs.fit_up_to.Tie as tie
+
+fit-sides-requires : tie.Need-fit-sides-requires
+fit-sides-requires c κs = search needs
+
+returns : tie.Need-returns
+unfolding fitUpTo
+returns c =
+    let s = c .before .before .before .before .args .sides in
+    let g = c .before .before .before .before .args .greatest in
+    ap (λ (t : Bool). t && (leb (s .a) g && (leb (s .b) g && leb (s .c) g))) (c .before .before .before .fit-sides .ensures)
+
+pub fit-up-to-spec : {M : Type 1} → statement M
+fit-up-to-spec = tie.close (tie.spec fit-sides-requires returns)
