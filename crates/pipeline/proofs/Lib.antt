@@ -1,0 +1,4 @@
+pub mod Lent
+pub mod Rounds
+pub mod Kept
+pub mod Ended
