@@ -1,0 +1,4 @@
+pub mod Replies
+pub mod Numbers
+pub mod Structs
+pub mod Rows

@@ -1,0 +1,305 @@
+/* Wattlerugby for C and C++: carve a solid box down to a scanned body, and tell whether the body is closed.
+ *
+ * Link with the archive that `rt staticlib capi` writes, target/staticlib/libcapi.a. It is for x86-64 Linux. It needs no other
+ * library, allocates nothing, and keeps nothing between calls. Carve uses 129 KB of stack; begin, take, open and finish under 1 KB
+ * (docs/PERFORMANCE.md).
+ *
+ * IN SHORT
+ *
+ *     wattlerugby_begin     values in, worked distances and status bytes out
+ *     wattlerugby_carve     examines pending voxels and removes those that may go
+ *     wattlerugby_take      removes one voxel of your choice, if it may go
+ *     wattlerugby_open      opens the body at the farthest voxel, where nothing may go any more
+ *     wattlerugby_finish    closes the list of calls: what is kept is the body
+ *     wattlerugby_crossing  a point of the body's surface between two voxels
+ *     wattlerugby_read, wattlerugby_read_layer   a grid file, whole or a layer at a time
+ *     wattlerugby_local_test   the test by which a voxel may go, on its own
+ *
+ * examples/carve_grid.c is a whole program.
+ *
+ * THE GRID
+ *
+ * Sides a, b, c are 3 to 64 each, and n = a * b * c. Voxel (x, y, z) has index x + a * (y + b * z).
+ *
+ * BUFFERS
+ *
+ * Every buffer is yours. A call is lent it for as long as the call runs, keeps no pointer to it, and returns none. A buffer is a pointer
+ * and a length, and a length counts elements, not bytes. The pointer is not null, is aligned for its element, and has as many elements
+ * behind it as the length says, also where a call is going to refuse the length. The buffers of one call do not overlap. Two threads may
+ * call at the same time on buffers of their own.
+ *
+ * A grid in work is three things that belong together: a record, a buffer of n worked distances, and a buffer of n status bytes. They
+ * stay with you between calls; lend the same two buffers, unchanged, with the record that the last call answered.
+ *
+ * ANSWERS
+ *
+ * Each answer is a struct, by value. Its first field, `refusal`, is 0 when the call did what it is for. Otherwise it is one of the
+ * numbers below, nothing was written to any buffer, and every other number in the answer is 0. `next` is the record for the next call
+ * on the same buffers: after a refusal that is the record you gave. So a caller that always goes on with `next` is always right.
+ *
+ * Checks are made in the order that stands with each call, and the first that fails gives the number. Any input at all gets an answer:
+ * there is no record, buffer content, index or file that a call may not be given. What you owe is C's own: pointers as above, and a
+ * `bool` that holds true or false.
+ */
+#ifndef WATTLERUGBY_H
+#define WATTLERUGBY_H
+
+#include <stdbool.h>
+#include <stddef.h>
+#include <stdint.h>
+
+#ifdef __cplusplus
+extern "C" {
+#endif
+
+/* ---- numbers */
+
+/* What `refusal` may be, besides 0. */
+enum {
+    WATTLERUGBY_DONE = 0,
+
+    /* the input */
+    WATTLERUGBY_SIDE = 1,              /* a side is outside 3 to 64 */
+    WATTLERUGBY_LENGTH = 2,            /* a lent buffer's length is not n */
+    WATTLERUGBY_BORDER_NEGATIVE = 3,   /* a border voxel is measured negative: the body reaches the edge of the grid */
+    WATTLERUGBY_NO_NEGATIVE = 4,       /* no voxel is measured negative: there is no body */
+    WATTLERUGBY_INDEX = 5,             /* the index is n or more */
+    WATTLERUGBY_AXIS = 6,              /* the axis is over 2, or the next voxel lies beyond the grid */
+
+    /* the state */
+    WATTLERUGBY_UNFIT = 7,             /* the record or a buffer cannot be what a call left; see wattlerugby_record */
+    WATTLERUGBY_FINISHED = 8,          /* finish was called already */
+    WATTLERUGBY_NOT_FINISHED = 9,      /* crossing needs a finished grid */
+    WATTLERUGBY_GONE_ALREADY = 10,     /* take: the voxel is not kept */
+    WATTLERUGBY_INSIDE = 11,           /* take: the voxel's worked distance is negative */
+    WATTLERUGBY_NOT_PASSED = 12,       /* take: the voxel does not pass the local test */
+    WATTLERUGBY_STILL_PENDING = 13,    /* open, finish: a voxel is pending; carve first */
+    WATTLERUGBY_NO_OPENING_LEFT = 14,  /* open: as many openings as were allowed have been made */
+    WATTLERUGBY_NOTHING_TO_OPEN = 15,  /* open: no kept voxel outside the body lies bare */
+
+    /* the grid file */
+    WATTLERUGBY_SHORT = 21,            /* fewer bytes are left than the header, or the layer record now due, is long */
+    WATTLERUGBY_MARK = 22,             /* wrong mark */
+    WATTLERUGBY_LAYER = 23,            /* a layer's z is c or more */
+    WATTLERUGBY_LAYER_TWICE = 24,      /* a layer's z came before */
+    WATTLERUGBY_BYTES_LEFT = 25        /* bytes after the last layer */
+};
+
+/* What a status byte holds. */
+enum {
+    WATTLERUGBY_GONE = 0,     /* not kept */
+    WATTLERUGBY_KEPT = 1,     /* kept */
+    WATTLERUGBY_PENDING = 3   /* kept, and to be examined */
+};
+
+/* A value that stands for a missing range point. Measured values are -32767 to 32767; negative is inside the body. */
+#define WATTLERUGBY_MISSING (-32768)
+
+/* A limit that no carve reaches. */
+#define WATTLERUGBY_NO_LIMIT UINT32_MAX
+
+/* ---- what crosses */
+
+/* The grid's sides, in voxels along x, y and z. */
+typedef struct wattlerugby_sides {
+    size_t a;
+    size_t b;
+    size_t c;
+} wattlerugby_sides;
+
+/* What begin makes, and every later call is given and answers anew. Read it freely; do not change it.
+ *
+ * A record is unfit, refusal 7, where openings > allowed, removals > n, examinations > 27 n, euler > 8 n or euler < -8 n; and with its
+ * buffers where a status is not 0, 1 or 3, a border voxel's status is not 0, or a voxel of negative worked distance has a status other
+ * than 1. A call may itself carry a count past its limit; only the next call then refuses. */
+typedef struct wattlerugby_record {
+    wattlerugby_sides sides;
+    uint16_t allowed;        /* T, how many openings are allowed */
+    uint32_t openings;       /* made so far */
+    uint64_t removals;       /* made so far, by carve, take and open */
+    uint64_t examinations;   /* made so far, by carve */
+    int32_t euler;           /* the Euler number of the kept voxels: 1 at first, and one less for each tunnel through the body */
+    bool finished;
+} wattlerugby_record;
+
+/* A place in the grid, in voxels: the centre of voxel (x, y, z) is the point (x, y, z). */
+typedef struct wattlerugby_point {
+    double x;
+    double y;
+    double z;
+} wattlerugby_point;
+
+/* ---- begin */
+
+typedef struct wattlerugby_begin_answer {
+    uint8_t refusal;
+    wattlerugby_record next;   /* after a refusal all zeros: every call given it refuses with 1 */
+} wattlerugby_begin_answer;
+
+/* Starts a grid from n measured values. Fills both other buffers, whatever they held.
+ *
+ * The inside is the largest group of measured negative voxels that touch; other negative voxels are discarded as noise. `dist` gets each
+ * voxel's worked distance, negative exactly inside. `status` gets the smallest box that holds the inside as kept, with those voxels
+ * pending from which carving starts, and all else as gone.
+ *
+ * `allowed` is how many openings you allow: 0 for a body without handles. Any number is taken.
+ *
+ * Checks: 1, 2 (any of the three buffers), 3, 4. */
+wattlerugby_begin_answer wattlerugby_begin(
+    wattlerugby_sides sides, uint16_t allowed,
+    const int16_t *values, size_t values_len,
+    int32_t *dist, size_t dist_len,
+    uint8_t *status, size_t status_len);
+
+/* ---- carve */
+
+typedef struct wattlerugby_carve_answer {
+    uint8_t refusal;
+    uint32_t examined;   /* voxels examined by this call */
+    uint32_t removed;    /* voxels removed by this call */
+    bool pending;        /* whether any voxel is still pending */
+    wattlerugby_record next;
+} wattlerugby_carve_answer;
+
+/* Examines pending voxels, `limit` of them at most: each time the one with the greatest worked distance, of equals the one with the
+ * smallest index. A voxel that passes the local test is gone, and the kept voxels around it that are not inside become pending. Writes
+ * status bytes alone. Call it with a small limit for work in slices: many small calls leave what one large call leaves.
+ *
+ * Checks: 1, 2, 7, 8. A limit of 0 examines nothing and is not refused. */
+wattlerugby_carve_answer wattlerugby_carve(
+    wattlerugby_record given,
+    const int32_t *dist, size_t dist_len,
+    uint8_t *status, size_t status_len,
+    uint32_t limit);
+
+/* ---- take */
+
+typedef struct wattlerugby_take_answer {
+    uint8_t refusal;
+    uint32_t k;   /* what the local test found: both are 1 where the voxel is gone */
+    uint32_t m;
+    wattlerugby_record next;
+} wattlerugby_take_answer;
+
+/* Removes the voxel of that index, pending or not, if it is kept, outside, and passes the local test. Counts a removal and no
+ * examination; the voxels around it become pending as in carve. Writes status bytes alone.
+ *
+ * Checks: 1, 2, 7, 8, 5, 10, 11, 12. */
+wattlerugby_take_answer wattlerugby_take(
+    wattlerugby_record given,
+    const int32_t *dist, size_t dist_len,
+    uint8_t *status, size_t status_len,
+    size_t index);
+
+/* ---- open */
+
+typedef struct wattlerugby_open_answer {
+    uint8_t refusal;
+    size_t index;   /* the voxel that was removed */
+    uint32_t k;     /* what the local test found there: k - m was added to the Euler number */
+    uint32_t m;
+    wattlerugby_record next;
+} wattlerugby_open_answer;
+
+/* Removes a voxel that does not pass, so that carving can go on: of the kept voxels outside that have a face neighbour which is not
+ * kept, the one with the greatest worked distance, of equals the one with the smallest index. Counts an opening and a removal; the
+ * voxels around it become pending. Writes status bytes alone.
+ *
+ * Checks: 1, 2, 7, 8, 13, 14, 15. */
+wattlerugby_open_answer wattlerugby_open(
+    wattlerugby_record given,
+    const int32_t *dist, size_t dist_len,
+    uint8_t *status, size_t status_len);
+
+/* ---- finish */
+
+typedef struct wattlerugby_finish_answer {
+    uint8_t refusal;
+    wattlerugby_record next;
+} wattlerugby_finish_answer;
+
+/* Makes every kept voxel part of the body: a worked distance w of 0 or more becomes -w, or -1 where w is 0. Writes distances alone.
+ * From then on only crossing is answered.
+ *
+ * Checks: 1, 2, 7, 8, 13. */
+wattlerugby_finish_answer wattlerugby_finish(
+    wattlerugby_record given,
+    int32_t *dist, size_t dist_len,
+    const uint8_t *status, size_t status_len);
+
+/* ---- crossing */
+
+typedef struct wattlerugby_crossing_answer {
+    uint8_t refusal;
+    bool crosses;              /* false: no surface between the two voxels, and the point is all zeros */
+    wattlerugby_point point;
+} wattlerugby_crossing_answer;
+
+/* Where the surface of a finished body crosses the line from the voxel of that index to the next along an axis (0, 1, 2 for x, y, z),
+ * the one whose coordinate there is one higher. It crosses where exactly one of the two worked distances is negative. The point lies
+ * p / (p + q) of the way from the negative voxel to the other, p and q being the sizes of their distances; that coordinate is within
+ * 2^-47 of the exact one, and the other two are whole. Writes nothing.
+ *
+ * Checks: 1, 2, 7, 9, 5, 6. */
+wattlerugby_crossing_answer wattlerugby_crossing(
+    wattlerugby_record given,
+    const int32_t *dist, size_t dist_len,
+    const uint8_t *status, size_t status_len,
+    size_t index, uint32_t axis);
+
+/* ---- the grid file
+ *
+ * Low byte first. A header of 7 bytes: hex 56 48, a, b, c in a byte each, T in two bytes. Then c layer records in any order, each of
+ * 3 + 2 a b bytes: hex 56 4C, z in a byte, and a * b values of 16 bits, in index order. */
+
+typedef struct wattlerugby_read_answer {
+    uint8_t refusal;
+    wattlerugby_sides sides;
+    uint16_t allowed;
+} wattlerugby_read_answer;
+
+/* Reads a whole file into n values, for begin. The header's bytes 2, 3 and 4 tell how many values to lend. Nothing is written where the
+ * file is refused.
+ *
+ * Checks: 21 (header), 22, 1, 2; for each layer record in turn 21, 22, 23, 24; at the end 25. */
+wattlerugby_read_answer wattlerugby_read(
+    const uint8_t *file, size_t file_len,
+    int16_t *values, size_t values_len);
+
+typedef struct wattlerugby_read_layer_answer {
+    uint8_t refusal;
+    uint8_t z;
+    size_t from;   /* the layer's values are the bytes file[from] up to, and without, file[to] */
+    size_t to;
+} wattlerugby_read_layer_answer;
+
+/* Finds the values of the layer record that begins at byte `start`, without copying: they stay where they are in your file. The first
+ * record begins at byte 7, and the next one where the one before it ends. `start` may be any number.
+ *
+ * Checks: 1, 21, 22, 23. */
+wattlerugby_read_layer_answer wattlerugby_read_layer(
+    wattlerugby_sides sides,
+    const uint8_t *file, size_t file_len,
+    size_t start);
+
+/* ---- the local test */
+
+typedef struct wattlerugby_local_answer {
+    uint32_t k;         /* groups of touched cells */
+    uint32_t m;         /* groups of bare cells */
+    uint32_t corners;   /* touched corners, edges and faces */
+    uint32_t edges;
+    uint32_t faces;
+} wattlerugby_local_answer;
+
+/* The test of a block of three by three by three voxels. Bit (dx + 1) + 3 (dy + 1) + 9 (dz + 1) of `kept` says whether the voxel at
+ * (dx, dy, dz) from the middle is kept; the middle's own, bit 13, and bits 27 to 31 are not regarded. The middle voxel's surface has 26
+ * cells: 8 corners, 12 edges, 6 faces. A cell is touched if a kept voxel other than the middle contains it, otherwise bare. The middle
+ * voxel may go, without changing how the body hangs together, exactly when k and m are both 1. Never refused. */
+wattlerugby_local_answer wattlerugby_local_test(uint32_t kept);
+
+#ifdef __cplusplus
+}
+#endif
+
+#endif

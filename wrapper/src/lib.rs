@@ -1,0 +1,224 @@
+//! Carve a solid box down to a scanned body, and tell whether the body is closed.
+//!
+//! Each function here is one call of the proved library, with slices for its lent buffers. A refusal is an error that carries its number,
+//! and has written nothing. Any input at all gets an answer. [`Grid`] keeps a record and its two buffers together.
+//!
+//! ```
+//! use wattlerugby::{Grid, Sides};
+//!
+//! let sides = Sides { a: 3, b: 3, c: 3 };
+//! let mut values = [5; 27];
+//! values[13] = -5;
+//! let mut grid = Grid::begin(sides, 0, &values)?;
+//! grid.carve(u32::MAX)?;
+//! grid.finish()?;
+//! let point = grid.crossing(13, 0)?.expect("the surface lies between voxels 13 and 14");
+//! assert_eq!((point.x, point.y, point.z), (1.5, 1.0, 1.0));
+//! # Ok::<(), wattlerugby::Refusal>(())
+//! ```
+
+mod grid;
+pub mod raw;
+mod refusal;
+
+pub use grid::Grid;
+pub use refusal::Refusal;
+
+/// The value of a missing range point. Measured values are -32,767 to 32,767; negative is inside the body.
+pub const MISSING: i16 = -32768;
+/// A status byte of a voxel that is not kept.
+pub const GONE: u8 = 0;
+/// A status byte of a voxel that is kept.
+pub const KEPT: u8 = 1;
+/// A status byte of a voxel that is kept and to be examined.
+pub const PENDING: u8 = 3;
+
+/// The grid's sides, 3 to 64 voxels each, along x, y and z. Voxel (x, y, z) has index x + a (y + b z).
+#[repr(C)]
+#[derive(Clone, Copy, Debug, Default, PartialEq, Eq)]
+pub struct Sides {
+    pub a: usize,
+    pub b: usize,
+    pub c: usize,
+}
+
+impl Sides {
+    /// n, the number of voxels; nothing where a side is outside 3 to 64.
+    pub fn voxels(&self) -> Option<usize> {
+        let fit = [self.a, self.b, self.c].iter().all(|side| (3..=64).contains(side));
+        fit.then(|| self.a * self.b * self.c)
+    }
+}
+
+/// What [`begin`] makes, and every later call is given and answers anew.
+///
+/// A record is unfit, number 7, where openings > allowed, removals > n, examinations > 27 n or |euler| > 8 n; and with its buffers where a
+/// status is not 0, 1 or 3, a border voxel's status is not 0, or a voxel of negative worked distance has a status other than 1.
+#[repr(C)]
+#[derive(Clone, Copy, Debug, Default, PartialEq, Eq)]
+pub struct Record {
+    pub sides: Sides,
+    /// T, how many openings are allowed.
+    pub allowed: u16,
+    pub openings: u32,
+    pub removals: u64,
+    pub examinations: u64,
+    /// The Euler number of the kept voxels.
+    pub euler: i32,
+    pub finished: bool,
+}
+
+/// A place in the grid, in voxels: the centre of voxel (x, y, z) is the point (x, y, z).
+#[repr(C)]
+#[derive(Clone, Copy, Debug, Default, PartialEq)]
+pub struct Point {
+    pub x: f64,
+    pub y: f64,
+    pub z: f64,
+}
+
+/// What [`carve`] did.
+#[derive(Clone, Copy, Debug, PartialEq, Eq)]
+pub struct Carved {
+    pub examined: u32,
+    pub removed: u32,
+    /// Whether any voxel is still pending.
+    pub pending: bool,
+    pub next: Record,
+}
+
+/// What [`take`] removed, with the local test's numbers, which are both 1.
+#[derive(Clone, Copy, Debug, PartialEq, Eq)]
+pub struct Taken {
+    pub k: u32,
+    pub m: u32,
+    pub next: Record,
+}
+
+/// Which voxel [`open`] removed, with the local test's numbers there: k - m was added to the Euler number.
+#[derive(Clone, Copy, Debug, PartialEq, Eq)]
+pub struct Opened {
+    pub index: usize,
+    pub k: u32,
+    pub m: u32,
+    pub next: Record,
+}
+
+/// The local test: groups of touched cells and of bare ones, and the touched corners, edges and faces.
+#[repr(C)]
+#[derive(Clone, Copy, Debug, PartialEq, Eq)]
+pub struct LocalTest {
+    pub k: u32,
+    pub m: u32,
+    pub corners: u32,
+    pub edges: u32,
+    pub faces: u32,
+}
+
+/// A layer of a grid file: its z, and its values' bytes, low byte first, where they stand in the file.
+#[derive(Clone, Copy, Debug, PartialEq, Eq)]
+pub struct Layer<'a> {
+    pub z: u8,
+    /// Where in the file the values begin.
+    pub from: usize,
+    pub bytes: &'a [u8],
+}
+
+fn done<T>(refusal: u8, answer: T) -> Result<T, Refusal> {
+    if refusal == 0 {
+        Ok(answer)
+    } else {
+        Err(Refusal(refusal))
+    }
+}
+
+/// Starts a grid from n measured values, and fills both other buffers with worked distances and status bytes.
+///
+/// Checks: 1, 2 (any of the three buffers), 3, 4.
+pub fn begin(sides: Sides, allowed: u16, values: &[i16], dist: &mut [i32], status: &mut [u8]) -> Result<Record, Refusal> {
+    // SAFETY: each pointer and length is one live slice's, the two mutable ones overlap nothing, and none is kept. So it is below.
+    let r = unsafe {
+        raw::wattlerugby_begin(
+            sides,
+            allowed,
+            values.as_ptr(),
+            values.len(),
+            dist.as_mut_ptr(),
+            dist.len(),
+            status.as_mut_ptr(),
+            status.len(),
+        )
+    };
+    done(r.refusal, r.next)
+}
+
+/// Examines pending voxels, `limit` of them at most: each time the one with the greatest worked distance, of equals the one with the
+/// smallest index. Those that pass the local test are gone.
+///
+/// Checks: 1, 2, 7, 8.
+pub fn carve(given: Record, dist: &[i32], status: &mut [u8], limit: u32) -> Result<Carved, Refusal> {
+    // SAFETY: as in `begin`.
+    let r = unsafe { raw::wattlerugby_carve(given, dist.as_ptr(), dist.len(), status.as_mut_ptr(), status.len(), limit) };
+    done(r.refusal, Carved { examined: r.examined, removed: r.removed, pending: r.pending, next: r.next })
+}
+
+/// Removes the voxel of that index, pending or not, if it is kept, outside, and passes the local test.
+///
+/// Checks: 1, 2, 7, 8, 5, 10, 11, 12.
+pub fn take(given: Record, dist: &[i32], status: &mut [u8], index: usize) -> Result<Taken, Refusal> {
+    // SAFETY: as in `begin`.
+    let r = unsafe { raw::wattlerugby_take(given, dist.as_ptr(), dist.len(), status.as_mut_ptr(), status.len(), index) };
+    done(r.refusal, Taken { k: r.k, m: r.m, next: r.next })
+}
+
+/// Removes the kept outside voxel with a face neighbour not kept that has the greatest worked distance, of equals the smallest index.
+///
+/// Checks: 1, 2, 7, 8, 13, 14, 15.
+pub fn open(given: Record, dist: &[i32], status: &mut [u8]) -> Result<Opened, Refusal> {
+    // SAFETY: as in `begin`.
+    let r = unsafe { raw::wattlerugby_open(given, dist.as_ptr(), dist.len(), status.as_mut_ptr(), status.len()) };
+    done(r.refusal, Opened { index: r.index, k: r.k, m: r.m, next: r.next })
+}
+
+/// Makes every kept voxel part of the body: a worked distance w of 0 or more becomes -w, or -1 where w is 0.
+///
+/// Checks: 1, 2, 7, 8, 13.
+pub fn finish(given: Record, dist: &mut [i32], status: &[u8]) -> Result<Record, Refusal> {
+    // SAFETY: as in `begin`.
+    let r = unsafe { raw::wattlerugby_finish(given, dist.as_mut_ptr(), dist.len(), status.as_ptr(), status.len()) };
+    done(r.refusal, r.next)
+}
+
+/// Where the surface of a finished body crosses the line from the voxel of that index to the next along an axis (0, 1, 2), if it does.
+///
+/// Checks: 1, 2, 7, 9, 5, 6.
+pub fn crossing(given: Record, dist: &[i32], status: &[u8], index: usize, axis: u32) -> Result<Option<Point>, Refusal> {
+    // SAFETY: as in `begin`.
+    let r = unsafe { raw::wattlerugby_crossing(given, dist.as_ptr(), dist.len(), status.as_ptr(), status.len(), index, axis) };
+    done(r.refusal, r.crosses.then_some(r.point))
+}
+
+/// Reads a whole grid file into n values, and answers sides and T. Bytes 2, 3 and 4 of the file tell how many values to lend.
+///
+/// Checks: 21 (header), 22, 1, 2; for each layer record in turn 21, 22, 23, 24; at the end 25.
+pub fn read(file: &[u8], values: &mut [i16]) -> Result<(Sides, u16), Refusal> {
+    // SAFETY: as in `begin`.
+    let r = unsafe { raw::wattlerugby_read(file.as_ptr(), file.len(), values.as_mut_ptr(), values.len()) };
+    done(r.refusal, (r.sides, r.allowed))
+}
+
+/// The layer whose record begins at byte `start`, any number, as a part of the file.
+///
+/// Checks: 1, 21, 22, 23.
+pub fn read_layer(sides: Sides, file: &[u8], start: usize) -> Result<Layer<'_>, Refusal> {
+    // SAFETY: as in `begin`.
+    let r = unsafe { raw::wattlerugby_read_layer(sides, file.as_ptr(), file.len(), start) };
+    done(r.refusal, Layer { z: r.z, from: r.from, bytes: &file[r.from..r.to] })
+}
+
+/// The test of a block: bit (dx + 1) + 3 (dy + 1) + 9 (dz + 1) of `kept` says whether the voxel at (dx, dy, dz) from the middle is kept.
+/// The middle's own, bit 13, and bits from 27 on are not regarded. The middle voxel may go exactly when k and m are both 1.
+pub fn local_test(kept: u32) -> LocalTest {
+    // SAFETY: numbers alone cross.
+    unsafe { raw::wattlerugby_local_test(kept) }
+}

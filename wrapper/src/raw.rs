@@ -1,0 +1,115 @@
+//! include/wattlerugby.h in Rust. The tests compare every size and offset with the header's, and every field with what the library
+//! answers.
+
+use crate::{Point, Record, Sides};
+
+#[repr(C)]
+pub struct BeginAnswer {
+    pub refusal: u8,
+    pub next: Record,
+}
+
+#[repr(C)]
+pub struct CarveAnswer {
+    pub refusal: u8,
+    pub examined: u32,
+    pub removed: u32,
+    pub pending: bool,
+    pub next: Record,
+}
+
+#[repr(C)]
+pub struct TakeAnswer {
+    pub refusal: u8,
+    pub k: u32,
+    pub m: u32,
+    pub next: Record,
+}
+
+#[repr(C)]
+pub struct OpenAnswer {
+    pub refusal: u8,
+    pub index: usize,
+    pub k: u32,
+    pub m: u32,
+    pub next: Record,
+}
+
+#[repr(C)]
+pub struct FinishAnswer {
+    pub refusal: u8,
+    pub next: Record,
+}
+
+#[repr(C)]
+pub struct CrossingAnswer {
+    pub refusal: u8,
+    pub crosses: bool,
+    pub point: Point,
+}
+
+#[repr(C)]
+pub struct ReadAnswer {
+    pub refusal: u8,
+    pub sides: Sides,
+    pub allowed: u16,
+}
+
+#[repr(C)]
+pub struct ReadLayerAnswer {
+    pub refusal: u8,
+    pub z: u8,
+    pub from: usize,
+    pub to: usize,
+}
+
+extern "C" {
+    pub fn wattlerugby_begin(
+        sides: Sides,
+        allowed: u16,
+        values: *const i16,
+        values_len: usize,
+        dist: *mut i32,
+        dist_len: usize,
+        status: *mut u8,
+        status_len: usize,
+    ) -> BeginAnswer;
+
+    pub fn wattlerugby_carve(
+        given: Record,
+        dist: *const i32,
+        dist_len: usize,
+        status: *mut u8,
+        status_len: usize,
+        limit: u32,
+    ) -> CarveAnswer;
+
+    pub fn wattlerugby_take(
+        given: Record,
+        dist: *const i32,
+        dist_len: usize,
+        status: *mut u8,
+        status_len: usize,
+        index: usize,
+    ) -> TakeAnswer;
+
+    pub fn wattlerugby_open(given: Record, dist: *const i32, dist_len: usize, status: *mut u8, status_len: usize) -> OpenAnswer;
+
+    pub fn wattlerugby_finish(given: Record, dist: *mut i32, dist_len: usize, status: *const u8, status_len: usize) -> FinishAnswer;
+
+    pub fn wattlerugby_crossing(
+        given: Record,
+        dist: *const i32,
+        dist_len: usize,
+        status: *const u8,
+        status_len: usize,
+        index: usize,
+        axis: u32,
+    ) -> CrossingAnswer;
+
+    pub fn wattlerugby_read(file: *const u8, file_len: usize, values: *mut i16, values_len: usize) -> ReadAnswer;
+
+    pub fn wattlerugby_read_layer(sides: Sides, file: *const u8, file_len: usize, start: usize) -> ReadLayerAnswer;
+
+    pub fn wattlerugby_local_test(kept: u32) -> crate::LocalTest;
+}

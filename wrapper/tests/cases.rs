@@ -1,0 +1,88 @@
+//! Document 01's worked cases, through the wrapper.
+
+use wattlerugby::{local_test, Grid, Point, Refusal, Sides};
+
+fn grid(sides: [usize; 3], value: i16, negative: &[usize]) -> (Sides, Vec<i16>) {
+    let [a, b, c] = sides;
+    let mut values = vec![value; a * b * c];
+    for &i in negative {
+        values[i] = -value;
+    }
+    (Sides { a, b, c }, values)
+}
+
+#[test]
+fn case_a() {
+    let (sides, values) = grid([3, 3, 3], 5, &[13]);
+    let mut g = Grid::begin(sides, 0, &values).unwrap();
+    assert_eq!([g.distances()[12], g.distances()[9], g.distances()[0]], [5, 7, 8]);
+    assert!(g.status().iter().all(|&s| s != wattlerugby::PENDING));
+    assert_eq!(g.crossing(13, 0), Err(Refusal(9)));
+    g.finish().unwrap();
+    assert_eq!(g.crossing(13, 0), Ok(Some(Point { x: 1.5, y: 1.0, z: 1.0 })));
+    assert_eq!(g.crossing(12, 0), Ok(Some(Point { x: 0.5, y: 1.0, z: 1.0 })));
+    assert_eq!(g.crossing(0, 0), Ok(None));
+    assert_eq!(g.crossing(27, 0), Err(Refusal(5)));
+    assert_eq!(g.crossing(13, 3), Err(Refusal(6)));
+    assert_eq!(g.finish(), Err(Refusal(8)));
+}
+
+#[test]
+fn case_c() {
+    let ring = [31, 32, 33, 36, 38, 41, 42, 43];
+    let (sides, values) = grid([5, 5, 3], 4, &ring);
+    let mut closed = Grid::begin(sides, 0, &values).unwrap();
+    let done = closed.carve(u32::MAX).unwrap();
+    assert_eq!((done.examined, done.removed, done.pending), (1, 0, false));
+    assert_eq!(closed.take(37), Err(Refusal(12)));
+    assert_eq!(closed.open(), Err(Refusal(14)));
+    closed.finish().unwrap();
+    assert_eq!(closed.distances()[37], -4);
+
+    let mut opened = Grid::begin(sides, 1, &values).unwrap();
+    assert_eq!(opened.open(), Err(Refusal(13)));
+    opened.carve(u32::MAX).unwrap();
+    let o = opened.open().unwrap();
+    assert_eq!((o.index, o.k, o.m, o.next.euler, o.next.openings), (37, 1, 2, 0, 1));
+}
+
+#[test]
+fn case_d() {
+    let (sides, values) = grid([4, 4, 3], 6, &[21, 26]);
+    let mut g = Grid::begin(sides, 0, &values).unwrap();
+    g.carve(1).unwrap();
+    assert_eq!((g.status()[22], g.status()[25]), (wattlerugby::GONE, wattlerugby::PENDING));
+    g.carve(1).unwrap();
+    assert_eq!((g.status()[22], g.status()[25]), (wattlerugby::GONE, wattlerugby::GONE));
+    assert_eq!((g.record().removals, g.record().examinations, g.record().euler), (2, 2, 1));
+
+    let mut file = vec![0x56, 0x48, 4, 4, 3, 0, 0];
+    for z in 0..3usize {
+        file.extend([0x56, 0x4C, z as u8]);
+        file.extend(values[16 * z..16 * z + 16].iter().flat_map(|v| v.to_le_bytes()));
+    }
+    let mut read = Grid::from_file(&file).unwrap();
+    read.carve_to_the_end().unwrap();
+    assert_eq!(read.status().iter().filter(|&&s| s != wattlerugby::GONE).count(), 2);
+    assert_eq!(Grid::from_file(&file[..file.len() - 1]), Err(Refusal(21)));
+}
+
+/// The places that run along so many axes: 0 for corners, 1 for edges, 2 for faces.
+fn of_kinds(kinds: &[usize]) -> u32 {
+    let axes = |p: u32| [p % 3, p / 3 % 3, p / 9].iter().filter(|&&digit| digit == 1).count();
+    (0..27).filter(|&p| kinds.contains(&axes(p))).fold(0, |bits, p| bits | 1 << p)
+}
+
+#[test]
+fn local_tests() {
+    let km = |kept: u32| (local_test(kept).k, local_test(kept).m);
+    assert_eq!(km(0), (0, 1));
+    assert_eq!(km(of_kinds(&[0, 1, 2])), (1, 0));
+    assert_eq!(km(1 << 4), (1, 1));
+    assert_eq!(km(1), (1, 1));
+    assert_eq!(km(1 << 4 | 1 << 22), (2, 1));
+    assert_eq!(km(1 << 10 | 1 << 12 | 1 << 14 | 1 << 16), (1, 2));
+    assert_eq!(km(1 << 4 | 1 << 10 | 1 << 12 | 1 << 14 | 1 << 16), (1, 1));
+    assert_eq!(km(of_kinds(&[0])), (8, 1));
+    assert_eq!(km(of_kinds(&[0, 1])), (1, 6));
+}

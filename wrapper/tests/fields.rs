@@ -1,0 +1,133 @@
+//! Every field of every struct that crosses to the library and back: a different number in each, so that a field that lies elsewhere in
+//! the library's own declaration would show.
+
+use wattlerugby::raw::*;
+use wattlerugby::{Record, Sides};
+
+const SIDES: Sides = Sides { a: 3, b: 4, c: 5 };
+const N: usize = 60;
+
+/// A record that is unfit in one count, so that each call hands it back as it was.
+const UNFIT: Record = Record {
+    sides: SIDES,
+    allowed: 0x1234,
+    openings: 0x5678_9ABC,
+    removals: 0x0102_0304_0506_0708,
+    examinations: 0x1112_1314_1516_1718,
+    euler: -0x2122_2324,
+    finished: true,
+};
+
+#[test]
+fn the_record_given_comes_back() {
+    let (mut dist, mut status) = ([0i32; N], [0u8; N]);
+    let (d, s) = (dist.as_mut_ptr(), status.as_mut_ptr());
+    for finished in [true, false] {
+        let given = Record { finished, ..UNFIT };
+        // SAFETY: the pointers are those of two live arrays of N elements.
+        unsafe {
+            let carved = wattlerugby_carve(given, d, N, s, N, 9);
+            assert_eq!((carved.refusal, carved.examined, carved.removed, carved.pending, carved.next), (7, 0, 0, false, given));
+            let taken = wattlerugby_take(given, d, N, s, N, 9);
+            assert_eq!((taken.refusal, taken.k, taken.m, taken.next), (7, 0, 0, given));
+            let opened = wattlerugby_open(given, d, N, s, N);
+            assert_eq!((opened.refusal, opened.index, opened.k, opened.m, opened.next), (7, 0, 0, 0, given));
+            let closed = wattlerugby_finish(given, d, N, s, N);
+            assert_eq!((closed.refusal, closed.next), (7, given));
+            let crossed = wattlerugby_crossing(given, d, N, s, N, 9, 1);
+            assert_eq!((crossed.refusal, crossed.crosses, crossed.point.x), (7, false, 0.0));
+        }
+    }
+}
+
+/// Each count by itself decides between fit and unfit: its own place is read.
+#[test]
+fn each_count_is_read_from_its_place() {
+    let (dist, mut status) = ([0i32; N], [0u8; N]);
+    let n = N as u64;
+    let fit = Record {
+        sides: SIDES,
+        allowed: 0x1234,
+        openings: 0x1234,
+        removals: n,
+        examinations: 27 * n,
+        euler: -8 * N as i32,
+        finished: false,
+    };
+    let unfit = [
+        Record { sides: Sides { a: 4, ..SIDES }, ..fit },
+        Record { sides: Sides { b: 3, ..SIDES }, ..fit },
+        Record { sides: Sides { c: 4, ..SIDES }, ..fit },
+        Record { allowed: 0x1233, ..fit },
+        Record { openings: 0x1235, ..fit },
+        Record { removals: n + 1, ..fit },
+        Record { examinations: 27 * n + 1, ..fit },
+        Record { euler: -8 * N as i32 - 1, ..fit },
+        Record { finished: true, ..fit },
+    ];
+    let numbers = [2, 2, 2, 7, 7, 7, 7, 7, 8];
+    assert!(wattlerugby::carve(fit, &dist, &mut status, 1).is_ok());
+    for (given, number) in unfit.into_iter().zip(numbers) {
+        let refused = wattlerugby::carve(given, &dist, &mut status, 1).unwrap_err();
+        assert_eq!(refused.0, number, "{given:?}");
+    }
+}
+
+#[test]
+fn begin_and_its_buffers() {
+    let mut values = [7i16; N];
+    values[16] = -5;
+    let (mut dist, mut status) = ([0i32; N], [9u8; N]);
+    // SAFETY: the pointers are those of three live arrays of N elements.
+    let mut begin = |sides, values_len, dist_len, status_len| unsafe {
+        wattlerugby_begin(sides, 0xABCD, values.as_ptr(), values_len, dist.as_mut_ptr(), dist_len, status.as_mut_ptr(), status_len)
+    };
+    for (v, d, s) in [(N - 1, N, N), (N, N - 1, N), (N, N, N - 1)] {
+        let refused = begin(SIDES, v, d, s);
+        assert_eq!((refused.refusal, refused.next), (2, Record::default()));
+    }
+    let begun = begin(SIDES, N, N, N);
+    let record = Record { sides: SIDES, allowed: 0xABCD, euler: 1, ..Record::default() };
+    assert_eq!((begun.refusal, begun.next), (0, record));
+    assert_eq!((dist[16], dist[17], status[16], status[17]), (-5, 7, 1, 0));
+}
+
+#[test]
+fn a_point_has_three_coordinates() {
+    let (mut values, mut dist, mut status) = ([7i16; N], [0i32; N], [0u8; N]);
+    values[1 + 3 * (2 + 4 * 3)] = -7;
+    let begun = wattlerugby::begin(SIDES, 0, &values, &mut dist, &mut status).unwrap();
+    let closed = wattlerugby::finish(begun, &mut dist, &status).unwrap();
+    // SAFETY: the pointers are those of two live arrays of N elements.
+    let crossed = unsafe { wattlerugby_crossing(closed, dist.as_ptr(), N, status.as_ptr(), N, 43, 0) };
+    assert_eq!((crossed.refusal, crossed.crosses), (0, true));
+    assert_eq!((crossed.point.x, crossed.point.y, crossed.point.z), (1.5, 2.0, 3.0));
+}
+
+#[test]
+fn files_and_layers() {
+    let mut file = vec![0x56, 0x48, 3, 4, 5, 0xCD, 0xAB];
+    for z in [4u8, 0, 3, 1, 2] {
+        file.extend([0x56, 0x4C, z]);
+        file.extend((0..12u8).flat_map(|i| [i, z]));
+    }
+    let mut values = [0i16; N];
+    // SAFETY: pointers and lengths are those of a live vector and a live array.
+    let read = unsafe { wattlerugby_read(file.as_ptr(), file.len(), values.as_mut_ptr(), N) };
+    assert_eq!((read.refusal, read.sides, read.allowed), (0, SIDES, 0xABCD));
+    assert_eq!((values[0], values[11], values[12], values[59]), (0, 11, 256, 4 * 256 + 11));
+    let third = 7 + 2 * 27;
+    // SAFETY: as above.
+    let layer = unsafe { wattlerugby_read_layer(SIDES, file.as_ptr(), file.len(), third) };
+    assert_eq!((layer.refusal, layer.z, layer.from, layer.to), (0, 3, third + 3, third + 27));
+    // SAFETY: as above.
+    let beyond = unsafe { wattlerugby_read_layer(SIDES, file.as_ptr(), file.len(), usize::MAX) };
+    assert_eq!((beyond.refusal, beyond.z, beyond.from, beyond.to), (21, 0, 0, 0));
+}
+
+#[test]
+fn the_local_test_has_five_numbers() {
+    // The two middle voxels below and above are not kept: no two of the five numbers are equal.
+    let t = wattlerugby::local_test(0x07FF_FFFF & !(1 << 4 | 1 << 13 | 1 << 22));
+    assert_eq!((t.k, t.m, t.corners, t.edges, t.faces), (1, 2, 8, 12, 4));
+}
