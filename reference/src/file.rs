@@ -1,0 +1,93 @@
+//! Grid files and the line of the program carve (document 01, "The grid file").
+
+use crate::grid::{begin, Refused, Sides};
+use crate::machine::{carve, finish, open};
+
+pub struct Layer {
+    pub z: u64,
+    pub from: usize,
+    pub to: usize,
+}
+
+/// The layer record that begins at a byte of the file.
+pub fn layer(sides: &Sides, file: &[u8], start: u64) -> Result<Layer, Refused> {
+    if !sides.fit() {
+        return Err(1);
+    }
+    let values = 2 * sides.a * sides.b;
+    if u128::from(start) + 3 + u128::from(values) > file.len() as u128 {
+        return Err(21);
+    }
+    let start = start as usize;
+    if file[start..start + 2] != [0x56, 0x4C] {
+        return Err(22);
+    }
+    let z = u64::from(file[start + 2]);
+    if z >= sides.c {
+        return Err(23);
+    }
+    Ok(Layer { z, from: start + 3, to: start + 3 + values as usize })
+}
+
+/// Sides and T; the lent values are written only where nothing is refused.
+pub fn read(file: &[u8], lent: &mut [i16], greatest_side: u64) -> Result<(Sides, u16), Refused> {
+    if file.len() < 7 {
+        return Err(21);
+    }
+    if file[0..2] != [0x56, 0x48] {
+        return Err(22);
+    }
+    let sides = Sides { a: u64::from(file[2]), b: u64::from(file[3]), c: u64::from(file[4]) };
+    if !sides.fit() || [sides.a, sides.b, sides.c].iter().any(|&s| s > greatest_side) {
+        return Err(1);
+    }
+    if lent.len() != sides.n() {
+        return Err(2);
+    }
+    let mut values = vec![0i16; lent.len()];
+    let mut seen = vec![false; sides.c as usize];
+    let mut at = 7;
+    for _ in 0..sides.c {
+        let found = layer(&sides, file, at as u64)?;
+        if seen[found.z as usize] {
+            return Err(24);
+        }
+        seen[found.z as usize] = true;
+        let first = (found.z * sides.a * sides.b) as usize;
+        for (i, pair) in file[found.from..found.to].chunks(2).enumerate() {
+            values[first + i] = i16::from_le_bytes([pair[0], pair[1]]);
+        }
+        at = found.to;
+    }
+    if at < file.len() {
+        return Err(25);
+    }
+    lent.copy_from_slice(&values);
+    Ok((sides, u16::from_le_bytes([file[5], file[6]])))
+}
+
+/// The line that the program prints for a file.
+pub fn program_line(file: &[u8]) -> String {
+    match carve_file(file) {
+        Ok(line) => line,
+        Err(number) => format!("refused {number}"),
+    }
+}
+
+fn carve_file(file: &[u8]) -> Result<String, Refused> {
+    let side = |i: usize| file.get(i).map_or(0, |&s| usize::from(s));
+    let mut values = vec![0i16; side(2) * side(3) * side(4)];
+    let (sides, t) = read(file, &mut values, 24)?;
+    let n = sides.n();
+    let (mut dist, mut status) = (vec![0i32; n], vec![0u8; n]);
+    let mut r = begin(sides, t, &values, &mut dist, &mut status)?;
+    loop {
+        carve(&mut r, &dist, &mut status, u64::MAX)?;
+        if open(&mut r, &dist, &mut status).is_err() {
+            break;
+        }
+    }
+    finish(&mut r, &mut dist, &status)?;
+    let kept = status.iter().filter(|&&s| s != 0).count();
+    Ok(format!("kept {kept} removed {} opened {} examined {} euler {}", r.removals, r.openings, r.examinations, r.euler))
+}
