@@ -1,0 +1,72 @@
+//! Grids of the kinds that carving meets: bodies with noise, thin walls, islands, pockets, ties, missing points.
+
+use crate::random::Random;
+
+pub const MISSING: i16 = -32768;
+
+pub struct Grid {
+    pub sides: [usize; 3],
+    pub allowed: u16,
+    pub values: Vec<i16>,
+}
+
+type Place = [f64; 3];
+
+/// The kinds of grids; each is a signed distance, in tenths, of a place in the unit cube about the origin.
+const KINDS: [&str; 8] = ["sphere", "torus", "shell", "islands", "walls", "noise", "equal", "block"];
+
+fn shape(kind: &str, p: Place, r: &mut Random) -> f64 {
+    let [x, y, z] = p;
+    let length = |a: f64, b: f64, c: f64| (a * a + b * b + c * c).sqrt();
+    match kind {
+        "sphere" => length(x, y, z) - 0.6,
+        "torus" => length(length(x, y, 0.0) - 0.5, z, 0.0) - 0.22,
+        "shell" => (length(x, y, z) - 0.55).abs() - 0.18,
+        "islands" => length(x - 0.4, y - 0.4, z).min(length(x + 0.4, y + 0.4, z)).min(length(x + 0.4, y - 0.4, z)) - 0.25,
+        "walls" => {
+            let box_distance = x.abs().max(y.abs()).max(z.abs());
+            let pocket = length(x, y, z) - 0.3;
+            (box_distance - 0.7).max(-pocket)
+        }
+        "noise" => r.between(-100, 60) as f64 / 100.0,
+        "equal" => {
+            if r.chance(35) {
+                -0.1
+            } else {
+                0.1
+            }
+        }
+        _ => x.abs().max(y.abs()).max(z.abs()) - 0.5,
+    }
+}
+
+fn side(r: &mut Random, greatest: i64) -> usize {
+    if r.chance(20) {
+        3
+    } else {
+        r.between(3, greatest) as usize
+    }
+}
+
+/// A grid that begin mostly accepts: no measured negative voxel on the border, save rarely.
+pub fn grid(r: &mut Random, greatest: i64) -> Grid {
+    let sides = [side(r, greatest), side(r, greatest), side(r, greatest)];
+    let kind = r.pick(&KINDS);
+    let scale = r.pick(&[1.0, 10.0, 100.0, 1000.0, 30000.0]);
+    let noise = r.pick(&[0, 0, 5, 20, 60]);
+    let gaps = r.pick(&[0, 0, 3, 25]);
+    let mut values = Vec::new();
+    for i in 0..sides[0] * sides[1] * sides[2] {
+        let v = [i % sides[0], i / sides[0] % sides[1], i / (sides[0] * sides[1])];
+        let place: Vec<f64> = (0..3).map(|k| 2.0 * v[k] as f64 / (sides[k] - 1) as f64 - 1.0).collect();
+        let mut d = shape(kind, [place[0], place[1], place[2]], r) + r.between(-noise, noise) as f64 / 100.0;
+        let border = (0..3).any(|k| v[k] == 0 || v[k] == sides[k] - 1);
+        if border && !r.rarely() {
+            d = d.abs();
+        }
+        let value = (d * scale).round().clamp(-32767.0, 32767.0) as i16;
+        values.push(if r.chance(gaps) { MISSING } else { value });
+    }
+    let allowed = r.pick(&[0, 0, 1, 2, 3, 10, 1000, 65535]);
+    Grid { sides, allowed, values }
+}
