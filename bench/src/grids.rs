@@ -1,0 +1,74 @@
+//! The grids that are measured: a sphere, a torus and white noise, each fitted to the sides.
+
+use crate::types::{Sides, MISSING};
+
+/// SplitMix64: a seed names a case for good.
+pub struct Random(pub u64);
+
+impl Random {
+    pub fn next(&mut self) -> u64 {
+        self.0 = self.0.wrapping_add(0x9E37_79B9_7F4A_7C15);
+        let z = (self.0 ^ (self.0 >> 30)).wrapping_mul(0xBF58_476D_1CE4_E5B9);
+        let z = (z ^ (z >> 27)).wrapping_mul(0x94D0_49BB_1331_11EB);
+        z ^ (z >> 31)
+    }
+
+    pub fn below(&mut self, n: u64) -> u64 {
+        self.next() % n
+    }
+}
+
+#[derive(Clone, Copy, Debug, PartialEq, Eq)]
+pub enum Shape {
+    Sphere,
+    Torus,
+    Noise,
+}
+
+impl Shape {
+    pub const ALL: [Shape; 3] = [Shape::Sphere, Shape::Torus, Shape::Noise];
+
+    pub fn name(self) -> &'static str {
+        match self {
+            Shape::Sphere => "sphere",
+            Shape::Torus => "torus",
+            Shape::Noise => "noise",
+        }
+    }
+}
+
+/// A signed value of a place in the cube from -1 to 1.
+fn value(shape: Shape, [x, y, z]: [f64; 3], random: &mut Random) -> i16 {
+    match shape {
+        Shape::Sphere => (((x * x + y * y + z * z).sqrt() - 0.8) * 3000.0) as i16,
+        Shape::Torus => ((((x * x + y * y).sqrt() - 0.6).hypot(z) - 0.3) * 3000.0) as i16,
+        // 3 in 10 measured negative, 1 in 20 missing
+        Shape::Noise => match random.below(100) {
+            0..30 => -1 - random.below(1000) as i16,
+            30..35 => MISSING,
+            _ => random.below(1000) as i16,
+        },
+    }
+}
+
+pub fn values(sides: Sides, shape: Shape) -> Vec<i16> {
+    let mut random = Random(sides.size() as u64);
+    let along = |v: usize, side: usize| 2.0 * v as f64 / (side - 1) as f64 - 1.0;
+    let mut values = Vec::with_capacity(sides.size());
+    for z in 0..sides.c {
+        for y in 0..sides.b {
+            for x in 0..sides.a {
+                let v = value(shape, [along(x, sides.a), along(y, sides.b), along(z, sides.c)], &mut random);
+                let border = x == 0 || y == 0 || z == 0 || x == sides.a - 1 || y == sides.b - 1 || z == sides.c - 1;
+                values.push(if border { v.saturating_abs() } else { v });
+            }
+        }
+    }
+    values
+}
+
+/// Status bytes of random blocks, 27 to a block, so many in 100 kept.
+pub fn blocks(count: usize, kept: u64) -> Vec<u8> {
+    let mut random = Random(kept);
+    (0..27 * count).map(|_| if random.below(100) < kept { 1 + 2 * (random.next() & 1) as u8 } else { 0 }).collect()
+}

@@ -1,0 +1,161 @@
+//! The two Rust implementations against the reference, on small grids and on random calls.
+
+use crate::contest::Calls;
+use crate::grids::{blocks, Random};
+use crate::local::{joined, ranked, searched, Whole};
+use crate::plain::Plain;
+use crate::tuned::Tuned;
+use crate::types::{Record, Sides, MISSING};
+use reference::{grid, local, machine};
+
+fn theirs(r: Record) -> grid::Record {
+    let side = |s: usize| s as u64;
+    grid::Record {
+        sides: grid::Sides { a: side(r.sides.a), b: side(r.sides.b), c: side(r.sides.c) },
+        t: r.allowed,
+        openings: u64::from(r.openings),
+        removals: r.removals,
+        examinations: r.examinations,
+        euler: i64::from(r.euler),
+        finished: r.finished,
+    }
+}
+
+fn random_values(random: &mut Random, sides: Sides) -> Vec<i16> {
+    let dense = random.below(60);
+    let scale = [1, 3, 1000, 32767][random.below(4) as usize];
+    let mut values: Vec<i16> = (0..sides.size())
+        .map(|_| match random.below(100) {
+            p if p < dense => -1 - random.below(scale) as i16,
+            p if p > 94 => MISSING,
+            _ => random.below(scale + 1) as i16,
+        })
+        .collect();
+    if random.below(20) > 0 {
+        for z in 0..sides.c {
+            for y in 0..sides.b {
+                for x in 0..sides.a {
+                    let border = x == 0 || y == 0 || z == 0 || x + 1 == sides.a || y + 1 == sides.b || z + 1 == sides.c;
+                    let v = &mut values[x + sides.a * (y + sides.b * z)];
+                    if border && *v < 0 {
+                        *v = MISSING;
+                    }
+                }
+            }
+        }
+    }
+    values
+}
+
+/// A crafted record or a byte changed: the calls must answer alike there too.
+fn spoil(random: &mut Random, record: &mut Record, dist: &mut [i32], status: &mut [u8]) {
+    let n = status.len() as u64;
+    let at = random.below(n) as usize;
+    match random.below(8) {
+        0 => status[at] = random.below(5) as u8,
+        1 => dist[at] = -1,
+        2 => record.openings = random.below(70000) as u32,
+        3 => record.removals = n + random.below(2),
+        4 => record.examinations = 27 * n + random.below(2),
+        5 => record.euler = if random.below(2) == 0 { -1 } else { 1 } * (8 * n + random.below(2)) as i32,
+        6 => status[at] = 3,
+        _ => record.finished = true,
+    }
+}
+
+fn play(calls: &Calls, seed: u64) {
+    let mut random = Random(seed);
+    let mut side = || 3 + random.below(7) as usize;
+    let sides = Sides { a: side(), b: side(), c: side() };
+    let values = random_values(&mut random, sides);
+    let n = sides.size();
+    let allowed = [0, 1, 5, 65535][random.below(4) as usize];
+    let (mut dist, mut status) = (vec![7; n], vec![7; n]);
+    let (mut their_dist, mut their_status) = (dist.clone(), status.clone());
+    let begun = (calls.begin)(sides, allowed, &values, &mut dist, &mut status);
+    let expected = grid::begin(theirs(Record::new(sides, allowed)).sides, allowed, &values, &mut their_dist, &mut their_status);
+    assert_eq!(begun.map(theirs), expected, "{} begin {seed}", calls.name);
+    assert_eq!((&dist, &status), (&their_dist, &their_status), "{} begin {seed}", calls.name);
+    let Ok(mut record) = begun else { return };
+    for _ in 0..30 {
+        if random.below(40) == 0 {
+            spoil(&mut random, &mut record, &mut dist, &mut status);
+            (their_dist, their_status) = (dist.clone(), status.clone());
+        }
+        let mut their = theirs(record);
+        let (ours, theirs_answer) = match random.below(8) {
+            0..2 => {
+                let index = random.below(n as u64 + 1) as usize;
+                let r = (calls.take)(record, &dist, &mut status, index);
+                let t = machine::take(&mut their, &their_dist, &mut their_status, index as u64);
+                (r.map(|r| (r.next, vec![r.k as u64, r.m as u64])), t.map(|l| vec![l.k as u64, l.m as u64]))
+            }
+            2..5 => {
+                let limit = if random.below(2) == 0 { random.below(20) as u32 } else { u32::MAX };
+                let r = (calls.carve)(record, &dist, &mut status, limit);
+                let t = machine::carve(&mut their, &their_dist, &mut their_status, u64::from(limit));
+                let ours = r.map(|r| (r.next, vec![r.examined as u64, r.removed as u64, r.pending as u64]));
+                (ours, t.map(|c| vec![c.examined, c.removed, c.pending as u64]))
+            }
+            5..7 => {
+                let r = (calls.open)(record, &dist, &mut status);
+                let t = machine::open(&mut their, &their_dist, &mut their_status);
+                let ours = r.map(|r| (r.next, vec![r.index as u64, r.k as u64, r.m as u64]));
+                (ours, t.map(|o| vec![o.index as u64, o.local.k as u64, o.local.m as u64]))
+            }
+            _ if random.below(4) == 0 => {
+                let r = (calls.finish)(record, &mut dist, &status);
+                let t = machine::finish(&mut their, &mut their_dist, &their_status);
+                (r.map(|next| (next, vec![])), t.map(|()| vec![]))
+            }
+            _ => continue,
+        };
+        let next = ours.as_ref().map_or(record, |(next, _)| *next);
+        assert_eq!(theirs(next), their, "{} record {seed}", calls.name);
+        assert_eq!(ours.map(|(_, answer)| answer), theirs_answer, "{} answer {seed}", calls.name);
+        assert_eq!((&dist, &status), (&their_dist, &their_status), "{} buffers {seed}", calls.name);
+        record = next;
+    }
+}
+
+#[test]
+fn plain_as_the_reference() {
+    (0..3000).for_each(|seed| play(&Calls::of::<Plain>(), seed));
+}
+
+#[test]
+fn tuned_as_the_reference() {
+    (0..3000).for_each(|seed| play(&Calls::of::<Tuned>(), seed));
+}
+
+#[test]
+fn local_tests_as_the_reference() {
+    let whole = Whole::build();
+    assert_eq!(whole.count(), 25_985_144);
+    for kept in [10, 30, 50, 70, 90] {
+        for bytes in blocks(4000, kept).chunks_exact(27) {
+            let block: [bool; 27] = std::array::from_fn(|p| bytes[p] != 0);
+            let bits = (0..27).fold(0, |bits, p| bits | u32::from(block[p]) << p);
+            let expected = local::local_test(&block);
+            for found in [joined::test(bits), ranked::test(bits), searched::test(bits)] {
+                let found = local::Local { k: found.k, m: found.m, corners: found.corners, edges: found.edges, faces: found.faces };
+                assert_eq!(found, expected);
+            }
+            let passes = [joined::passes(bits), ranked::passes(bits), whole.passes(bits)];
+            assert_eq!(passes, [expected.passes(); 3]);
+        }
+    }
+}
+
+#[test]
+fn stack_of_a_known_call() {
+    #[inline(never)]
+    fn fill(with: u8) -> u8 {
+        let mut room = [0u8; 100_000];
+        std::hint::black_box(&mut room).fill(with);
+        room[with as usize]
+    }
+    let used = crate::stack::used(|| assert_eq!(fill(7), 7));
+    assert!((100_000..104_000).contains(&used), "{used}");
+    assert_eq!(crate::stack::used(|| ()), 1024);
+}
