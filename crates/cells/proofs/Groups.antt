@@ -6,7 +6,6 @@ use mathlib.Core.Bool.{Bool, true, false}
 use mathlib.Core.List.{List, [], _∷_}
 use Prim.Native.Nat.{ℕ, zero, suc, _<_}
 use native.Mathlib.Omega.{arith}
-use native.Mathlib.Decide.{decLt}
 use lib.ListN.{length, getD}
 use Rattle.cells.specs.Groups.{any, appendIf, reached, consUnless, others, enter, gather, groups}
 use Rattle.cells.specs.Linked.{Linked, stay, OnePiece}
@@ -264,24 +263,3 @@ module _ {A : Type 0} (joined : A → A → Bool) (turn : (x y : A) → joined x
       let lb = at-lt (groups joined xs) (b .0) y (b .1) in
       let q : b .0 ≡ a .0 = omega arith in
       group-linked (a .0) x y (a .1) (subst (λ (k : ℕ). At (groups joined xs) k y) q (b .1))
-
-  -- a member, and any two linked: one group
-  pub one-group : (x : A) → member x ≡ true → OnePiece member joined → length (groups joined xs) ≡ 1
-  one-group x m o = go (decLt 1 (length (groups joined xs)))
-    where
-      a : (i : ℕ) × (At (groups joined xs) i x)
-      a = group-of x m
-
-      some : 0 < length (groups joined xs)
-      some = omega (arith, at-lt (groups joined xs) (a .0) x (a .1))
-
-      two : 1 < length (groups joined xs) → ⊥
-      two h =
-          let p = group-filled 0 some in
-          let q = group-filled 1 h in
-          let e : _≡_ {A = ℕ} 0 1 = linked-same 0 1 (o (p .0) (q .0) (group-member 0 (p .0) (p .1)) (group-member 1 (q .0) (q .1))) (p .1) (q .1) in
-          omega arith
-
-      go : Dec (1 < length (groups joined xs)) → length (groups joined xs) ≡ 1
-      go (yes h) = absurd (two h)
-      go (no h) = omega (arith, some)

@@ -16,7 +16,7 @@ use Rattle.cells.specs.Classes.{among, together, Classes, Counted, Symme
 use Rattle.cells.proofs.Bools.{and-true, true-and, or-true, true-or, both-ways, two}
 use Rattle.cells.proofs.Lists.{Mem, here, there, any-true, true-any, false-any, those-mem, mem-those}
 use Rattle.cells.proofs.Chains.{first-member}
-use Rattle.cells.proofs.Groups.{At, at-lt, group-filled, group-of, group-member, group-linked, linked-group, linked-same, group-one, one-group}
+use Rattle.cells.proofs.Groups.{At, at-lt, group-filled, group-of, group-member, group-linked, linked-group, linked-same, group-one}
 
 -- ---- members of a list of numbers, as a test
 
@@ -149,10 +149,6 @@ module _ (p : ℕ → Bool) where
   all : (c : ℕ) → cells p c ≡ true → Mem c (those p places)
   all c e = among-mem (those p places) c (among-those p places c ∙ e)
 
-  -- the groups of the cells that pass the test are their classes
-  pub cells-classes : Classes (cells p) joined (groups joined (those p places))
-  cells-classes = groups-classes joined joined-turn joined-self (cells p) (those p places) are all
-
   pub cells-counted : Counted (cells p) joined (groupCount (those p places))
   unfolding groupCount
   cells-counted = groups-counted joined joined-turn joined-self (cells p) (those p places) are all
@@ -161,19 +157,6 @@ module _ (p : ℕ → Bool) where
   pub cells-one-piece : groupCount (those p places) ≡ 1 → OnePiece (cells p) joined
   unfolding groupCount
   cells-one-piece e = group-one joined joined-turn joined-self (cells p) (those p places) are all e
-
-  pub one-piece-cells : (c : ℕ) → cells p c ≡ true → OnePiece (cells p) joined → groupCount (those p places) ≡ 1
-  unfolding groupCount
-  one-piece-cells c m o = one-group joined joined-turn joined-self (cells p) (those p places) are all c m o
-
-  -- a cell that passes: at least one group
-  pub cells-some : (c : ℕ) → cells p c ≡ true → 1 ≤ groupCount (those p places)
-  unfolding groupCount
-  cells-some c m = let r = cells-counted .reach c m in let h = r .1 in omega arith
-
-  -- at least one group: a cell that passes
-  pub some-cells : 1 ≤ groupCount (those p places) → (c : ℕ) × (cells p c ≡ true)
-  some-cells h = (cells-counted .pick 0, cells-counted .picked 0 h)
 
 pub test-counts : TestCounts
 unfolding test testOf

@@ -339,21 +339,6 @@ linked-found s values v w p q a b l =
     let r = all-of s values v (first-member l) in
     found-size s values (r .0) v p (r .1) a ∙ sym (found-size s values (r .0) w q (all-whole s values (r .0) v w l (r .1)) b)
 
--- a test finds v's group if it finds v, nothing that is not linked to v, and what is measured negative and touches what it finds
-pub closed-group : (s : Sides) (values : List ℤ) (v : ℕ) (test : ℕ → Bool) → test v ≡ true
-    → ((i : ℕ) → i < size s → test i ≡ true → Linked (negative s values) (touch s) v i)
-    → ((i j : ℕ) → i < size s → test i ≡ true → touch s i j ≡ true → negative s values j ≡ true → test j ≡ true)
-    → GroupOf s values v test
-closed-group s values v test e linked closed =
-    record {
-      linked = linked;
-      whole = λ i l. spread (negative-lt s values v (first-member l)) l .1;
-    }
-  where
-    spread : v < size s → {i : ℕ} → Linked (negative s values) (touch s) v i → (i < size s) × (test i ≡ true)
-    spread h l =
-        follow (λ j. (j < size s) × (test j ≡ true)) (λ j k p t n. (negative-lt s values k n, closed j k (p .0) (p .1) t n)) l (h, e)
-
 -- ---- what S is to others
 
 module _ (s : Sides) (values : List ℤ) (v : ℕ) (e : negative s values v ≡ true) where

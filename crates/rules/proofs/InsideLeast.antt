@@ -56,24 +56,6 @@ greatest-is n (x ∷ xs) = go (decLe (greatest n xs) x) (greatest-is n xs)
     go (yes h) r = let e : x ≡ max x (greatest n xs) = omega arith in inr (subst (λ (y : ℕ). Mem y (x ∷ xs)) e here)
     go (no h) r = there′ (omega arith) r
 
--- ---- the least and the greatest by what they are
-
-pub is-least : (n : ℕ) (xs : List ℕ) (x : ℕ) → x ≤ n → Mem x xs → ((y : ℕ) → Mem y xs → x ≤ y) → least n xs ≡ x
-is-least n xs x h m below =
-    let l = least-le n xs x m in
-    elim (least-is n xs) [ inl e ↦ omega arith | inr k ↦ (let b = below (least n xs) k in omega arith) ]
-
-pub is-greatest : (n : ℕ) (xs : List ℕ) (x : ℕ) → n ≤ x → (x ≡ n) ⊎ (Mem x xs) → ((y : ℕ) → Mem y xs → y ≤ x) → greatest n xs ≡ x
-is-greatest n xs x h m above = go m (greatest-is n xs)
-  where
-    low : (greatest n xs ≡ n) ⊎ (Mem (greatest n xs) xs) → greatest n xs ≤ x
-    low (inl e) = omega arith
-    low (inr k) = above (greatest n xs) k
-
-    go : (x ≡ n) ⊎ (Mem x xs) → (greatest n xs ≡ n) ⊎ (Mem (greatest n xs) xs) → greatest n xs ≡ x
-    go (inl e) r = omega (arith, low r, start-le n xs)
-    go (inr k) r = omega (arith, low r, le-greatest n xs x k)
-
 -- ---- members of a list under a function
 
 pub mem-map : {A B : Type 0} (f : A → B) (xs : List A) (x : A) → Mem x xs → Mem (f x) (map f xs)
