@@ -1,25 +1,91 @@
-// Document 01's begin: the largest group of measured negative voxels, worked distances, box and status, all in the two lent buffers.
-mod values; // values.rt: what a value means; signed numbers stop here
-mod places; // places.rt: coordinates that run along with the index
-mod refusal; // refusal.rt: numbers 3 and 4
-mod flood; // flood.rt: groups of voxels that touch, and the largest of them
-mod sweeps; // sweeps.rt: taxicab distances by six sweeps
-mod passes; // passes.rt: marks, M and the worked distances
-mod bounds; // bounds.rt: the smallest box, and the status
-
+// Document 01's begin: the numbers 1 to 4, then S, worked distances, box and status, all in the two lent buffers.
 use rules::Begun;
 use rules::Record;
 use rules::Sides;
 ghost use mathlib.Core.Path.{_≡_};
-ghost use mathlib.Core.List.{List};
-ghost use lib.IntN.{ℤ};
+ghost use Prim.Native.Nat.{_-_, _*_, _≤_};
 ghost use lib.ListN.{length};
-ghost use Rattle.rules.specs.Grid.{size};
-ghost use Rattle.rules.specs.Meaning.{SomeVoxels};
-ghost use Rattle.rules.proofs.Places.{Fit};
-ghost use Rattle.rules.specs.Begin.{inside, newRecord, begin as beginOf};
-ghost use Rattle.rules.specs.Answer.{outcome, begunAnswer};
-ghost use Rattle.beginning.specs.Work.{Accepted, Found, Measured, WorkedOut};
+ghost use Rattle.cells.specs.Groups.{any};
+ghost use Rattle.rules.specs.Grid.{size, from};
+ghost use Rattle.rules.specs.Checks.{firstFailing};
+ghost use Rattle.rules.specs.Begin.{newRecord, beginChecks, begin as beginOf};
+ghost use Rattle.rules.specs.Answer.{outcome, buffers, begunAnswer};
+ghost use Rattle.loops.specs.Rows.{Row};
+ghost use Rattle.components.specs.Work.{Accepted};
+ghost use Rattle.beginning.specs.Work.{negativeAt, borderNegative, Sized, WorkedOut};
+
+// Whether a value from first up to end is measured and negative.
+fn any_negative(values: &[i16], first: usize, end: usize) -> bool
+    requires { ⌜ (first ≤ end) × (end ≤ length (now values)) ⌝ }
+    ensures { λ r. ⌜ r ≡ any (negativeAt (now (values .entry))) (from first (end - first)) ⌝ }
+{
+    let mut found = false;
+    let mut i = first;
+    while i < end {
+        let v = values[i];
+        found = found | values::negative(v);
+        i += 1;
+    }
+    found
+}
+
+// Whether a border voxel of a row is measured negative: its first or its last voxel, or any if the row lies on the border.
+fn border_row(sides: Sides, values: &[i16], row: usize) -> bool
+    requires { ⌜ Row sides (length (now values)) row ⌝ }
+    ensures { λ r. ⌜ r ≡ any (borderNegative sides (now (values .entry))) (from (sides .a * row) (sides .a)) ⌝ }
+{
+    let y = row % sides.b;
+    let z = row / sides.b;
+    let first = sides.a * row;
+    let last = first + sides.a - 1;
+    if ((y == 0) | (y + 1 == sides.b)) | ((z == 0) | (z + 1 == sides.c)) {
+        return any_negative(values, first, last + 1);
+    }
+    let v = values[first];
+    let w = values[last];
+    values::negative(v) | values::negative(w)
+}
+
+// Number 3: whether a border voxel is measured negative.
+fn border_negative(sides: Sides, values: &[i16]) -> bool
+    requires { ⌜ Sized sides (now values) ⌝ }
+    ensures { λ r. ⌜ r ≡ any (borderNegative sides (now (values .entry))) (from 0 (size sides)) ⌝ }
+{
+    let rows = sides.b * sides.c;
+    let mut found = false;
+    let mut row = 0;
+    while row < rows {
+        found = found | border_row(sides, values, row);
+        row += 1;
+    }
+    found
+}
+
+// The number of the first check that fails, or 0.
+fn refusal(sides: Sides, values: &[i16], dist: &[i32], status: &[u8]) -> u8
+    ensures { λ r. ⌜ r ≡ firstFailing (beginChecks sides (now (values .entry)) (now (dist .entry)) (now (status .entry))) ⌝ }
+{
+    if !sizes::fit_sides(sides) {
+        return 1;
+    }
+    let n = sizes::voxel_count(sides);
+    if values.len() != n {
+        return 2;
+    }
+    if dist.len() != n {
+        return 2;
+    }
+    if status.len() != n {
+        return 2;
+    }
+    if border_negative(sides, values) {
+        return 3;
+    }
+    if !any_negative(values, 0, n) {
+        return 4;
+    }
+    0
+}
 
 // The record of a grid that was just begun: the kept voxels are a box, whose Euler number is 1.
 fn new_record(sides: Sides, allowed: u16) -> Record
@@ -36,37 +102,18 @@ fn new_record(sides: Sides, allowed: u16) -> Record
     }
 }
 
-// Labels S with 3 in the status bytes, and has the floods' work list in the distances.
-fn find(sides: Sides, values: &[i16], dist: &mut [i32], status: &mut [u8])
-    requires { ⌜ Accepted sides (now values) (length (now dist)) (length (now status)) ⌝ }
-    ensures { λ _. ⌜ Found sides (now (values .entry)) (now (status .exit)) ⌝ }
-{
-    passes::marks(values, status);
-    let seed = flood::largest(status, dist, sides);
-    flood::flood(status, dist, seed, 2, 3, sides);
-}
-
-// Puts the number of steps to S in place of each label.
-fn measure(sides: Sides, status: &mut [u8])
-    requires { ⌜ Fit sides × (length (now status) ≡ size sides) ⌝ }
-    ensures { λ _. ⌜ ((values : List ℤ) → SomeVoxels sides (inside sides values) → Found sides values (now (status .entry)) → Measured sides values (now (status .exit))) ⌝ }
-{
-    let far = (sides.a + sides.b + sides.c) as u8;
-    passes::seeds(status, far);
-    sweeps::distances(status, sides);
-}
-
 // The work on a grid that is not refused.
-fn work_out(sides: Sides, values: &[i16], dist: &mut [i32], status: &mut [u8])
+fn work_out(dist: &mut [i32], status: &mut [u8], sides: Sides, values: &[i16])
     requires { ⌜ Accepted sides (now values) (length (now dist)) (length (now status)) ⌝ }
     ensures { λ _. ⌜ WorkedOut sides (now (values .entry)) (now (dist .exit)) (now (status .exit)) ⌝ }
 {
-    find(sides, values, dist, status);
-    measure(sides, status);
-    let m = passes::greatest(values, status);
-    passes::fill(values, status, m, dist);
-    let b = bounds::enclose(status, sides);
-    bounds::settle(status, b, sides);
+    let far = (sides.a + sides.b + sides.c) as u8;
+    components::find(status, dist, sides, values, far);
+    distances::measure(status, sides);
+    let m = values::greatest(values, status);
+    values::fill(values, status, m, dist);
+    let b = bounding_box::enclose(status, sides);
+    bounding_box::settle(status, b, sides);
 }
 
 // Fills in the worked distances and the status of a new grid, and returns its record. A refusal writes nothing.
@@ -77,19 +124,15 @@ pub fn begin(
     dist: &mut [i32],
     status: &mut [u8],
 ) -> Begun
-    ensures { λ r. ⌜ outcome (begunAnswer r) (now (dist .exit)) (now (status .exit)) ≡ beginOf sides allowed (now (values .entry)) (now (dist .entry)) (now (status .entry)) ⌝ }
+    ensures { λ r. ⌜
+        outcome (begunAnswer r) (buffers (now (dist .exit)) (now (status .exit)))
+        ≡ beginOf sides allowed (now (values .entry)) (now (dist .entry)) (now (status .entry))
+        ⌝ }
 {
-    if !fitness::fit_sides(sides) {
-        return Begun::Refused(1);
+    let number = refusal(sides, values, dist, status);
+    if number != 0 {
+        return Begun::Refused(number);
     }
-    let n = sides.a * sides.b * sides.c;
-    if !((values.len() == n) & ((dist.len() == n) & (status.len() == n))) {
-        return Begun::Refused(2);
-    }
-    let r = refusal::refusal(sides, values);
-    if r != 0 {
-        return Begun::Refused(r);
-    }
-    work_out(sides, values, dist, status);
+    work_out(dist, status, sides, values);
     Begun::Ready(new_record(sides, allowed))
 }

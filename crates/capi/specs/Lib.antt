@@ -1,6 +1,1 @@
-pub mod Reply
-pub mod Starting
-pub mod Machine
-pub mod Surfaces
-pub mod Files
-pub mod Blocks
+pub mod Local

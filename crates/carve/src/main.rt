@@ -6,7 +6,7 @@ use libc::STDOUT_FILENO;
 fn main() {
     let mut buffer = io::large_buffer();
     let n = io::read_full(STDIN_FILENO, &mut buffer);
-    let text = pipeline::line(&buffer[..n]);
+    let text = line::line(&buffer[..n]);
     let bytes = text.bytes;
     let start = text.start;
     io::write_all(STDOUT_FILENO, &bytes[start..]);

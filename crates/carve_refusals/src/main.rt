@@ -4,7 +4,7 @@ ghost use Prim.Native.Nat.{_<_, _≤_};
 use libc::STDOUT_FILENO;
 
 fn print(file: &[u8]) {
-    let text = pipeline::line(file);
+    let text = line::line(file);
     let bytes = text.bytes;
     let start = text.start;
     io::write_all(STDOUT_FILENO, &bytes[start..]);

@@ -1,4 +1,4 @@
--- No more groups than members: k and m are 26 at most. Assumes nothing.
+-- No more groups than members: k and m are 26 at most.
 use mathlib.Core.Bool.{Bool, true, false}
 use mathlib.Core.List.{List, [], _∷_}
 use Prim.Native.Nat.{ℕ, suc, _+_, _≤_}

@@ -1,15 +1,4 @@
-pub mod Closing
-pub mod Finishing
-pub mod Waking
-pub mod Gathering
-pub mod Interior
-pub mod Removal
-pub mod Leading
-pub mod Taking
 pub mod Few
-pub mod Search
-pub mod Sums
-pub mod Examining
-pub mod Running
+pub mod Counting
+pub mod Calls
 pub mod Carving
-pub mod Opening

@@ -1,4 +1,4 @@
--- Laws of `Linked`: ends, chains put together, turned round and carried over. Assumes nothing.
+-- Laws of `Linked`: ends, chains put together, turned round and carried over.
 use mathlib.Core.Path.{_≡_}
 use mathlib.Core.Bool.{Bool, true}
 use Rattle.cells.specs.Linked.{Linked, stay, step}

@@ -1,5 +1,5 @@
 -- What `groups` makes of a list: its groups have the list's elements, each group is linked, and elements of two groups are never joined.
--- Assumes nothing.
+--
 use mathlib.Core.Path.{_≡_, refl, ap, sym, subst}
 use mathlib.Core.Logic.{_⊎_, inl, inr}
 use mathlib.Core.Bool.{Bool, true, false}
@@ -9,8 +9,8 @@ use native.Mathlib.Omega.{arith}
 use lib.ListN.{length, getD}
 use Rattle.cells.specs.Groups.{any, appendIf, reached, consUnless, others, enter, gather, groups}
 use Rattle.cells.specs.Linked.{Linked, stay, OnePiece}
-use Rattle.cells.proofs.Bools.{not-both}
-use Rattle.cells.proofs.Lists.{Mem, here, there, mem-left, mem-right, mem-split, any-true, any-false}
+use Rattle.prelude.proofs.Bools.{not-both}
+use Rattle.prelude.proofs.Lists.{Mem, here, there, mem-left, mem-right, mem-split, any-true, any-false}
 use Rattle.cells.proofs.Chains.{append, reverse, before, last-member, follow}
 
 -- x is in the group at place i

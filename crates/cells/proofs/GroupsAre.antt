@@ -1,4 +1,4 @@
--- The groups of a list of numbers are the classes of its members; k and m count the groups of touched and of bare cells. Assumes nothing.
+-- The groups of a list of numbers are the classes of its members; k and m count the groups of touched and of bare cells.
 use mathlib.Core.Path.{_≡_, refl, sym, _∙_, subst}
 use mathlib.Core.Logic.{inl, inr}
 use mathlib.Core.Bool.{Bool, true, false, not, _&&_}
@@ -13,8 +13,8 @@ use Rattle.cells.specs.Groups.{any, those, groups}
 use Rattle.cells.specs.Linked.{Linked, OnePiece}
 use Rattle.cells.specs.Cells.{contains, spans, joined, places, touched, groupCount, testOf, test}
 use Rattle.cells.specs.Classes.{among, together, Classes, Counted, Symmetric, Reflexive, GroupsAreClasses, cells, TestCounts}
-use Rattle.cells.proofs.Bools.{and-true, true-and, or-true, true-or, both-ways, two}
-use Rattle.cells.proofs.Lists.{Mem, here, there, any-true, true-any, false-any, those-mem, mem-those}
+use Rattle.prelude.proofs.Bools.{and-true, true-and, or-true, true-or, both-ways, two}
+use Rattle.prelude.proofs.Lists.{Mem, here, there, any-true, true-any, false-any, those-mem, mem-those}
 use Rattle.cells.proofs.Chains.{first-member}
 use Rattle.cells.proofs.Groups.{At, at-lt, group-filled, group-of, group-member, group-linked, linked-group, linked-same, group-one}
 

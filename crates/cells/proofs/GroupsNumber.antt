@@ -1,4 +1,4 @@
--- The number of classes is one number. Assumes nothing.
+-- The number of classes is one number.
 use mathlib.Core.Path.{_≡_, refl, ap, sym, subst}
 use mathlib.Core.Bool.{Bool}
 use mathlib.Core.List.{List, [], _∷_}
@@ -8,7 +8,7 @@ use native.Mathlib.Decide.{ℕ-discrete}
 use lib.ListN.{length}
 use Rattle.cells.specs.Linked.{Linked}
 use Rattle.cells.specs.Classes.{Counted, Symmetric, CountedOnce}
-use Rattle.cells.proofs.Lists.{Mem, here, there}
+use Rattle.prelude.proofs.Lists.{Mem, here, there}
 use Rattle.cells.proofs.Chains.{append, reverse}
 use Rattle.cells.proofs.Groups.{mem-none}
 use Rattle.cells.proofs.GroupsSize.{Distinct, distinct-le}

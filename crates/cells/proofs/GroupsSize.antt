@@ -1,4 +1,4 @@
--- Lists with no element twice; the groups of such a list have none twice, and as many elements as the list. Assumes nothing.
+-- Lists with no element twice; the groups of such a list have none twice, and as many elements as the list.
 use mathlib.Core.Path.{_≡_, refl, ap, subst}
 use mathlib.Core.Logic.{_⊎_, inl, inr}
 use mathlib.Core.Bool.{Bool, true, false}
@@ -7,7 +7,7 @@ use Prim.Native.Nat.{ℕ, zero, suc, _+_, _≤_}
 use native.Mathlib.Omega.{arith}
 use lib.ListN.{length, getD, length-append}
 use Rattle.cells.specs.Groups.{any, consIf, those, appendIf, reached, consUnless, others, enter, gather, groups}
-use Rattle.cells.proofs.Lists.{Mem, here, there, mem-cons, mem-left, mem-right, mem-split, those-mem, mem-those}
+use Rattle.prelude.proofs.Lists.{Mem, here, there, mem-cons, mem-left, mem-right, mem-split, those-mem, mem-those}
 use Rattle.cells.proofs.Groups.{At, mem-none, groups-only}
 
 -- ---- no element twice

@@ -1,12 +1,6 @@
-pub mod Bools
-pub mod Lists
 pub mod Examples
 pub mod Chains
 pub mod Groups
 pub mod GroupsAre
 pub mod GroupsSize
 pub mod GroupsNumber
-pub mod Closed
-pub mod ClosedTally
-pub mod ClosedEnd
-pub mod EveryBlock

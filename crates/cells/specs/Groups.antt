@@ -1,21 +1,8 @@
 -- Groups: what document 01 means by groups of cells, or of voxels, that are joined.
-use mathlib.Core.Bool.{Bool, true, false, cond, _||_}
+use mathlib.Core.Bool.{Bool, cond}
 use mathlib.Core.List.{List, [], _∷_, _++_}
-use Prim.Native.Nat.{ℕ}
-
--- some element passes the test
-unfoldable pub any : {A : Type 0} → (A → Bool) → List A → Bool
-any p [] = false
-any p (x ∷ xs) = p x || any p xs
-
--- the element before the list, if the test passed
-abbrev pub consIf : {A : Type 0} → Bool → A → List A → List A
-consIf t x xs = cond t (x ∷ xs) xs
-
--- the elements that pass the test, in the list's order
-unfoldable pub those : {A : Type 0} → (A → Bool) → List A → List A
-those p [] = []
-those p (x ∷ xs) = consIf (p x) x (those p xs)
+pub use Rattle.prelude.specs.Lists.{consIf}
+unfoldable pub use Rattle.prelude.specs.Lists.{any, those}
 
 -- Groups are made element by element: one more element makes a single group of all the groups in which it is joined to an element.
 module _ {A : Type 0} (joined : A → A → Bool) where

@@ -3,4 +3,3 @@ pub mod Linked
 pub mod Cells
 pub mod Examples
 pub mod Classes
-pub mod Rank

@@ -1,3 +1,1 @@
-pub mod Signs
-pub mod Rows
-pub mod Passed
+pub mod Numbers

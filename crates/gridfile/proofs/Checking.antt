@@ -1,72 +1,110 @@
--- The check of all layer records, record by record: what is left to check decides the number. Assumes nothing.
+-- The check of all layer records, one after the other: what is left to check decides the number.
 use mathlib.Core.Path.{_≡_, refl, ap, sym, _∙_}
-use mathlib.Core.Bool.{Bool, true, false, cond}
-use mathlib.Core.List.{List}
+use mathlib.Core.Bool.{Bool, true, false, cond, _||_}
+use mathlib.Core.List.{List, [], _∷_, _++_}
 use Prim.Native.Nat.{ℕ, zero, suc, _+_, _-_, _≤_, _<_}
 use native.Mathlib.Omega.{arith}
-use lib.Dec.{ltb}
-use lib.ListN.{length, getD, set, replicate, length-set}
+use native.Mathlib.Decide.{ℕ-discrete}
+use borrow.Author.Tests.{eq-eqb, ne-eqb}
+use lib.Dec.{ltb, eqb}
+use lib.ListN.{length, getD, set, replicate, length-set, getD-replicate}
+use lib.Seq.{getD-set-same, getD-set-other}
+use Rattle.cells.specs.Groups.{any}
 use Rattle.rules.specs.declared.Sides.{Sides}
-use Rattle.rules.specs.File.{byteAt, layerLength, headerLength}
-use Rattle.gridfile.specs.Checks.{unlessFailing, layerFailing, layersFailing, unseen}
-use Rattle.gridfile.proofs.Records.{unlessFailing-suc}
+use Rattle.rules.specs.Checks.{Check, firstFailing}
+use Rattle.rules.specs.Begin.{isIn}
+use Rattle.rules.proofs.Checks.{fails-first, holds-first, refused-first, held-first}
+use Rattle.layers.specs.Layer.{layerLength, zAt, layerChecks}
+use Rattle.gridfile.specs.File.{headerLength, orderChecks, recordChecks, layersChecks}
+
+-- ---- the flags say which z came before
+
+pub record Flags (flags : List Bool) (seen : List ℕ) : Type 0 where
+  pub long : length flags ≡ 64
+  pub agree : (i : ℕ) → i < 64 → getD flags i false ≡ isIn seen i
+
+flags-none : Flags (replicate 64 false) []
+unfolding isIn any
+flags-none = record { long = refl; agree = λ i h. getD-replicate 64 i false false h }
+
+flags-set : (flags : List Bool) (seen : List ℕ) (z : ℕ) → z < 64 → Flags flags seen → Flags (set flags z true) (z ∷ seen)
+unfolding isIn any
+flags-set flags seen z hz f = record { long = length-set flags z true ∙ f .long; agree = λ i h. at i h (ℕ-discrete i z) }
+  where
+    at : (i : ℕ) → i < 64 → Dec (i ≡ z) → getD (set flags z true) i false ≡ (eqb i z || any (eqb i) seen)
+    at i h (yes e) =
+        ap (λ (j : ℕ). getD (set flags z true) j false) e
+        ∙ getD-set-same flags z true false (omega (arith, f .long))
+        ∙ ap (λ (t : Bool). t || any (eqb i) seen) (sym (eq-eqb i z e))
+    at i h (no n) = getD-set-other flags z i true false n ∙ f .agree i h ∙ ap (λ (t : Bool). t || any (eqb i) seen) (sym (ne-eqb i z n))
+
+-- ---- the records
 
 module _ (s : Sides) (file : List ℕ) where
+  pub layersChecks-next :
+      (left start : ℕ) (seen : List ℕ)
+      → 0 < left
+      → layersChecks s file left start seen ≡ recordChecks s file start seen ++ layersChecks s file (left - 1) (start + layerLength s) (zAt file start ∷ seen)
+  unfolding layersChecks
+  layersChecks-next zero start seen h = let z : ⊥ = omega arith in absurd z
+  layersChecks-next (suc left) start seen h = let e : suc left - 1 ≡ left = omega arith in rw e
+
   -- the number for the file
   abbrev pub failing : ℕ
-  failing = layersFailing s file (s .c) headerLength unseen
+  failing = firstFailing (layersChecks s file (s .c) headerLength [])
 
-  pub record Checking (seen : List Bool) (start left : ℕ) : Type 0 where
-    pub long : length seen ≡ 64
-    pub same : layersFailing s file left start seen ≡ failing
+  pub record Checking (flags : List Bool) (start left : ℕ) : Type 0 where
+    pub seen : List ℕ
+    pub flagged : Flags flags seen
+    pub same : firstFailing (layersChecks s file left start seen) ≡ failing
 
-  pub checking-start : Checking unseen headerLength (s .c)
-  unfolding unseen
-  checking-start = record { long = refl; same = refl }
+  pub checking-start : Checking (replicate 64 false) headerLength (s .c)
+  checking-start = record { seen = []; flagged = flags-none; same = refl }
 
-  module _ (seen : List Bool) (start left : ℕ) where
-    abbrev pub z : ℕ
-    z = byteAt file (start + 2)
+  module _ (flags : List Bool) (start left : ℕ) (i : Checking flags start left) (h : 0 < left) where
+    abbrev z : ℕ
+    z = zAt file start
 
-    abbrev pub after : ℕ
-    after = cond (getD seen z false) 24 (layersFailing s file (left - 1) (start + layerLength s) (set seen z true))
+    abbrev layer : List Check
+    layer = layerChecks s file start
 
-    pub layersFailing-next : 0 < left → layersFailing s file left start seen ≡ unlessFailing (layerFailing s file start) (λ n. n) after
-    unfolding layersFailing
-    layersFailing-next h = go left h
-      where
-        go :
-            (k : ℕ)
-            → 0 < k
-            → layersFailing s file k start seen
-            ≡ unlessFailing (layerFailing s file start) (λ n. n) (cond (getD seen z false) 24 (layersFailing s file (k - 1) (start + layerLength s) (set seen z true)))
-        go zero h = let z : ⊥ = omega arith in absurd z
-        go (suc k) h = let e : suc k - 1 ≡ k = omega arith in rw e
+    abbrev order : List Check
+    order = orderChecks file start (i .seen)
 
-    pub checking-refused : Checking seen start left → 0 < left → (n : ℕ) → n ≡ layerFailing s file start → 0 < n → n ≡ failing
-    checking-refused i h n e p =
-        unlessFailing-suc (λ n. n) after n p ∙ ap (λ (k : ℕ). unlessFailing k (λ n. n) after) e ∙ sym (layersFailing-next h) ∙ i .same
+    abbrev own : List Check
+    own = recordChecks s file start (i .seen)
 
-    pub checking-right : Checking seen start left → 0 < left → layerFailing s file start ≡ 0 → after ≡ failing
-    checking-right i h e = ap (λ (k : ℕ). unlessFailing k (λ n. n) after) (sym e) ∙ sym (layersFailing-next h) ∙ i .same
+    abbrev rest : List Check
+    rest = layersChecks s file (left - 1) (start + layerLength s) (z ∷ i .seen)
 
-    pub checking-seen : Checking seen start left → 0 < left → layerFailing s file start ≡ 0 → getD seen z false ≡ true → 24 ≡ failing
-    checking-seen i h e f = sym (ap (λ (t : Bool). cond t 24 (layersFailing s file (left - 1) (start + layerLength s) (set seen z true))) f) ∙ checking-right i h e
+    next : firstFailing (own ++ rest) ≡ failing
+    next = ap firstFailing (sym (layersChecks-next left start (i .seen) h)) ∙ i .same
 
-    pub checking-next :
-        Checking seen start left
-        → 0 < left
-        → layerFailing s file start ≡ 0
-        → getD seen z false ≡ false
-        → Checking (set seen z true) (start + layerLength s) (left - 1)
-    checking-next i h e f =
-        record {
-          long = length-set seen z true ∙ i .long;
-          same = sym (ap (λ (t : Bool). cond t 24 (layersFailing s file (left - 1) (start + layerLength s) (set seen z true))) f) ∙ checking-right i h e;
-        }
+    pub checking-refused : (n : ℕ) → n ≡ firstFailing layer → (n ≡ 0 → ⊥) → n ≡ failing
+    checking-refused n e f = refused-first own rest n (refused-first layer order n e f) f ∙ next
+
+    module _ (e : firstFailing layer ≡ 0) (b : z < 64) where
+      -- 24, or none
+      last : (t : Bool) → getD flags z false ≡ t → cond t 24 0 ≡ firstFailing own
+      last true g = held-first layer order 0 (sym e) refl refl 24 (sym (fails-first 24 _ [] (sym (i .flagged .agree z b) ∙ g)))
+      last false g = held-first layer order 0 (sym e) refl refl 0 (sym (holds-first 24 _ [] (sym (i .flagged .agree z b) ∙ g) ∙ none))
+        where
+          none : firstFailing [] ≡ 0
+          none = unfold firstFailing in refl
+
+      pub checking-seen : getD flags z false ≡ true → 24 ≡ failing
+      checking-seen g = refused-first own rest 24 (last true g) (λ q. omega arith) ∙ next
+
+      pub checking-next : getD flags z false ≡ false → Checking (set flags z true) (start + layerLength s) (left - 1)
+      checking-next g =
+          record {
+            seen = z ∷ i .seen;
+            flagged = flags-set flags (i .seen) z b (i .flagged);
+            same = held-first own rest 0 (last false g) refl refl _ refl ∙ next;
+          }
 
   pub checking-done :
-      (seen : List Bool) (start left : ℕ) → Checking seen start left → left ≤ 0 → (t : Bool) → ltb start (length file) ≡ t → cond t 25 0 ≡ failing
-  unfolding layersFailing
-  checking-done seen start zero i h t e = ap (λ (u : Bool). cond u 25 0) (sym e) ∙ i .same
-  checking-done seen start (suc left) i h t e = let z : ⊥ = omega arith in absurd z
+      (flags : List Bool) (start left : ℕ) → Checking flags start left → left ≤ 0 → (t : Bool) → ltb start (length file) ≡ t → cond t 25 0 ≡ failing
+  unfolding layersChecks firstFailing
+  checking-done flags start zero i h t e = ap (λ (u : Bool). cond u 25 0) (sym e) ∙ i .same
+  checking-done flags start (suc left) i h t e = let z : ⊥ = omega arith in absurd z

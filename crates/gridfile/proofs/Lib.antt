@@ -1,6 +1,4 @@
-pub mod Records
-pub mod Checking
-pub mod Values
 pub mod Headers
-pub mod Spreading
-pub mod Reading
+pub mod Checking
+pub mod Filled
+pub mod Examples

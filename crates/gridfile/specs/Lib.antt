@@ -1,2 +1,2 @@
-pub mod Checks
-pub mod Layer
+pub mod File
+pub mod Examples

@@ -1,4 +1,4 @@
--- The test of a block from the bits of its touched cells: kinds by masked counts of ones, groups by the rank. Assumes nothing.
+-- The test of a block from the bits of its touched cells: kinds by masked counts of ones, groups by the rank.
 use mathlib.Core.Path.{_≡_, refl, sym, ap, _∙_, subst₂}
 use mathlib.Core.Bool.{Bool, true, false, _&&_}
 use mathlib.Core.List.{List, [], _∷_, _++_}
@@ -10,19 +10,16 @@ use lib.Count.{ones, ones-le}
 use lib.ListN.{length}
 use Rattle.cells.specs.Groups.{any, consIf, those}
 use Rattle.cells.specs.Cells.{contains, places, touched, dimension, countOf, testOf, test}
-use Rattle.cells.specs.Rank.{rankBy, rank}
-use Rattle.cells.proofs.Lists.{those-append}
-use Rattle.cells.proofs.EveryBlock.{place-lt, touched-ext, euler, k-by-rank}
-use Rattle.local_test.specs.Bits.{has, bits}
-use Rattle.local_test.proofs.Bits.{bits-lt, has-bits, bits-and, upFrom, ones-bits}
+use Rattle.closed_sets.specs.Rank.{rankBy, rank}
+use Rattle.prelude.proofs.Lists.{those-append}
+use Rattle.closed_sets.proofs.EveryBlock.{place-lt, test-ext, euler, k-by-rank}
+use Rattle.bits.specs.Bits.{has, bits}
+use Rattle.bits.proofs.Bits.{bits-lt, has-bits, bits-and, upFrom, ones-bits}
 
 -- ---- the test goes by the bits of the kept voxels
 
-touched-bits : (kept : ℕ → Bool) → touched (has (bits 27 kept)) ≡ touched kept
-touched-bits kept = touched-ext (has (bits 27 kept)) kept (λ v m. has-bits 27 kept v (place-lt v m))
-
-pub touched-of-bits : (kept : ℕ → Bool) {x t : ℕ} → x ≡ bits 27 kept → t ≡ bits 27 (touched (has x)) → t ≡ bits 27 (touched kept)
-touched-of-bits kept p q = q ∙ ap (λ (x : ℕ). bits 27 (touched (has x))) p ∙ ap (bits 27) (touched-bits kept)
+pub test-of-bits : (kept : ℕ → Bool) {x : ℕ} → x ≡ bits 27 kept → test (has x) ≡ test kept
+test-of-bits kept e = ap (λ (x : ℕ). test (has x)) e ∙ test-ext (has (bits 27 kept)) kept (λ v m. has-bits 27 kept v (place-lt v m))
 
 -- ---- counts of ones
 

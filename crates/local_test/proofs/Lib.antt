@@ -1,5 +1,4 @@
-pub mod Bits
-pub mod Rows
+pub mod Sources
 pub mod Spread
 pub mod Counts
 pub mod Pass

@@ -1,4 +1,4 @@
--- The pass by two counts of ones: where the touched cells differ from the edges, and the touched corners. Assumes nothing.
+-- The pass by two counts of ones: where the touched cells differ from the edges, and the touched corners.
 use mathlib.Core.Path.{_≡_, refl, sym, ap, _∙_}
 use mathlib.Core.Bool.{Bool, true, false, not, _&&_, _||_, true≢false}
 use mathlib.Core.List.{List, [], _∷_}
@@ -11,11 +11,11 @@ use lib.ListN.{length}
 use borrow.Author.Tests.{eqb-true, eq-eqb}
 use Rattle.cells.specs.Groups.{any, those}
 use Rattle.cells.specs.Cells.{bit, places, touched, dimension, countOf, testOf, test, passes}
-use Rattle.cells.proofs.Bools.{and-true, true-and, both-ways}
-use Rattle.cells.proofs.Lists.{Mem, here, there}
-use Rattle.cells.proofs.EveryBlock.{all-in}
-use Rattle.local_test.specs.Bits.{bits}
-use Rattle.local_test.proofs.Bits.{bits-xor, unlike, length-consIf}
+use Rattle.prelude.proofs.Bools.{and-true, true-and, both-ways}
+use Rattle.prelude.proofs.Lists.{Mem, here, there}
+use Rattle.closed_sets.proofs.EveryBlock.{all-in}
+use Rattle.bits.specs.Bits.{bits}
+use Rattle.bits.proofs.Bits.{bits-xor, unlike, length-consIf}
 use Rattle.local_test.proofs.Counts.{touched-middle, ones-places, isOf, those-both, edge-mask, Counted}
 
 -- ---- a sum over cells, from the sum at each

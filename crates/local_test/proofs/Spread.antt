@@ -1,65 +1,24 @@
--- The touched cells by three steps, one along each axis: a step copies the middle of the axis to both ends. Assumes nothing.
+-- The touched cells by three steps, one along each axis: a step copies the middle of the axis to both ends.
 use mathlib.Core.Path.{_≡_, refl, sym, ap, ap₂, _∙_, subst}
 use mathlib.Core.Bool.{Bool, true, false, not, _&&_, _||_}
 use mathlib.Core.List.{List, [], _∷_, _++_}
 use Prim.Native.Nat.{ℕ, _+_, _-_, _*_, _/_, _%_, _^_, _<_}
 use native.Mathlib.Nat.{lt-of-le-of-lt, mul-le-mul-right, mod-eq-of-lt}
 use native.Mathlib.Omega.{arith}
-use lib.Dec.{eqb, leb, lit<}
+use lib.Dec.{leb, lit<}
 use lib.Pow.{shr-le}
 use lib.Bits.{bitAnd, bitOr, and-le-l, and-le-r, or-lt}
-use borrow.Author.Tests.{eqb-true}
 use Rattle.cells.specs.Groups.{any, consIf, those}
 use Rattle.cells.specs.Cells.{contains, places, touched}
-use Rattle.cells.proofs.Bools.{and-true, and-comm, or-zero, or-assoc, not-false, both-ways}
-use Rattle.cells.proofs.Lists.{any-true, true-any, any-false, any-ext, any-append}
-use Rattle.local_test.specs.Bits.{has, bits}
-use Rattle.local_test.proofs.Bits.{has-or, has-and, has-shr, has-shl, bits-has, bits-ext, below}
+use Rattle.prelude.proofs.Bools.{and-comm, or-zero, or-assoc}
+use Rattle.prelude.proofs.Lists.{any-ext}
+use Rattle.bits.specs.Bits.{has, bits}
+use Rattle.local_test.proofs.Sources.{any-consIf, any-those, bind, any-bind, within, any-same}
+use Rattle.bits.proofs.Bits.{has-or, has-and, has-shr, has-shl, bits-has, bits-ext, below}
 
 and-assoc : (p q r : Bool) → (p && (q && r)) ≡ ((p && q) && r)
 and-assoc true q r = refl
 and-assoc false q r = refl
-
--- ---- any
-
-any-consIf : (b : Bool) (p : ℕ → Bool) (x : ℕ) (xs : List ℕ) → any p (consIf b x xs) ≡ (b && p x) || any p xs
-unfolding any
-any-consIf true p x xs = refl
-any-consIf false p x xs = refl
-
-any-those : (q p : ℕ → Bool) (xs : List ℕ) → any p (those q xs) ≡ any (λ x. q x && p x) xs
-unfolding any those
-any-those q p [] = refl
-any-those q p (x ∷ xs) = any-consIf (q x) p x (those q xs) ∙ ap (λ (b : Bool). (q x && p x) || b) (any-those q p xs)
-
-abbrev bind : (ℕ → List ℕ) → List ℕ → List ℕ
-bind f [] = []
-bind f (x ∷ xs) = f x ++ bind f xs
-
-any-bind : (p : ℕ → Bool) (f : ℕ → List ℕ) (xs : List ℕ) → any (λ x. any p (f x)) xs ≡ any p (bind f xs)
-unfolding any
-any-bind p f [] = refl
-any-bind p f (x ∷ xs) = ap (λ (b : Bool). any p (f x) || b) (any-bind p f xs) ∙ sym (any-append p (f x) (bind f xs))
-
-abbrev within : List ℕ → List ℕ → Bool
-within xs ys = not (any (λ x. not (any (eqb x) ys)) xs)
-
-any-within : (p : ℕ → Bool) (xs ys : List ℕ) → within xs ys ≡ true → any p xs ≡ true → any p ys ≡ true
-any-within p xs ys w h =
-    let r = any-true p xs h in
-    let x = r .0 in
-    let out = any-false (λ x. not (any (eqb x) ys)) xs (none (any (λ x. not (any (eqb x) ys)) xs) w) x (r .1) in
-    let s = any-true (eqb x) ys (not-false (any (eqb x) ys) out) in
-    true-any p ys (s .0) (s .1) (subst (λ (z : ℕ). p z ≡ true) (eqb-true x (s .0) (s .2)) (r .2))
-  where
-    none : (b : Bool) → not b ≡ true → b ≡ false
-    none true e = sym e
-    none false e = refl
-
-any-same : (p : ℕ → Bool) (xs ys : List ℕ) → (within xs ys && within ys xs) ≡ true → any p xs ≡ any p ys
-any-same p xs ys h =
-    let w = and-true (within xs ys) (within ys xs) h in
-    both-ways (any p xs) (any p ys) (any-within p xs ys (w .0)) (any-within p ys xs (w .1))
 
 -- ---- a step: stride j, the middle cells m
 

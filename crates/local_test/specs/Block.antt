@@ -5,7 +5,7 @@ use Prim.Native.Nat.{ℕ, _/_, _%_}
 use lib.ListN.{getD}
 use Rattle.cells.specs.Cells.{Test}
 use Rattle.local_test.specs.declared.Local.{Local}
-use Rattle.local_test.specs.Bits.{has}
+use Rattle.bits.specs.Bits.{has}
 
 -- three layers of three rows, a row as three bits: whether the voxel at a place of the block is kept
 abbrev pub keptIn : List (List ℕ) → ℕ → Bool

@@ -1,12 +1,10 @@
 // The 26-neighbour test of document 01. The touched cells are the bits of one number, at x + 3 y + 9 z with the middle left out; masked
 // counts of ones give their kinds, and the rank of the touched edges gives their groups.
 ghost use mathlib.Core.Path.{_≡_};
-ghost use mathlib.Core.List.{[], _∷_};
 ghost use Prim.Native.Nat.{_+_, _≤_};
-ghost use lib.ListN.{getD};
 ghost use Rattle.cells.specs.Cells.{bit, touched, test, passes};
-ghost use Rattle.cells.specs.Rank.{rank, rankOf3, rankOf4};
-ghost use Rattle.local_test.specs.Bits.{has, bits};
+ghost use Rattle.closed_sets.specs.Rank.{rank, rankOf3, rankOf4};
+ghost use Rattle.bits.specs.Bits.{has, bits};
 ghost use Rattle.local_test.specs.Block.{keptIn, keptInLayer, asTest};
 
 // The groups of touched cells and of bare ones, and the kinds of the touched cells.
@@ -22,13 +20,6 @@ fn wide(x: u8) -> u32
     ensures { λ r. ⌜ r ≡ x ⌝ }
 {
     x as u32
-}
-
-// Three voxels as a row. A voxel's status is 0 where it is gone, 1 or 3 where it is kept: bit 0 says which.
-pub fn row(a: u8, b: u8, c: u8) -> u8
-    ensures { λ r. ⌜ r ≡ bits 3 (λ x. has (getD (a ∷ b ∷ c ∷ []) x 0) 0) ⌝ }
-{
-    a & 1 | (b & 1) << 1 | (c & 1) << 2
 }
 
 // The kept voxels of a layer: its rows side by side.
@@ -98,11 +89,11 @@ fn rank(t: u32) -> u32
     at0 + at8 + at20 + at24 + odd
 }
 
-// The test of a block.
-pub fn local_test(block: [[u8; 3]; 3]) -> Local
-    ensures { λ r. ⌜ asTest r ≡ test (keptIn block) ⌝ }
+// The test of a block, from its kept voxels as bits.
+pub fn local_test_of(kept: u32) -> Local
+    ensures { λ r. ⌜ asTest r ≡ test (has kept) ⌝ }
 {
-    let t = touched_bits(block_bits(block));
+    let t = touched_bits(kept);
     let r = rank(t);
     let corners = u32::count_ones(t & 0o505000505);
     let edges = u32::count_ones(t & 0o252505252);
@@ -116,11 +107,20 @@ pub fn local_test(block: [[u8; 3]; 3]) -> Local
     }
 }
 
-// Whether the middle of a block may go: k = 1 and m = 1.
-pub fn passes(block: [[u8; 3]; 3]) -> bool
-    ensures { λ r. ⌜ r ≡ passes (test (keptIn block)) ⌝ }
+// Whether the middle of a block may go: k = 1 and m = 1. Most that may not fail by the Euler count alone, so it is asked first.
+pub fn passes(kept: u32) -> bool
+    ensures { λ r. ⌜ r ≡ passes (test (has kept)) ⌝ }
 {
-    let t = touched_bits(block_bits(block));
-    let r = rank(t);
-    (u32::count_ones(t ^ 0o252505252) == 13) & (u32::count_ones(t & 0o505000505) == r + 1)
+    let t = touched_bits(kept);
+    if u32::count_ones(t ^ 0o252505252) != 13 {
+        return false;
+    }
+    u32::count_ones(t & 0o505000505) == rank(t) + 1
+}
+
+// The test of a block of three layers of three rows.
+pub fn local_test(block: [[u8; 3]; 3]) -> Local
+    ensures { λ r. ⌜ asTest r ≡ test (keptIn block) ⌝ }
+{
+    local_test_of(block_bits(block))
 }

@@ -1,5 +1,5 @@
-pub mod Greatest
-pub mod Words
-pub mod Nodes
-pub mod Blocks
-pub mod Root
+pub mod Offsets
+pub mod Indexing
+pub mod Held
+pub mod Changes
+pub mod Choosing

@@ -1,65 +1,104 @@
--- The index of pending voxels: a winner tree over blocks of 32 consecutive voxels, and what it answers.
+-- The index of pending voxels: for each stretch of voxels the offset of its best, and a winner tree over groups of stretches, for any key;
+-- and what the index of today's key answers.
 use mathlib.Core.Path.{_≡_}
-use mathlib.Core.Logic.{_⊎_}
+use mathlib.Core.Bool.{true, false, cond}
 use mathlib.Core.List.{List}
 use mathlib.Core.Option.{Option, none, some}
-use Prim.Native.Nat.{ℕ, _+_, _-_, _*_, _/_, _≤_, _<_, max}
+use Prim.Native.Nat.{ℕ, _+_, _-_, _*_, _/_, _%_, _≤_, _<_, min}
+use lib.Dec.{eqb, ltb}
 use lib.IntN.{ℤ}
-use lib.ListN.{length, getD}
-use Rattle.rules.specs.declared.Record.{Record}
+use lib.ListN.{length, getD, set}
+use Rattle.rules.specs.declared.Sides.{Sides}
 use Rattle.rules.specs.Grid.{size}
-use Rattle.rules.specs.Machine.{state, statusOf, isPending, firstOf}
+use Rattle.rules.specs.Status.{statusOf, pendingByte, woken, isPending, firstOf}
+use Rattle.rules.specs.Machine.{farther}
+use Rattle.keys.specs.Key.{most, Lent, keyAt, voxelKey, voxelOf, greatest, width, stretches, stretchKey}
+use Rattle.winners.specs.Tree.{Nodes}
 use Rattle.pending.specs.declared.Choice.{Choice}
 use Rattle.pending.specs.declared.Choice.the-variants.{Nothing, At}
-use Rattle.pending.specs.Word.{most, wordAt, greatest}
 
--- 0 gone, 1 kept, 3 kept and pending
-abbrev pub Known : ℕ → Type 0
-Known s = (s ≤ 1) ⊎ (s ≡ 3)
+-- ---- the offset of a stretch's best voxel, in place of its key
 
--- the lent buffers
-pub record Lent (dist : List ℤ) (status : List ℕ) : Type 0 where
-  pub same : length dist ≡ length status
-  pub some : 1 ≤ length status
-  pub few : length status ≤ most
-  pub known : (j : ℕ) → j < length status → Known (statusOf status j)
+-- width where there is none
+unfoldable pub offsetOf : ℕ → ℕ
+offsetOf w = cond (eqb w 0) width (voxelOf w % width)
 
--- ---- blocks of voxels
+pub record Offset (key : ℕ → ℕ) (k o : ℕ) : Type 0 where
+  pub high : o ≤ width
+  pub off : o ≡ width → stretchKey key k ≡ 0
+  pub on : o < width → stretchKey key k ≡ key (width * k + o)
+  pub some : o < width → 0 < stretchKey key k
 
-abbrev pub width : ℕ
-width = 32
+pub record Offsets (key : ℕ → ℕ) (p : ℕ) (offsets : List ℕ) : Type 0 where
+  pub room : p ≤ length offsets
+  pub each : (k : ℕ) → k < p → Offset key k (getD offsets k 0)
 
--- how many blocks n voxels have; the last may end early
-abbrev pub blocks : ℕ → ℕ
-blocks n = (n + (width - 1)) / width
+-- the voxel that an offset leads to, read also where there is none
+abbrev pub heldAt : List ℕ → ℕ → ℕ
+heldAt offsets k = width * k + getD offsets k 0 % width
 
--- the greatest word of block k
-unfoldable pub blockWord : List ℤ → List ℕ → ℕ → ℕ
-blockWord dist status k = greatest (wordAt dist status) (width * k) width
+unfoldable pub heldKey : List ℤ → List ℕ → ℕ → ℕ
+heldKey dist offsets k = cond (ltb (getD offsets k 0) width) (voxelKey dist (heldAt offsets k)) 0
 
--- ---- a winner tree with p leaves, at p .. 2 p - 1, and inner nodes 1 .. p - 1
+pub record Held (dist : List ℤ) (offsets : List ℕ) : Type 0 where
+  pub few : length dist ≤ most
+  pub room : stretches (length dist) ≤ length offsets
+  pub inside : (k : ℕ) → k < stretches (length dist) → heldAt offsets k < length dist
 
--- node i is the greater of its children
-abbrev pub Joined : List ℕ → ℕ → Type 0
-Joined tree i = getD tree i 0 ≡ max (getD tree (2 * i) 0) (getD tree (2 * i + 1) 0)
+-- ---- groups of stretches
 
-pub record Nodes (p : ℕ) (tree : List ℕ) : Type 0 where
-  pub room : 2 * p ≤ length tree
-  pub node : (i : ℕ) → 1 ≤ i → i < p → Joined tree i
+abbrev pub group : ℕ
+group = 8
 
--- the tree before and after leaf k became v
-pub record Changed (p k v : ℕ) (before after : List ℕ) : Type 0 where
-  pub same : length after ≡ length before
-  pub nodes : Nodes p after
-  pub here : getD after (p + k) 0 ≡ v
-  pub others : (m : ℕ) → m < p → (m ≡ k → ⊥) → getD after (p + m) 0 ≡ getD before (p + m) 0
+-- how many groups p stretches have; the last may end early
+abbrev pub groups : ℕ → ℕ
+groups p = (p + (group - 1)) / group
 
--- ---- the index
+-- the greatest key of group q
+unfoldable pub groupKey : (ℕ → ℕ) → ℕ → ℕ
+groupKey key q = greatest (stretchKey key) (group * q) group
 
-pub record Index (dist : List ℤ) (status : List ℕ) (tree : List ℕ) : Type 0 where
+-- .. from the offsets
+unfoldable pub heldGroup : List ℤ → List ℕ → ℕ → ℕ
+heldGroup dist offsets q = greatest (heldKey dist offsets) (group * q) (min group (stretches (length dist) - group * q))
+
+-- room for h leaves
+pub record Leafing (dist : List ℤ) (offsets tree : List ℕ) (h : ℕ) : Type 0 where
+  pub held : Held dist offsets
+  pub count : h ≡ groups (stretches (length dist))
+  pub room : 2 * h ≤ length tree
+
+-- ---- the index of n voxels, for any key
+
+pub record Indexed (key : ℕ → ℕ) (n : ℕ) (offsets tree : List ℕ) : Type 0 where
+  pub offset : Offsets key (stretches n) offsets
+  pub nodes : Nodes (groups (stretches n)) tree
+  pub leaf : (q : ℕ) → q < groups (stretches n) → getD tree (groups (stretches n) + q) 0 ≡ groupKey key q
+
+pub record Index (dist : List ℤ) (status offsets tree : List ℕ) : Type 0 where
   pub lent : Lent dist status
-  pub nodes : Nodes (blocks (length status)) tree
-  pub leaf : (k : ℕ) → k < blocks (length status) → getD tree (blocks (length status) + k) 0 ≡ blockWord dist status k
+  pub index : Indexed (keyAt dist status) (length status) offsets tree
+
+-- room for it
+pub record Room (dist : List ℤ) (status offsets tree : List ℕ) : Type 0 where
+  pub lent : Lent dist status
+  pub stretched : stretches (length status) ≤ length offsets
+  pub grouped : 2 * groups (stretches (length status)) ≤ length tree
+
+-- ---- a status byte is written
+
+pub record Clearing (dist : List ℤ) (status offsets tree : List ℕ) (j s : ℕ) : Type 0 where
+  pub index : Index dist status offsets tree
+  pub inside : j < length status
+  pub idle : pendingByte s ≡ false
+
+pub record Written (dist : List ℤ) (before after offsets tree : List ℕ) (j s : ℕ) : Type 0 where
+  pub status : after ≡ set before j s
+  pub index : Index dist after offsets tree
+
+-- the byte is made pending
+abbrev pub Raised : List ℤ → List ℕ → List ℕ → List ℕ → List ℕ → ℕ → Type 0
+Raised dist before after offsets tree j = Written dist before after offsets tree j (woken (statusOf before j))
 
 -- ---- the answer
 
@@ -69,7 +108,7 @@ chosen (At j) = some j
 
 -- document 01's choice among the pending voxels of a grid with these buffers
 pub record Best (dist : List ℤ) (status : List ℕ) (c : Choice) : Type 0 where
-  pub rule : (r : Record) → size (r .sides) ≡ length status
-      → chosen c ≡ firstOf (state r dist status) (isPending (state r dist status))
+  pub rule : (s : Sides) → size s ≡ length status → chosen c ≡ firstOf s (farther dist) (isPending status)
   pub inside : (j : ℕ) → c ≡ At j → j < length status
-  pub pending : (j : ℕ) → c ≡ At j → statusOf status j ≡ 3
+  pub pending : (j : ℕ) → c ≡ At j → isPending status j ≡ true
+  pub nothing : c ≡ Nothing → (j : ℕ) → j < length status → isPending status j ≡ false

@@ -1,18 +1,23 @@
-// The index of pending voxels: a winner tree over blocks of consecutive voxels. A leaf is the greatest word of its block, an inner node the
-// greater of its children, so that the root is the word of the voxel to examine next. An operation rescans one block at most.
+// The index of pending voxels. Each stretch of voxels keeps the offset of its pending voxel of greatest key; a winner tree over groups of
+// stretches keeps keys, so that its root is the key of the voxel to examine next. An operation rescans one stretch and reads one group.
 ghost use mathlib.Core.Path.{_≡_};
-ghost use mathlib.Core.List.{List};
-ghost use Prim.Native.Nat.{ℕ, _+_, _-_, _*_, _/_, _%_, _≤_, _<_, max};
-ghost use lib.ListN.{length, getD, set};
+ghost use Prim.Native.Nat.{ℕ, _+_, _-_, _*_, _≤_, _<_};
+ghost use lib.ListN.{length, getD};
 ghost use mir.Syntax.{w32};
 ghost use mir.Val.{SFits};
 ghost use Rattle.rules.specs.Grid.{distanceAt};
-ghost use Rattle.rules.specs.Machine.{statusOf};
-ghost use Rattle.pending.specs.Word.{most, levelOf, wordOf, wordAt, greatest};
-ghost use Rattle.pending.specs.Index.{Known, Lent, width, blocks, blockWord, Nodes, Changed, Index, Best};
+ghost use Rattle.rules.specs.Status.{woken};
+ghost use Rattle.keys.specs.Key.{most, Lent, keyAt, voxelOf, greatest, stretches};
+ghost use Rattle.pending.specs.Index.{offsetOf, Held, heldKey, heldGroup, Leafing, groups, Offsets, Room, Index, Clearing, Written, Raised, Best};
 
-// How many voxels make a block.
-const WIDTH: usize = 32;
+// How many voxels make a stretch.
+const WIDTH: usize = 64;
+
+// How many stretches make a group.
+const GROUP: usize = 8;
+
+// The offset of a stretch with nothing pending.
+const NONE: u8 = 64;
 
 // The greatest number of voxels, 2^18.
 const MOST: u64 = 262144;
@@ -23,204 +28,158 @@ pub enum Choice {
     At(usize),
 }
 
-fn greater(x: u64, y: u64) -> u64
-    ensures { λ r. ⌜ r ≡ max x y ⌝ }
-{
-    if x < y { y } else { x }
-}
-
-// A distance raised by 2^31, so that it is never negative.
-fn level(d: i32) -> u64
-    ensures { λ r. ⌜ (r ≡ levelOf d) × (r < 4294967296) ⌝ }
-{
-    let e = d as i64;
-    (e + 2147483648) as u64
-}
-
-// The word of voxel j: a product with the pending bit, since a test would become a branch.
-fn word(d: i32, s: u8, j: usize) -> u64
-    requires { ⌜ (j < most) × Known s ⌝ }
-    ensures { λ r. ⌜ r ≡ wordOf d s j ⌝ }
-{
-    let g = level(d);
-    let i = j as u64;
-    let h = s / 2;
-    (g * MOST + (MOST - i)) * (h as u64)
-}
-
-fn word_at(dist: &[i32], status: &[u8], j: usize) -> u64
-    requires { ⌜ Lent (now dist) (now status) × (j < length (now status)) ⌝ }
-    ensures { λ r. ⌜ r ≡ wordAt (now (dist .entry)) (now (status .entry)) j ⌝ }
-{
-    let d = dist[j];
-    word(d, status[j], j)
-}
-
-// The greatest word of four voxels.
-fn four(dist: &[i32], status: &[u8], j: usize) -> u64
-    requires { ⌜ Lent (now dist) (now status) × (j + 4 ≤ length (now status)) ⌝ }
-    ensures { λ r. ⌜ r ≡ greatest (wordAt (now (dist .entry)) (now (status .entry))) j 4 ⌝ }
-{
-    let p = greater(word_at(dist, status, j), word_at(dist, status, j + 1));
-    let q = greater(word_at(dist, status, j + 2), word_at(dist, status, j + 3));
-    greater(p, q)
-}
-
-// The greatest word of a whole block.
-fn whole(dist: &[i32], status: &[u8], at: usize) -> u64
-    requires { ⌜ Lent (now dist) (now status) × (at + width ≤ length (now status)) ⌝ }
-    ensures { λ r. ⌜ r ≡ greatest (wordAt (now (dist .entry)) (now (status .entry))) at width ⌝ }
-{
-    let mut g: u64 = 0;
-    let mut k: usize = 0;
-    while k < WIDTH {
-        g = greater(g, four(dist, status, at + k));
-        k += 4;
-    }
-    g
-}
-
-// The greatest word of the voxels from at to the last.
-fn rest(dist: &[i32], status: &[u8], at: usize) -> u64
-    requires { ⌜ Lent (now dist) (now status) × (at ≤ length (now status)) ⌝ }
-    ensures { λ r. ⌜ r ≡ greatest (wordAt (now (dist .entry)) (now (status .entry))) at (length (now (status .entry)) - at) ⌝ }
-{
-    let mut g: u64 = 0;
-    let mut j = at;
-    while j < status.len() {
-        g = greater(g, word_at(dist, status, j));
-        j += 1;
-    }
-    g
-}
-
-// The greatest word of block k.
-fn block(dist: &[i32], status: &[u8], k: usize) -> u64
-    requires { ⌜ Lent (now dist) (now status) × (k < blocks (length (now status))) ⌝ }
-    ensures { λ r. ⌜ r ≡ blockWord (now (dist .entry)) (now (status .entry)) k ⌝ }
-{
-    let at = WIDTH * k;
-    if at + WIDTH <= status.len() {
-        return whole(dist, status, at);
-    }
-    rest(dist, status, at)
-}
-
-// Makes the leaves of a tree with p of them.
-fn fill_leaves(dist: &[i32], status: &[u8], tree: &mut [u64], p: usize)
-    requires { ⌜ Lent (now dist) (now status) × (p ≡ blocks (length (now status))) × (2 * p ≤ length (now tree)) ⌝ }
-    ensures { λ _. ⌜ ((k : ℕ) → k < p → getD (now (tree .exit)) (p + k) 0 ≡ blockWord (now (dist .entry)) (now (status .entry)) k) ⌝ }
-{
-    let mut k: usize = 0;
-    while k < p {
-        tree[p + k] = block(dist, status, k);
-        k += 1;
-    }
-}
-
-// Makes the inner nodes of a tree with p leaves.
-fn join_nodes(tree: &mut [u64], p: usize)
-    requires { ⌜ (1 ≤ p) × (2 * p ≤ length (now tree)) ⌝ }
-    ensures { λ _. ⌜ Nodes p (now (tree .exit)) × ((m : ℕ) → p ≤ m → getD (now (tree .exit)) m 0 ≡ getD (now (tree .entry)) m 0) ⌝ }
-{
-    let mut i = p;
-    while 1 < i {
-        i -= 1;
-        tree[i] = greater(tree[2 * i], tree[2 * i + 1]);
-    }
-}
-
-// The number of blocks of n voxels; the last may end early.
-fn count_blocks(n: usize) -> usize
+// The number of stretches of n voxels; the last may end early.
+fn count_stretches(n: usize) -> usize
     requires { ⌜ n ≤ most ⌝ }
-    ensures { λ r. ⌜ r ≡ blocks n ⌝ }
+    ensures { λ r. ⌜ r ≡ stretches n ⌝ }
 {
     (n + (WIDTH - 1)) / WIDTH
 }
 
+// The number of their groups; the last may end early.
+fn count_groups(n: usize) -> usize
+    requires { ⌜ n ≤ most ⌝ }
+    ensures { λ r. ⌜ r ≡ groups (stretches n) ⌝ }
+{
+    (count_stretches(n) + (GROUP - 1)) / GROUP
+}
+
+// The offset of a key's voxel in its stretch.
+fn offset_of(w: u64) -> u8
+    ensures { λ r. ⌜ r ≡ offsetOf w ⌝ }
+{
+    if w == 0 {
+        return NONE;
+    }
+    ((MOST - 1 - (w - 1) % MOST) % 64) as u8
+}
+
+fn index(x: u8) -> usize
+    ensures { λ r. ⌜ r ≡ x ⌝ }
+{
+    x as usize
+}
+
+// The greatest key of stretch k, from its offset. Where there is none the stretch's first voxel is read, and dropped.
+fn held_key(dist: &[i32], offsets: &[u8], k: usize) -> u64
+    requires { ⌜ Held (now dist) (now offsets) × (k < stretches (length (now dist))) ⌝ }
+    ensures { λ r. ⌜ r ≡ heldKey (now (dist .entry)) (now (offsets .entry)) k ⌝ }
+{
+    let o = index(offsets[k]);
+    let w = keys::voxel_key(dist, WIDTH * k + o % WIDTH);
+    if o < WIDTH { w } else { 0 }
+}
+
+// The greatest key of some stretches.
+fn some_stretches(dist: &[i32], offsets: &[u8], first: usize, count: usize) -> u64
+    requires { ⌜ Held (now dist) (now offsets) × (first + count ≤ stretches (length (now dist))) ⌝ }
+    ensures { λ r. ⌜ r ≡ greatest (heldKey (now (dist .entry)) (now (offsets .entry))) first count ⌝ }
+{
+    let mut g: u64 = 0;
+    let mut c: usize = 0;
+    while c < count {
+        g = winners::greater(g, held_key(dist, offsets, first + c));
+        c += 1;
+    }
+    g
+}
+
+// The greatest key of group q.
+fn group_key(dist: &[i32], offsets: &[u8], q: usize) -> u64
+    requires { ⌜ Held (now dist) (now offsets) × (q < groups (stretches (length (now dist)))) ⌝ }
+    ensures { λ r. ⌜ r ≡ heldGroup (now (dist .entry)) (now (offsets .entry)) q ⌝ }
+{
+    let p = count_stretches(dist.len());
+    let first = GROUP * q;
+    if first + GROUP <= p {
+        return some_stretches(dist, offsets, first, GROUP);
+    }
+    some_stretches(dist, offsets, first, p - first)
+}
+
+// Makes the offsets of all stretches.
+fn fill_offsets(dist: &[i32], status: &[u8], offsets: &mut [u8])
+    requires { ⌜ Lent (now dist) (now status) × (stretches (length (now status)) ≤ length (now offsets)) ⌝ }
+    ensures { λ _. ⌜ Offsets (keyAt (now (dist .entry)) (now (status .entry))) (stretches (length (now (status .entry)))) (now (offsets .exit)) ⌝ }
+{
+    let p = count_stretches(status.len());
+    let mut k: usize = 0;
+    while k < p {
+        offsets[k] = offset_of(keys::stretch(dist, status, k));
+        k += 1;
+    }
+}
+
+// Makes the leaves of a tree with h of them.
+fn fill_leaves(dist: &[i32], offsets: &[u8], tree: &mut [u64], h: usize)
+    requires { ⌜ Leafing (now dist) (now offsets) (now tree) h ⌝ }
+    ensures { λ _. ⌜ ((q : ℕ) → q < h → getD (now (tree .exit)) (h + q) 0 ≡ heldGroup (now (dist .entry)) (now (offsets .entry)) q) ⌝ }
+{
+    let mut q: usize = 0;
+    while q < h {
+        tree[h + q] = group_key(dist, offsets, q);
+        q += 1;
+    }
+}
+
+// A status byte made pending.
+fn wake(s: u8) -> u8
+    ensures { λ r. ⌜ r ≡ woken s ⌝ }
+{
+    s | 2
+}
+
 // The index of the lent buffers.
-pub fn build(dist: &[i32], status: &[u8], tree: &mut [u64])
-    requires { ⌜ Lent (now dist) (now status) × (2 * blocks (length (now status)) ≤ length (now tree)) ⌝ }
-    ensures { λ _. ⌜ Index (now (dist .entry)) (now (status .entry)) (now (tree .exit)) ⌝ }
+pub fn build(dist: &[i32], status: &[u8], offsets: &mut [u8], tree: &mut [u64])
+    requires { ⌜ Room (now dist) (now status) (now offsets) (now tree) ⌝ }
+    ensures { λ _. ⌜ Index (now (dist .entry)) (now (status .entry)) (now (offsets .exit)) (now (tree .exit)) ⌝ }
 {
-    let p = count_blocks(status.len());
-    fill_leaves(dist, status, tree, p);
-    join_nodes(tree, p);
+    let h = count_groups(dist.len());
+    fill_offsets(dist, status, offsets);
+    fill_leaves(dist, offsets, tree, h);
+    winners::join_nodes(tree, h);
 }
 
-// The other child of the node above i.
-fn sibling(i: usize) -> usize
-    requires { ⌜ i < 1048576 ⌝ }
-    ensures { λ r. ⌜ r + 2 * (i % 2) ≡ i + 1 ⌝ }
-{
-    i + 1 - 2 * (i % 2)
-}
-
-// Leaf k becomes v; the nodes above it are made anew, the greatest carried up.
-fn replace(tree: &mut [u64], p: usize, k: usize, v: u64)
-    requires { ⌜ Nodes p (now tree) × (k < p) × (p ≤ most) ⌝ }
-    ensures { λ _. ⌜ Changed p k v (now (tree .entry)) (now (tree .exit)) ⌝ }
-{
-    let mut i = p + k;
-    let mut g = v;
-    tree[i] = g;
-    while 1 < i {
-        g = greater(g, tree[sibling(i)]);
-        i /= 2;
-        tree[i] = g;
-    }
-}
-
-// Leaf k becomes at least w, and so do the nodes above it, up to the first that is.
-fn lift(tree: &mut [u64], p: usize, k: usize, w: u64)
-    requires { ⌜ Nodes p (now tree) × (k < p) × (p ≤ most) ⌝ }
-    ensures { λ _. ⌜ Changed p k (max (getD (now (tree .entry)) (p + k) 0) w) (now (tree .entry)) (now (tree .exit)) ⌝ }
-{
-    let mut i = p + k;
-    while 0 < i {
-        if w <= tree[i] {
-            return;
-        }
-        tree[i] = w;
-        i /= 2;
-    }
-}
-
-// Voxel j, pending or not, is of status s from now on, which is not pending.
-pub fn clear(dist: &[i32], status: &mut [u8], tree: &mut [u64], j: usize, s: u8)
-    requires { ⌜ Index (now dist) (now status) (now tree) × (j < length (now status)) × (s ≤ 1) ⌝ }
-    ensures { λ _. ⌜ (now (status .exit) ≡ set (now (status .entry)) j s) × Index (now (dist .entry)) (now (status .exit)) (now (tree .exit)) ⌝ }
+// Voxel j, pending or not, has the status byte s from now on, which is not pending.
+pub fn clear(dist: &[i32], status: &mut [u8], offsets: &mut [u8], tree: &mut [u64], j: usize, s: u8)
+    requires { ⌜ Clearing (now dist) (now status) (now offsets) (now tree) j s ⌝ }
+    ensures { λ _. ⌜ Written (now (dist .entry)) (now (status .entry)) (now (status .exit)) (now (offsets .exit)) (now (tree .exit)) j s ⌝ }
 {
     status[j] = s;
-    let p = count_blocks(status.len());
-    let v = block(dist, status, j / WIDTH);
-    replace(tree, p, j / WIDTH, v);
+    offsets[j / WIDTH] = offset_of(keys::stretch(dist, status, j / WIDTH));
+    let v = group_key(dist, offsets, j / WIDTH / GROUP);
+    let h = count_groups(dist.len());
+    winners::replace(tree, h, j / WIDTH / GROUP, v);
 }
 
-// Voxel j, which is not pending, is pending from now on.
-pub fn raise(dist: &[i32], status: &mut [u8], tree: &mut [u64], j: usize)
-    requires { ⌜ Index (now dist) (now status) (now tree) × (j < length (now status)) × (statusOf (now status) j ≤ 1) ⌝ }
-    ensures { λ _. ⌜ (now (status .exit) ≡ set (now (status .entry)) j 3) × Index (now (dist .entry)) (now (status .exit)) (now (tree .exit)) ⌝ }
+// Voxel j, pending or not, is pending from now on.
+pub fn raise(dist: &[i32], status: &mut [u8], offsets: &mut [u8], tree: &mut [u64], j: usize)
+    requires { ⌜ Index (now dist) (now status) (now offsets) (now tree) × (j < length (now status)) ⌝ }
+    ensures { λ _. ⌜ Raised (now (dist .entry)) (now (status .entry)) (now (status .exit)) (now (offsets .exit)) (now (tree .exit)) j ⌝ }
 {
-    status[j] = 3;
-    let p = count_blocks(status.len());
-    let d = dist[j];
-    lift(tree, p, j / WIDTH, word(d, 3, j));
+    status[j] = wake(status[j]);
+    let w = keys::voxel_key(dist, j);
+    if w <= held_key(dist, offsets, j / WIDTH) {
+        return;
+    }
+    let h = count_groups(dist.len());
+    offsets[j / WIDTH] = (j % WIDTH) as u8;
+    winners::lift(tree, h, j / WIDTH / GROUP, w);
 }
 
-// The voxel of a word that is not 0. That its distance fits 32 bits, on which the order of words rests, is known once it is read.
+// The voxel of a key that is not 0. That its distance fits 32 bits, on which the order of ranks rests, is known once it is read.
 fn voxel(dist: &[i32], w: u64) -> usize
-    requires { ⌜ (0 < w) × (most - 1 - (w - 1) % most < length (now dist)) ⌝ }
-    ensures { λ r. ⌜ (r ≡ most - 1 - (w - 1) % most) × SFits w32 (distanceAt (now (dist .entry)) r) ⌝ }
+    requires { ⌜ (0 < w) × (voxelOf w < length (now dist)) ⌝ }
+    ensures { λ r. ⌜ (r ≡ voxelOf w) × SFits w32 (distanceAt (now (dist .entry)) r) ⌝ }
 {
     let j = (MOST - 1 - (w - 1) % MOST) as usize;
     let _d = dist[j];
     j
 }
 
-// The pending voxel of greatest distance, of smallest index among equals.
-pub fn best(dist: &[i32], status: &[u8], tree: &[u64]) -> Choice
-    requires { ⌜ Index (now dist) (now status) (now tree) ⌝ }
+// The pending voxel that comes first.
+pub fn best(dist: &[i32], status: &[u8], offsets: &[u8], tree: &[u64]) -> Choice
+    requires { ⌜ Index (now dist) (now status) (now offsets) (now tree) ⌝ }
     ensures { λ r. ⌜ Best (now (dist .entry)) (now (status .entry)) r ⌝ }
 {
     let w = tree[1];

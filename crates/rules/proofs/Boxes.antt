@@ -1,4 +1,4 @@
--- The box of begin is the smallest that holds S, and lies off the grid's border where S does. Assumes nothing.
+-- The box of begin is the smallest that holds S, and lies off the grid's border where S does.
 use mathlib.Core.Path.{_≡_, ap₂, subst}
 use mathlib.Core.Logic.{_⊎_, inl, inr}
 use mathlib.Core.Bool.{true, false, _&&_, _||_}
@@ -9,8 +9,8 @@ use lib.Dec.{leb, ltb, eqb}
 use lib.IntN.{ℤ}
 use borrow.Author.Tests.{leb-true, le-leb, eqb-false, ne-eqb}
 use Rattle.cells.specs.Groups.{any}
-use Rattle.cells.proofs.Bools.{and-true, true-and, and-false, or-false, two, not-both}
-use Rattle.cells.proofs.Lists.{Mem, any-false}
+use Rattle.prelude.proofs.Bools.{and-true, true-and, and-false, or-false, two, not-both}
+use Rattle.prelude.proofs.Lists.{Mem, any-false}
 use Rattle.rules.specs.declared.Sides.{Sides}
 use Rattle.rules.specs.Grid.{size, voxel, voxels, end, onBorder, measuredNegative, valueAt}
 use Rattle.rules.specs.Begin.{least, greatest, isIn, inside, between, inBox}

@@ -1,34 +1,51 @@
--- The worked cases of document 01, by computation from the rules.
+-- The cases, by computation from the rules.
 use mathlib.Core.Path.{refl}
-use lib.Ieee.{add, sub, div, ofInt}
 use Rattle.cells.specs.Groups.{any, those, reached, others, enter, gather, groups}
 use Rattle.cells.specs.Cells.{contains, joined, touched, groupCount, dimension, countOf, testOf, test, passes}
-use Rattle.cells.proofs.Examples.{local-tests}
 use Rattle.rules.specs.Grid.{fitSides, size, index, voxel, from, voxels, onBorder, gap, near, touch, apart, steps, shareFace, blockOf, block, measuredNegative, measuredNonNegative}
-use Rattle.rules.specs.Answer.{unless}
-use Rattle.rules.specs.Begin.{least, greatest, isIn, negatives, larger, largest, inside, facing, greatestFacing, distance, workedAt, worked, inBox, exposed, statusAt, boxStatus, beginChecks, begun, begin}
-use Rattle.rules.specs.Machine.{isKept, isPending, isInside, removable, testAt, anyPending, farther, prefer, foremost, firstOf, statusWithout, without, examine, carving, carvedFrom, openable, toOpen, isNone, openedAt, closed, finishedAt, finishedOf, unfitCounts, unfitStatus, unfit, wrongLength, carve, openNext, finish}
-use Rattle.rules.specs.Surface.{share, moved, pointFrom, crossingOf, crossingAt, noNext, crossing}
-use Rattle.rules.specs.File.{readLayer, valuesOf, withLayer, readLayers, readUpTo, read, carveAndOpen, lineOf, carvedToEnd, lineFrom, lineAfterRead, programLine, decimal, lineText}
-use Rattle.rules.specs.Cases as cases
-use Rattle.rules.specs.Cases.{start, carved, caseA, caseC, layerD, valuesD, caseD, bytesD, fileD, CaseA, CaseC, CaseD, Cases}
+use Rattle.rules.specs.Checks.{unless}
+use Rattle.rules.specs.Begin.{least, greatest, isIn, negatives, larger, largest, inside, facing, greatestFacing, distance, workedAt, worked, inBox, exposed, statusAt, startStatus, begun, begin}
+use Rattle.rules.specs.Status.{keptByte, pendingByte, woken, rested, isKept, isPending, anyPending, testAt, prefer, foremost, firstOf, removable, statusWithout, without, examine, carving, openable}
+use Rattle.rules.specs.Machine.{isInside, outside, farther, unfitCounts, unfitVoxel, unfit, wrongLength, carved, carve, taken, take, toOpen, opened, openNext, closed, closedAt, finishedOf, finish}
+use Rattle.rules.specs.Cases.{start, carvedTo, ended, caseA, plate, valuesC, caseC, layerD, valuesD, caseD, valuesArc, arc, bar, CaseA, CaseC, CaseD, Arc, Bar, Numbers}
 
 -- all that a case computes with: to unfold this name is to unfold the rules
-unfoldable all-rules : Unit {0}
-unfolding any those reached others enter gather groups contains joined touched groupCount dimension countOf testOf test passes fitSides size index voxel from voxels onBorder gap near touch apart steps shareFace blockOf block measuredNegative measuredNonNegative unless least greatest isIn negatives larger largest inside facing greatestFacing distance workedAt worked inBox exposed statusAt boxStatus beginChecks begun begin isKept isPending isInside removable testAt anyPending farther prefer foremost firstOf statusWithout without examine carving carvedFrom openable toOpen isNone openedAt closed finishedAt finishedOf unfitCounts unfitStatus unfit wrongLength carve openNext finish share moved pointFrom crossingOf crossingAt noNext crossing add sub div ofInt readLayer valuesOf withLayer readLayers readUpTo read carveAndOpen lineOf carvedToEnd lineFrom lineAfterRead programLine decimal lineText start carved cases.closed caseA caseC layerD valuesD caseD bytesD fileD
+unfoldable pub all-rules : Unit {0}
+unfolding any those reached others enter gather groups contains joined touched groupCount dimension countOf testOf test passes fitSides size index voxel from voxels onBorder gap near touch apart steps shareFace blockOf block measuredNegative measuredNonNegative unless least greatest isIn negatives larger largest inside facing greatestFacing distance workedAt worked inBox exposed statusAt startStatus begun begin keptByte pendingByte woken rested isKept isPending anyPending testAt prefer foremost firstOf removable statusWithout without examine carving openable isInside outside farther unfitCounts unfitVoxel unfit wrongLength carved carve taken take toOpen opened openNext closed closedAt finishedOf finish start carvedTo ended caseA plate valuesC caseC layerD valuesD caseD valuesArc arc bar
 all-rules = tt
 
-case-a : CaseA
+pub case-a : CaseA
 unfolding all-rules
-case-a = record { worked = refl; nothing-pending = refl; point = refl }
+case-a = record { worked = refl; nothing-pending = refl }
 
-case-c : CaseC
+pub case-c : CaseC
 unfolding all-rules
-case-c = record { one-examination = refl; middle-filled = refl; opening = refl }
+case-c = record { one-examination = refl; middle-filled = refl; opening = refl; none-allowed = refl; none-left = refl; not-taken = refl }
 
-case-d : CaseD
+pub case-d : CaseD
 unfolding all-rules
-case-d = record { before = refl; first = refl; second = refl; file = refl; line = refl; text = refl }
+case-d = record { before = refl; first = refl; second = refl }
 
-pub worked-cases : Cases
-worked-cases = record { local-tests = local-tests; a = case-a; c = case-c; d = case-d }
+pub the-arc : Arc
+unfolding all-rules
+the-arc = record { first = refl; second = refl; end = refl }
+
+pub the-bar : Bar
+unfolding all-rules
+the-bar = record { stays = refl; pending-refused = refl; not-finished = refl; farthest-opened = refl; earliest-opened = refl }
+
+pub the-numbers : Numbers
+unfolding all-rules
+the-numbers =
+    record {
+      side = refl;
+      length = refl;
+      openings = refl;
+      removals = refl;
+      examinations = refl;
+      euler = refl;
+      finished = refl;
+      index = refl;
+      gone = refl;
+      inside = refl;
+    }

@@ -1,79 +1,118 @@
--- Demand 3 of document 01: it holds after every list of calls on a grid that begin accepts. Assumes nothing.
-use mathlib.Core.Path.{_≡_, subst}
-use mathlib.Core.Bool.{false}
-use mathlib.Core.List.{List}
-use Prim.Native.Nat.{ℕ, _<_}
+-- Demand 3 of document 01: it holds after every list of calls, from any body to start from, and so on every grid that begin accepts.
+use mathlib.Core.Path.{_≡_, refl, ap, sym, _∙_, subst}
+use mathlib.Core.Bool.{Bool, true, false}
+use mathlib.Core.List.{List, [], _∷_}
+use Prim.Native.Nat.{ℕ, _*_, _≤_, _<_}
 use native.Mathlib.Omega.{arith}
 use lib.Dec.{ltb}
-use lib.IntN.{ℤ}
+use lib.IntN.{ℤ, pos}
 use borrow.Author.Tests.{lt-ltb}
 use Rattle.cells.specs.Groups.{any}
-use Rattle.cells.proofs.Bools.{not-false, true-and}
+use Rattle.prelude.proofs.Bools.{not-false, true-and}
 use Rattle.rules.specs.declared.Sides.{Sides}
 use Rattle.rules.specs.declared.Record.{Record}
 use Rattle.rules.specs.Grid.{fitSides, size, voxels, measuredNegative, valueAt}
-use Rattle.rules.specs.Answer.{done}
-use Rattle.rules.specs.Begin.{isIn, inside, inBox, worked, boxStatus, newRecord, beginChecks, begun, begin}
-use Rattle.rules.specs.Machine.{State, state, isPending, testAt, anyPending}
+use Rattle.rules.specs.Checks.{AllHold}
+use Rattle.rules.specs.Answer.{done, untouched, buffers}
+use Rattle.rules.specs.Begin.{isIn, inside, inBox, worked, startStatus, newRecord, beginChecks, begun, begin}
+use Rattle.rules.specs.Status.{isPending, testAt, anyPending}
+use Rattle.rules.specs.Machine.{State, state, isInside}
 use Rattle.rules.specs.Demand.{Call, Sums, run, Demand, DemandIsMet}
-use Rattle.rules.proofs.Voxels.{any-below, none-below}
-use Rattle.rules.specs.Meaning.{found}
+use Rattle.rules.specs.Meaning.{found, negative}
+use Rattle.rules.proofs.Checks.{by-checks}
+use Rattle.prelude.proofs.Ranges.{any-below, none-below}
 use Rattle.rules.proofs.Places.{fit}
+use Rattle.rules.proofs.Inside.{inside-some}
 use Rattle.rules.proofs.Boxes.{checked-border}
 use Rattle.rules.proofs.Topology.Moves.{Inv}
-use Rattle.rules.proofs.Topology.Steps.{sets}
-use Rattle.rules.proofs.Topology.Calls.{Passing, by-checks, Keeps, run-keeps}
-use Rattle.rules.proofs.Topology.Start.{start-good}
+use Rattle.rules.proofs.Topology.Steps.{Sound, tally, sets}
+use Rattle.rules.proofs.Topology.Calls.{tallyOf, Good, run-keeps}
+use Rattle.rules.proofs.Topology.Start.{box-sound, worked-signs}
 
--- the clauses, from what every list of calls keeps
-from-kept : (s : Sides) (T : ℕ) (values dist : List ℤ) (status : List ℕ) (g : State) (a : Sums)
-    → Keeps (isIn (inside s values)) (found s (inBox s (inside s values))) (state (newRecord s T) dist status) g a → Demand s values g a
-unfolding testAt
-from-kept s T values dist status g a keeps =
-    let adds = keeps .adds in
-    let here = keeps .good .inv in
-    let inv : Inv s (isIn (inside s values)) (found s (inBox s (inside s values))) (sets g) =
-    subst (λ (t : Sides). Inv t (isIn (inside s values)) (found s (inBox s (inside s values))) (sets g)) (adds .sides) here in
-    let shape = inv .shape in
-    record {
-      inside-kept = inv .inside;
-      background-one-piece = shape .outside;
-      euler-of-body = shape .counted;
-      euler-of-openings = adds .euler;
-      unopened-one-piece = λ e. shape .unopened (omega (arith, adds .openings)) .0;
-      unopened-euler = λ e. shape .unopened (omega (arith, adds .openings)) .1;
-      none-passes = λ quiet i ki si. here .failing i ki si (still quiet i (here .shape .inner i ki .0));
-      examinations-bound = omega (arith, inv .bounded, adds .examinations, adds .removals);
-      openings-count = omega (arith, adds .openings);
-      removals-count = omega (arith, adds .removals);
-      examinations-count = omega (arith, adds .examinations);
-    }
-  where
-    still : anyPending g ≡ false → (i : ℕ) → i < size (g .rec .sides) → isPending g i ≡ false
-    still quiet i h = unfold anyPending voxels in none-below (isPending g) (size (g .rec .sides)) quiet i h
+not-pending : (s : Sides) (status : List ℕ) → anyPending s status ≡ false → (i : ℕ) → i < size s → isPending status i ≡ false
+unfolding anyPending voxels
+not-pending s status quiet = none-below (isPending status) (size s) quiet
+
+-- ---- any body to start from whose status bytes are sound, with distances whose signs are S
+
+module _ (s : Sides) (T : ℕ) (values : List ℤ) (start : ℕ → Bool) (dist : List ℤ) (status : List ℕ)
+    (sound : Sound s (isIn (inside s values)) (λ j. false) (found s start) status (tally 0 0 0 (pos 1)))
+    (signs : (i : ℕ) → i < size s → isInside dist i ≡ isIn (inside s values) i) where
+  abbrev S : ℕ → Bool
+  S = isIn (inside s values)
+
+  abbrev started : State
+  started = state (newRecord s T) dist status
+
+  pub good-start : Good S (λ j. false) (found s start) started
+  good-start = record { sound = sound; signs = λ f. signs }
+
+  pub from-start : (calls : List Call) → let after = run calls started in Demand s values start (after .end) (after .answers)
+  unfolding testAt
+  from-start calls =
+      let keeps = run-keeps S (λ j. false) (found s start) calls started good-start in
+      let adds = keeps .adds in
+      let g = run calls started .end in
+      let inv : Inv s S (λ j. false) (found s start) (sets (g .status) (tallyOf (g .rec))) =
+      subst (λ (t : Sides). Inv t S (λ j. false) (found s start) (sets (g .status) (tallyOf (g .rec)))) (adds .sides) (keeps .good .sound .inv) in
+      let shape = inv .shape in
+      record {
+        same-sides = adds .sides;
+        inside-kept = inv .inside;
+        background-one-piece = shape .outside;
+        euler-of-body = shape .counted;
+        euler-of-openings = adds .euler;
+        unopened-one-piece = λ e. shape .unopened (omega (arith, adds .openings)) .0;
+        unopened-euler = λ e. shape .unopened (omega (arith, adds .openings)) .1;
+        none-passes = λ quiet i ki si. inv .failing i ki si refl (not-pending s (g .status) quiet i (shape .inner i ki .0));
+        examinations-bound = omega (arith, inv .bounded, adds .examinations, adds .removals);
+        openings-count = omega (arith, adds .openings);
+        removals-count = omega (arith, adds .removals);
+        examinations-count = omega (arith, adds .examinations);
+      }
+
+-- ---- begin
 
 -- a grid that passes begin's checks
-accepted : (s : Sides) (T : ℕ) (values dist : List ℤ) (status : List ℕ) → Passing (beginChecks s values dist status) → (calls : List Call)
-    → let after = run calls (state (newRecord s T) (worked s values (inside s values)) (boxStatus s (inside s values))) in
-    Demand s values (after .end) (after .answers)
-unfolding beginChecks
-accepted s T values dist status p calls =
-    let S = inside s values in
-    let g = state (newRecord s T) (worked s values S) (boxStatus s S) in
-    let v = any-below (λ i. measuredNegative (valueAt values i)) (size s) (unfold voxels in not-false (any (λ i. measuredNegative (valueAt values i)) (voxels s)) (p .1 .1 .1 .0)) in
-    let good = start-good s T values (fit s (not-false (fitSides s) (p .0))) (checked-border s values (p .1 .1 .0)) (v .0)
-    (true-and (ltb (v .0) (size s)) (measuredNegative (valueAt values (v .0))) (lt-ltb (v .0) (size s) (v .1)) (v .2)) in
-    from-kept s T values (worked s values S) (boxStatus s S) (run calls g .end) (run calls g .answers)
-    (run-keeps (isIn S) (found s (inBox s S)) calls g good)
+module _ (s : Sides) (values dist : List ℤ) (status : List ℕ) (checked : AllHold (beginChecks s values dist status)) where
+  -- some voxel is measured negative
+  some-negative : (v : ℕ) × (negative s values v ≡ true)
+  some-negative =
+      let v = any-below (λ i. measuredNegative (valueAt values i)) (size s)
+      (unfold voxels in not-false (any (λ i. measuredNegative (valueAt values i)) (voxels s)) (checked .1 .1 .1 .0)) in
+      (v .0, true-and (ltb (v .0) (size s)) (measuredNegative (valueAt values (v .0))) (lt-ltb (v .0) (size s) (v .1)) (v .2))
+
+  pub begun-inside : (i : ℕ) × (isIn (inside s values) i ≡ true)
+  begun-inside = inside-some s values (some-negative .0) (some-negative .1)
+
+  begun-sound : Sound s (isIn (inside s values)) (λ j. false) (found s (inBox s (inside s values)))
+      (startStatus s (inside s values) (inBox s (inside s values))) (tally 0 0 0 (pos 1))
+  begun-sound =
+      box-sound s values (fit s (not-false (fitSides s) (checked .0))) (checked-border s values (checked .1 .1 .0)) (some-negative .0) (some-negative .1) (λ j. false)
+
+  pub begun-good : (T : ℕ) → Good (isIn (inside s values)) (λ j. false) (found s (inBox s (inside s values)))
+      (state (newRecord s T) (worked s values (inside s values)) (startStatus s (inside s values) (inBox s (inside s values))))
+  begun-good T =
+      let S = inside s values in
+      good-start s T values (inBox s S) (worked s values S) (startStatus s S (inBox s S)) begun-sound (worked-signs s values)
+
+  accepted : (T : ℕ) (calls : List Call)
+      → let after = run calls (state (newRecord s T) (worked s values (inside s values)) (startStatus s (inside s values) (inBox s (inside s values)))) in
+      Demand s values (inBox s (inside s values)) (after .end) (after .answers)
+  accepted T calls =
+      let S = inside s values in
+      from-start s T values (inBox s S) (worked s values S) (startStatus s S (inBox s S)) begun-sound (worked-signs s values) calls
 
 pub demand-is-met : DemandIsMet
 unfolding begin begun
 demand-is-met s T values dist status r e calls =
-    by-checks dist status (begun s T values)
-    (λ o. o .answer ≡ done r → let after = run calls (state r (o .dist) (o .status)) in Demand s values (after .end) (after .answers))
+    by-checks (untouched (buffers dist status)) (begun s T values)
+    (λ o. o .answer ≡ done r → let after = run calls (state r (o .lent .dist) (o .lent .status)) in Demand s values (inBox s (inside s values)) (after .end) (after .answers))
     (beginChecks s values dist status)
     (λ n f. let z : _≡_ {A = ℕ} 0 1 = cc in let y : ⊥ = omega arith in absurd y)
     (λ p f.
     let q : newRecord s T ≡ r = cc in
-    subst (λ (r : Record). let after = run calls (state r (worked s values (inside s values)) (boxStatus s (inside s values))) in Demand s values (after .end) (after .answers)) q
-    (accepted s T values dist status p calls)) e
+    subst (λ (r : Record).
+    let after = run calls (state r (worked s values (inside s values)) (startStatus s (inside s values) (inBox s (inside s values)))) in
+    Demand s values (inBox s (inside s values)) (after .end) (after .answers)) q
+    (accepted s values dist status p T calls)) e

@@ -1,4 +1,4 @@
--- The distance of a voxel from S is the number of steps to the nearest voxel of S; at 0 it is in S, at 1 beside it. Assumes nothing.
+-- The distance of a voxel from S is the number of steps to the nearest voxel of S; at 0 it is in S, at 1 beside it.
 use mathlib.Core.Path.{_≡_, refl, ap, ap₂, sym, _∙_, subst}
 use mathlib.Core.Logic.{_⊎_, inl, inr}
 use mathlib.Core.Bool.{Bool, true, false, cond, _&&_, _||_}
@@ -10,8 +10,8 @@ use lib.Dec.{eqb}
 use lib.IntN.{ℤ, pos}
 use borrow.Author.Tests.{eqb-true, eq-eqb}
 use Rattle.cells.specs.Groups.{those}
-use Rattle.cells.proofs.Bools.{and-true, true-and, not-both, both-ways}
-use Rattle.cells.proofs.Lists.{Mem, any-true, true-any, those-mem, mem-those}
+use Rattle.prelude.proofs.Bools.{and-true, true-and, not-both, both-ways}
+use Rattle.prelude.proofs.Lists.{Mem, any-true, true-any, those-mem, mem-those}
 use Rattle.rules.specs.declared.Sides.{Sides}
 use Rattle.rules.specs.Grid.{size, index, voxel, gap, apart, steps, shareFace, voxels, measuredNonNegative, amount, valueAt}
 use Rattle.rules.specs.Begin.{greatest, isIn, inside, facing, greatestFacing, distance, workedAt}

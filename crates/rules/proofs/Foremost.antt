@@ -1,4 +1,4 @@
--- The first voxel that passes a test: the choice of `firstOf`, and no other. Assumes nothing.
+-- The first voxel of those that a test finds: the choice of `firstOf`, and no other.
 use mathlib.Core.Path.{_≡_, refl, ap, sym, _∙_, subst}
 use mathlib.Core.Logic.{inl, inr}
 use mathlib.Core.Bool.{Bool, true, false, cond, true≢false}
@@ -11,13 +11,15 @@ use lib.IntN.{ℤ, pos, negsuc}
 use lib.Signed.{ltZ}
 use borrow.Author.Tests.{ltb-true, ltb-false, le-ltb}
 use Rattle.cells.specs.Groups.{consIf, those}
-use Rattle.cells.proofs.Bools.{two, not-both}
-use Rattle.cells.proofs.Lists.{Mem, here, there, mem-cons, those-mem, mem-those}
+use Rattle.prelude.proofs.Bools.{two, not-both}
+use Rattle.prelude.proofs.Lists.{Mem, here, there, mem-cons, those-mem, mem-those}
 use Rattle.cells.proofs.Groups.{mem-none}
+use Rattle.rules.specs.declared.Sides.{Sides}
 use Rattle.rules.specs.Grid.{size, from, voxels, distanceAt}
-use Rattle.rules.specs.Machine.{State, farther, prefer, foremost, firstOf}
-use Rattle.rules.specs.Choice.{Foremost, FirstIsForemost, NoneIsFirst}
-use Rattle.rules.proofs.Voxels.{from-mem, mem-from}
+use Rattle.rules.specs.Status.{prefer, foremost, firstOf}
+use Rattle.rules.specs.Machine.{farther}
+use Rattle.rules.specs.Choice.{Order, Foremost, FartherIsOrder, FirstIsForemost, NoneIsFirst}
+use Rattle.prelude.proofs.Ranges.{from-mem, mem-from}
 
 -- ---- the order of distances
 
@@ -39,18 +41,21 @@ ltZ-not (negsuc a) (pos b) c e f = absurd (true≢false e)
 ltZ-not (negsuc a) (negsuc b) (pos c) e f = absurd (true≢false f)
 ltZ-not (negsuc a) (negsuc b) (negsuc c) e f = le-ltb c a (omega (arith, ltb-false b a e, ltb-false c b f))
 
-module _ (g : State) where
-  pub farther-self : (i : ℕ) → farther g i i ≡ false
+module _ (dist : List ℤ) where
+  pub farther-self : (i : ℕ) → farther dist i i ≡ false
   unfolding farther
-  farther-self i = ltZ-self (distanceAt (g .dist) i)
+  farther-self i = ltZ-self (distanceAt dist i)
 
-  pub farther-turn : (i j : ℕ) → farther g i j ≡ true → farther g j i ≡ false
+  pub farther-turn : (i j : ℕ) → farther dist i j ≡ true → farther dist j i ≡ false
   unfolding farther
-  farther-turn i j e = ltZ-turn (distanceAt (g .dist) j) (distanceAt (g .dist) i) e
+  farther-turn i j e = ltZ-turn (distanceAt dist j) (distanceAt dist i) e
 
-  pub farther-not : (i j k : ℕ) → farther g i j ≡ false → farther g j k ≡ false → farther g i k ≡ false
+  pub farther-not : (i j k : ℕ) → farther dist i j ≡ false → farther dist j k ≡ false → farther dist i k ≡ false
   unfolding farther
-  farther-not i j k e f = ltZ-not (distanceAt (g .dist) k) (distanceAt (g .dist) j) (distanceAt (g .dist) i) f e
+  farther-not i j k e f = ltZ-not (distanceAt dist k) (distanceAt dist j) (distanceAt dist i) f e
+
+pub farther-order : FartherIsOrder
+farther-order dist = record { self = farther-self dist; turn = farther-turn dist; behind = farther-not dist }
 
 -- ---- lists whose numbers rise
 
@@ -74,10 +79,10 @@ those-rising p (x ∷ xs) r = go (p x) (those-rising p xs (r .1))
 
 -- ---- the first of a list
 
-record First (g : State) (xs : List ℕ) (i : ℕ) : Type 0 where
+record First (ahead : ℕ → ℕ → Bool) (xs : List ℕ) (i : ℕ) : Type 0 where
   listed : Mem i xs
-  farthest : (j : ℕ) → Mem j xs → farther g j i ≡ false
-  earliest : (j : ℕ) → Mem j xs → j < i → farther g i j ≡ true
+  farthest : (j : ℕ) → Mem j xs → ahead j i ≡ false
+  earliest : (j : ℕ) → Mem j xs → j < i → ahead i j ≡ true
 
 some-inj : (i j : ℕ) → some i ≡ some j → i ≡ j
 some-inj i j e = cc
@@ -85,107 +90,117 @@ some-inj i j e = cc
 some-none : (i : ℕ) → some i ≡ none → ⊥
 some-none i e = let z : _≡_ {A = ℕ} 0 1 = cc in omega arith
 
-module _ (g : State) where
-  foremost-none : (xs : List ℕ) → foremost g xs ≡ none → (i : ℕ) → Mem i xs → ⊥
+module _ (ahead : ℕ → ℕ → Bool) where
+  foremost-none : (xs : List ℕ) → foremost ahead xs ≡ none → (i : ℕ) → Mem i xs → ⊥
   unfolding foremost prefer
   foremost-none [] e i m = mem-none m
-  foremost-none (x ∷ xs) e i m = go (foremost g xs) e
+  foremost-none (x ∷ xs) e i m = go (foremost ahead xs) e
     where
       pick : (j : ℕ) (t : Bool) → cond t (some j) (some x) ≡ none → ⊥
       pick j true e = some-none j e
       pick j false e = some-none x e
 
-      go : (o : Option ℕ) → prefer g x o ≡ none → ⊥
+      go : (o : Option ℕ) → prefer ahead x o ≡ none → ⊥
       go none e = some-none x e
-      go (some j) e = pick j (farther g j x) e
+      go (some j) e = pick j (ahead j x) e
 
-  foremost-first : (xs : List ℕ) → Rising xs → (i : ℕ) → foremost g xs ≡ some i → First g xs i
+module _ (ahead : ℕ → ℕ → Bool) (order : Order ahead) where
+  foremost-first : (xs : List ℕ) → Rising xs → (i : ℕ) → foremost ahead xs ≡ some i → First ahead xs i
   unfolding foremost prefer
   foremost-first [] r i e = absurd (some-none i (sym e))
-  foremost-first (x ∷ xs) r i e = go (foremost g xs) refl (λ j q. foremost-first xs (r .1) j q) e
+  foremost-first (x ∷ xs) r i e = go (foremost ahead xs) refl (λ j q. foremost-first xs (r .1) j q) e
     where
-      alone : ((y : ℕ) → Mem y xs → farther g y x ≡ false) → First g (x ∷ xs) x
+      alone : ((y : ℕ) → Mem y xs → ahead y x ≡ false) → First ahead (x ∷ xs) x
       alone h =
           record {
             listed = here;
-            farthest = λ y m. elim (mem-cons m) [ inl q ↦ ap (λ (z : ℕ). farther g z x) q ∙ farther-self g x | inr n ↦ h y n ];
+            farthest = λ y m. elim (mem-cons m) [ inl q ↦ ap (λ (z : ℕ). ahead z x) q ∙ order .self x | inr n ↦ h y n ];
             earliest = λ y m l. (let z : ⊥ = elim (mem-cons m) [ inl q ↦ omega arith | inr n ↦ (let k = r .0 y n in omega arith) ] in absurd z);
           }
 
-      pick : (j : ℕ) (t : Bool) → farther g j x ≡ t → First g xs j → cond t (some j) (some x) ≡ some i → First g (x ∷ xs) i
+      pick : (j : ℕ) (t : Bool) → ahead j x ≡ t → First ahead xs j → cond t (some j) (some x) ≡ some i → First ahead (x ∷ xs) i
       pick j true f q e =
-          subst (λ (k : ℕ). First g (x ∷ xs) k) (some-inj j i e)
+          subst (λ (k : ℕ). First ahead (x ∷ xs) k) (some-inj j i e)
           (record {
             listed = there (q .listed);
-            farthest = λ y m. elim (mem-cons m) [ inl s ↦ ap (λ (z : ℕ). farther g z j) s ∙ farther-turn g j x f | inr n ↦ q .farthest y n ];
-            earliest = λ y m l. elim (mem-cons m) [ inl s ↦ ap (λ (z : ℕ). farther g j z) s ∙ f | inr n ↦ q .earliest y n l ];
+            farthest = λ y m. elim (mem-cons m) [ inl s ↦ ap (λ (z : ℕ). ahead z j) s ∙ order .turn j x f | inr n ↦ q .farthest y n ];
+            earliest = λ y m l. elim (mem-cons m) [ inl s ↦ ap (λ (z : ℕ). ahead j z) s ∙ f | inr n ↦ q .earliest y n l ];
           })
       pick j false f q e =
-          subst (λ (k : ℕ). First g (x ∷ xs) k) (some-inj x i e) (alone (λ y m. farther-not g y j x (q .farthest y m) f))
+          subst (λ (k : ℕ). First ahead (x ∷ xs) k) (some-inj x i e) (alone (λ y m. order .behind y j x (q .farthest y m) f))
 
-      go : (o : Option ℕ) → foremost g xs ≡ o → ((j : ℕ) → foremost g xs ≡ some j → First g xs j) → prefer g x o ≡ some i → First g (x ∷ xs) i
-      go none f ih e = subst (λ (k : ℕ). First g (x ∷ xs) k) (some-inj x i e) (alone (λ y m. absurd (foremost-none xs f y m)))
-      go (some j) f ih e = pick j (farther g j x) refl (ih j f) e
+      go : (o : Option ℕ) → foremost ahead xs ≡ o → ((j : ℕ) → foremost ahead xs ≡ some j → First ahead xs j) → prefer ahead x o ≡ some i → First ahead (x ∷ xs) i
+      go none f ih e = subst (λ (k : ℕ). First ahead (x ∷ xs) k) (some-inj x i e) (alone (λ y m. absurd (foremost-none ahead xs f y m)))
+      go (some j) f ih e = pick j (ahead j x) refl (ih j f) e
 
 -- ---- the first of the voxels
 
-module _ (g : State) (p : ℕ → Bool) where
-  listed : (i : ℕ) → i < size (g .rec .sides) → p i ≡ true → Mem i (those p (voxels (g .rec .sides)))
+module _ (s : Sides) (ahead : ℕ → ℕ → Bool) (p : ℕ → Bool) where
+  listed : (i : ℕ) → i < size s → p i ≡ true → Mem i (those p (voxels s))
   unfolding voxels
-  listed i h e = mem-those p (from 0 (size (g .rec .sides))) i (mem-from 0 (size (g .rec .sides)) i (omega arith) (omega arith)) e
+  listed i h e = mem-those p (from 0 (size s)) i (mem-from 0 (size s) i (omega arith) (omega arith)) e
 
-  voxel-listed : (i : ℕ) → Mem i (those p (voxels (g .rec .sides))) → (i < size (g .rec .sides)) × (p i ≡ true)
+  voxel-listed : (i : ℕ) → Mem i (those p (voxels s)) → (i < size s) × (p i ≡ true)
   unfolding voxels
   voxel-listed i m =
-      let r = those-mem p (from 0 (size (g .rec .sides))) i m in
-      let h = from-mem 0 (size (g .rec .sides)) i (r .0) in
+      let r = those-mem p (from 0 (size s)) i m in
+      let h = from-mem 0 (size s) i (r .0) in
       (omega arith, r .1)
 
-  pub first-foremost : (i : ℕ) → firstOf g p ≡ some i → Foremost g p i
+  pub first-none : firstOf s ahead p ≡ none → (i : ℕ) → i < size s → p i ≡ false
+  unfolding firstOf
+  first-none e i h = elim (two (p i)) [ inl t ↦ absurd (foremost-none ahead (those p (voxels s)) e i (listed i h t)) | inr f ↦ f ]
+
+module _ (s : Sides) (ahead : ℕ → ℕ → Bool) (order : Order ahead) (p : ℕ → Bool) where
+  pub first-foremost : (i : ℕ) → firstOf s ahead p ≡ some i → Foremost s ahead p i
   unfolding firstOf voxels
   first-foremost i e =
-      let n : ℕ = size (g .rec .sides) in
-      let f = foremost-first g (those p (from 0 n)) (those-rising p (from 0 n) (from-rising 0 n)) i e in
-      let m = voxel-listed i (f .listed) in
+      let n : ℕ = size s in
+      let f = foremost-first ahead order (those p (from 0 n)) (those-rising p (from 0 n) (from-rising 0 n)) i e in
+      let m = voxel-listed s ahead p i (f .listed) in
       record {
         below = m .0;
-        passes = m .1;
-        farthest = λ j h q. f .farthest j (listed j h q);
-        earliest = λ j h q. (let k : j < size (g .rec .sides) = omega (arith, m .0) in f .earliest j (listed j k q) h);
+        chosen = m .1;
+        farthest = λ j h q. f .farthest j (listed s ahead p j h q);
+        earliest = λ j h q. (let k : j < size s = omega (arith, m .0) in f .earliest j (listed s ahead p j k q) h);
       }
 
-  pub first-none : firstOf g p ≡ none → (i : ℕ) → i < size (g .rec .sides) → p i ≡ false
-  unfolding firstOf
-  first-none e i h = elim (two (p i)) [ inl t ↦ absurd (foremost-none g (those p (voxels (g .rec .sides))) e i (listed i h t)) | inr f ↦ f ]
-
   -- there is one first voxel only
-  pub foremost-unique : (i j : ℕ) → Foremost g p i → Foremost g p j → i ≡ j
+  pub foremost-unique : (i j : ℕ) → Foremost s ahead p i → Foremost s ahead p j → i ≡ j
   foremost-unique i j f k = go (decLt i j) (decLt j i)
     where
-      never : (i j : ℕ) → Foremost g p i → Foremost g p j → i < j → ⊥
-      never i j f k h = not-both (farther g j i) (k .earliest i h (f .passes)) (f .farthest j (k .below) (k .passes))
+      never : (i j : ℕ) → Foremost s ahead p i → Foremost s ahead p j → i < j → ⊥
+      never i j f k h = not-both (ahead j i) (k .earliest i h (f .chosen)) (f .farthest j (k .below) (k .chosen))
 
       go : Dec (i < j) → Dec (j < i) → i ≡ j
       go (yes h) d = absurd (never i j f k h)
       go (no h) (yes l) = absurd (never j i k f l)
       go (no h) (no l) = omega arith
 
-  pub none-first : ((i : ℕ) → i < size (g .rec .sides) → p i ≡ false) → firstOf g p ≡ none
-  none-first h = go (firstOf g p) refl
+  pub none-first : ((i : ℕ) → i < size s → p i ≡ false) → firstOf s ahead p ≡ none
+  none-first h = go (firstOf s ahead p) refl
     where
-      go : (o : Option ℕ) → firstOf g p ≡ o → o ≡ none
+      go : (o : Option ℕ) → firstOf s ahead p ≡ o → o ≡ none
       go none e = refl
-      go (some i) e = let f = first-foremost i e in not-both (p i) (f .passes) (h i (f .below))
+      go (some i) e = let f = first-foremost i e in not-both (p i) (f .chosen) (h i (f .below))
 
-  pub foremost-first-of : (i : ℕ) → Foremost g p i → firstOf g p ≡ some i
-  foremost-first-of i f = go (firstOf g p) refl
+  pub foremost-first-of : (i : ℕ) → Foremost s ahead p i → firstOf s ahead p ≡ some i
+  foremost-first-of i f = go (firstOf s ahead p) refl
     where
-      go : (o : Option ℕ) → firstOf g p ≡ o → o ≡ some i
-      go none e = not-both (p i) (f .passes) (first-none e i (f .below))
+      go : (o : Option ℕ) → firstOf s ahead p ≡ o → o ≡ some i
+      go none e = not-both (p i) (f .chosen) (first-none s ahead p e i (f .below))
       go (some j) e = ap some (foremost-unique j i (first-foremost j e) f)
 
 pub first-is-foremost : FirstIsForemost
-first-is-foremost g p i = (first-foremost g p i, foremost-first-of g p i)
+first-is-foremost s ahead order p i = (first-foremost s ahead order p i, foremost-first-of s ahead order p i)
+
+none-first-any : (s : Sides) (ahead : ℕ → ℕ → Bool) (p : ℕ → Bool) → ((i : ℕ) → i < size s → p i ≡ false) → firstOf s ahead p ≡ none
+unfolding firstOf
+none-first-any s ahead p h = ap (foremost ahead) (nothing (those p (voxels s)) (λ i m. let r = voxel-listed s ahead p i m in not-both (p i) (r .1) (h i (r .0)))) ∙ unfold foremost in refl
+  where
+    nothing : (xs : List ℕ) → ((i : ℕ) → Mem i xs → ⊥) → xs ≡ []
+    nothing [] n = refl
+    nothing (x ∷ xs) n = absurd (n x here)
 
 pub none-is-first : NoneIsFirst
-none-is-first g p = (first-none g p, none-first g p)
+none-is-first s ahead p = (first-none s ahead p, none-first-any s ahead p)

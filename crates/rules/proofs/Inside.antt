@@ -1,4 +1,4 @@
--- S of begin: the largest group of measured negative voxels, of equal ones the one with the smallest index, and no other set. Assumes nothing.
+-- S of begin: the largest group of measured negative voxels, of equal ones the one with the smallest index, and no other set.
 use mathlib.Core.Path.{_≡_, refl, ap, sym, _∙_, subst}
 use mathlib.Core.Logic.{_⊎_, inl, inr}
 use mathlib.Core.Bool.{Bool, true, false, cond, _&&_}
@@ -12,8 +12,8 @@ use lib.IntN.{ℤ}
 use borrow.Author.Tests.{ltb-true, ltb-false, lt-ltb, eqb-true, eqb-false}
 use Rattle.cells.specs.Groups.{those, groups}
 use Rattle.cells.specs.Linked.{Linked, stay, step, OnePiece}
-use Rattle.cells.proofs.Bools.{and-true, true-and, and-false, or-true, or-false, both-ways}
-use Rattle.cells.proofs.Lists.{Mem, here, there, mem-cons, those-mem, mem-those}
+use Rattle.prelude.proofs.Bools.{and-true, true-and, and-false, or-true, or-false, both-ways}
+use Rattle.prelude.proofs.Lists.{Mem, here, there, mem-cons, those-mem, mem-those}
 use Rattle.cells.proofs.Chains.{first-member, last-member, follow}
 use Rattle.cells.proofs.Groups.{At, mem-none, at-lt, group-filled, group-of, group-member, group-linked, linked-group}
 use Rattle.cells.proofs.GroupsAre.{among-mem, mem-among, mem-getD, getD-mem}
@@ -22,7 +22,7 @@ use Rattle.rules.specs.declared.Sides.{Sides}
 use Rattle.rules.specs.Grid.{size, voxel, from, voxels, gap, near, touch, measuredNegative, valueAt}
 use Rattle.rules.specs.Begin.{least, isIn, negatives, larger, largest, inside}
 use Rattle.rules.specs.Meaning.{negative, GroupOf, EveryGroupIsFound, found, IsInside, InsideIsFound, FoundIsInside}
-use Rattle.rules.proofs.Voxels.{from-mem, mem-from}
+use Rattle.prelude.proofs.Ranges.{from-mem, mem-from}
 use Rattle.rules.proofs.Foremost.{Rising, from-rising}
 use Rattle.rules.proofs.InsideLeast.{least-le, least-mem}
 

@@ -1,11 +1,11 @@
--- The least and the greatest number of a list. Assumes nothing.
+-- The least and the greatest number of a list.
 use mathlib.Core.Path.{_≡_, refl, sym, _∙_, subst}
 use mathlib.Core.Logic.{_⊎_, inl, inr}
 use mathlib.Core.List.{List, [], _∷_, map}
 use Prim.Native.Nat.{ℕ, _≤_, _<_, min, max}
 use native.Mathlib.Omega.{arith}
 use native.Mathlib.Decide.{decLe}
-use Rattle.cells.proofs.Lists.{Mem, here, there}
+use Rattle.prelude.proofs.Lists.{Mem, here, there}
 use Rattle.rules.specs.Begin.{least, greatest}
 
 pub least-le : (n : ℕ) (xs : List ℕ) (x : ℕ) → Mem x xs → least n xs ≤ x

@@ -1,4 +1,4 @@
--- Index and coordinates: each gives the other back. Assumes nothing.
+-- Index and coordinates: each gives the other back.
 use mathlib.Core.Path.{_≡_, refl, ap, ap₂, sym, _∙_, subst}
 use mathlib.Core.Bool.{Bool, true, false, _&&_}
 use Prim.Native.Nat.{ℕ, zero, suc, _+_, _-_, _*_, _/_, _%_, _≤_, _<_}
@@ -6,7 +6,7 @@ use native.Mathlib.Omega.{arith}
 use native.Mathlib.Nat.{mod-lt, mod-eq-of-lt, div-eq-of-lt, div-add-mod, add-mul-div-left, add-mul-mod-self-left, div-lt-iff-lt-mul, div-div-eq-div-mul, mul-le-mul-left, mul-comm, mul-assoc}
 use lib.Dec.{leb}
 use borrow.Author.Tests.{leb-true}
-use Rattle.cells.proofs.Bools.{and-true}
+use Rattle.prelude.proofs.Bools.{and-true}
 use Rattle.rules.specs.declared.Sides.{Sides}
 use Rattle.rules.specs.Grid.{fitSide, fitSides, size, Voxel, index, voxel}
 

@@ -10,6 +10,7 @@ pub mod Count
 pub mod Moves
 pub mod BoxCells
 pub mod Box
+pub mod Bytes
 pub mod Steps
 pub mod Calls
 pub mod Start

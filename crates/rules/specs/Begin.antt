@@ -9,7 +9,8 @@ use Rattle.cells.specs.Groups.{any, those, groups}
 use Rattle.rules.specs.declared.Sides.{Sides}
 use Rattle.rules.specs.declared.Record.{Record}
 use Rattle.rules.specs.Grid.{fitSides, size, voxel, voxels, onBorder, touch, steps, shareFace, block, facePlaces, measuredNegative, measuredNonNegative, amount, valueAt}
-use Rattle.rules.specs.Answer.{done, Outcome, outcome, Check, _when_, unless, untouched}
+use Rattle.rules.specs.Checks.{Check, _when_, unless}
+use Rattle.rules.specs.Answer.{done, Outcome, outcome, untouched, Buffers, buffers}
 
 unfoldable pub least : ℕ → List ℕ → ℕ
 least start [] = start
@@ -73,19 +74,19 @@ inBox s S i =
 unfoldable pub exposed : Sides → (ℕ → Bool) → ℕ → Bool
 exposed s kept i = any (λ p. not (block s kept i p)) facePlaces
 
--- 0 gone, 1 kept, 3 kept and pending
-unfoldable pub statusAt : Sides → List ℕ → ℕ → ℕ
-statusAt s S i = cond (inBox s S i) (cond (not (isIn S i) && exposed s (inBox s S) i) 3 1) 0
+-- 0 gone, 1 kept, 3 kept and pending: of any body to start from, the voxels outside S with a face neighbour not kept are pending
+unfoldable pub statusAt : Sides → List ℕ → (ℕ → Bool) → ℕ → ℕ
+statusAt s S kept i = cond (kept i) (cond (not (isIn S i) && exposed s kept i) 3 1) 0
 
-unfoldable pub boxStatus : Sides → List ℕ → List ℕ
-boxStatus s S = map (statusAt s S) (voxels s)
+unfoldable pub startStatus : Sides → List ℕ → (ℕ → Bool) → List ℕ
+startStatus s S kept = map (statusAt s S kept) (voxels s)
 
 -- ---- the call
 
 abbrev pub newRecord : Sides → ℕ → Record
 newRecord s T = record { sides = s; allowed = T; openings = 0; removals = 0; examinations = 0; euler = pos 1; finished = false }
 
-unfoldable pub beginChecks : Sides → List ℤ → List ℤ → List ℕ → List Check
+abbrev pub beginChecks : Sides → List ℤ → List ℤ → List ℕ → List Check
 beginChecks s values dist status =
     1 when not (fitSides s)
     ∷ 2 when not (eqb (length values) (size s) && (eqb (length dist) (size s) && eqb (length status) (size s)))
@@ -93,8 +94,8 @@ beginChecks s values dist status =
     ∷ 4 when not (any (λ i. measuredNegative (valueAt values i)) (voxels s))
     ∷ []
 
-unfoldable pub begun : Sides → ℕ → List ℤ → Outcome Record
-begun s T values = let S = inside s values in outcome (done (newRecord s T)) (worked s values S) (boxStatus s S)
+unfoldable pub begun : Sides → ℕ → List ℤ → Outcome Buffers Record
+begun s T values = let S = inside s values in outcome (done (newRecord s T)) (buffers (worked s values S) (startStatus s S (inBox s S)))
 
-unfoldable pub begin : Sides → ℕ → List ℤ → List ℤ → List ℕ → Outcome Record
-begin s T values dist status = unless (beginChecks s values dist status) (untouched dist status) (begun s T values)
+unfoldable pub begin : Sides → ℕ → List ℤ → List ℤ → List ℕ → Outcome Buffers Record
+begin s T values dist status = unless (beginChecks s values dist status) (untouched (buffers dist status)) (begun s T values)

@@ -1,36 +1,33 @@
--- Document 01, "What the second supplier may hold us to": the worked cases as theorems of the rules, gathered into one list.
--- proofs/Cases.antt proves it by computation.
+-- Document 01, "What the second supplier may hold us to": the worked cases of begin and the machine, and small ones that notice what those
+-- leave open. proofs/Cases.antt proves each by computation. The crate cases gathers all of document 01's into one list.
 use mathlib.Core.Path.{_≡_}
-use mathlib.Core.Bool.{true, false}
+use mathlib.Core.Bool.{Bool, true, false}
 use mathlib.Core.List.{List, [], _∷_, _++_, map}
-use mathlib.Core.Option.{some}
 use Prim.Native.Nat.{ℕ}
 use lib.ListN.{length, replicate}
 use lib.IntN.{ℤ, pos, negsuc}
-use lib.Ieee.{fin}
-use Rattle.cells.specs.Examples.{LocalTests}
 use Rattle.rules.specs.declared.Sides.{Sides}
+use Rattle.rules.specs.declared.Record.{Record}
 use Rattle.rules.specs.Grid.{distanceAt}
-use Rattle.rules.specs.Answer.{Reply, refused, done, Outcome}
+use Rattle.rules.specs.Answer.{Reply, refused, done}
 use Rattle.rules.specs.Begin.{begin, newRecord}
-use Rattle.rules.specs.Machine.{State, state, after, statusOf, anyPending, count, carve, openNext, finish}
-use Rattle.rules.specs.Surface.{crossing}
-use Rattle.rules.specs.File.{ReadOutcome, read, carvedLine, programLine, lineText}
+use Rattle.rules.specs.Status.{statusOf, anyPending}
+use Rattle.rules.specs.Machine.{State, state, after, count, carve, take, openNext, finish}
 
 abbrev pub sides : ℕ → ℕ → ℕ → Sides
 sides a b c = record { a = a; b = b; c = c }
 
--- ---- the calls on a case: begin with buffers of the right length, carve up to so many examinations, open, finish
+-- ---- the calls on a case: begin with buffers of the right length, carve up to so many examinations, finish
 
 unfoldable pub start : Sides → ℕ → List ℤ → State
 start s T values =
     after (λ r. r) (state (newRecord s T) [] []) (begin s T values (replicate (length values) (pos 0)) (replicate (length values) 0))
 
-unfoldable pub carved : ℕ → State → State
-carved limit g = after (λ r. r .next) g (carve limit g)
+unfoldable pub carvedTo : ℕ → State → State
+carvedTo limit g = after (λ r. r .next) g (carve limit g)
 
-unfoldable pub closed : State → State
-closed g = after (λ r. r) g (finish g)
+unfoldable pub ended : State → State
+ended g = after (λ r. r) g (finish g)
 
 -- ---- A: 3, 3, 3, all 5, centre -5
 
@@ -43,27 +40,26 @@ pub record CaseA : Type 0 where
       caseA .dist
       ≡ map pos (8 ∷ 7 ∷ 8 ∷ 7 ∷ 5 ∷ 7 ∷ 8 ∷ 7 ∷ 8 ∷ 7 ∷ 5 ∷ 7 ∷ 5 ∷ [])
       ++ (negsuc 4 ∷ map pos (5 ∷ 7 ∷ 5 ∷ 7 ∷ 8 ∷ 7 ∷ 8 ∷ 7 ∷ 5 ∷ 7 ∷ 8 ∷ 7 ∷ 8 ∷ []))
-  pub nothing-pending : anyPending caseA ≡ false
-  -- (1.5, 1, 1): 3 times 2 ^ -1, and 1 times 2 ^ 0
-  pub point :
-      crossing 13 0 (closed caseA) .answer
-      ≡ done (some (record { x = fin false 3 (negsuc 0); y = fin false 1 (pos 0); z = fin false 1 (pos 0) }))
+  pub nothing-pending : anyPending (sides 3 3 3) (caseA .status) ≡ false
 
 -- ---- C: 5, 5, 3, all 4; at z = 1 the eight voxels touching (2, 2) are -4
 
+-- 5, 5, 3, all 4 but for the three inner rows of the layer at z = 1
+unfoldable pub plate : List ℤ → List ℤ → List ℤ → List ℤ
+plate p q r = let o = pos 4 in replicate 31 o ++ p ++ (o ∷ o ∷ []) ++ q ++ (o ∷ o ∷ []) ++ r ++ replicate 31 o
+
+unfoldable pub valuesC : List ℤ
+valuesC = let n = negsuc 3 in plate (n ∷ n ∷ n ∷ []) (n ∷ pos 4 ∷ n ∷ []) (n ∷ n ∷ n ∷ [])
+
 unfoldable pub caseC : ℕ → State
-caseC T =
-    let n = negsuc 3 in
-    let o = pos 4 in
-    start (sides 5 5 3) T
-    (replicate 31 o ++ (n ∷ n ∷ n ∷ o ∷ o ∷ n ∷ o ∷ n ∷ o ∷ o ∷ n ∷ n ∷ n ∷ []) ++ replicate 31 o)
+caseC T = start (sides 5 5 3) T valuesC
 
 pub record CaseC : Type 0 where
-  pub one-examination : carved 1000 (caseC 0) .rec ≡ count (caseC 0 .rec) 1 0 0 (pos 0)
-  pub middle-filled : distanceAt (closed (carved 1000 (caseC 0)) .dist) 37 ≡ negsuc 3
+  pub one-examination : carvedTo 1000 (caseC 0) .rec ≡ count (caseC 0 .rec) 1 0 0 (pos 0)
+  pub middle-filled : distanceAt (ended (carvedTo 1000 (caseC 0)) .dist) 37 ≡ negsuc 3
   -- open answers k = 1, m = 2; the Euler number is 0
   pub opening :
-      openNext (carved 1000 (caseC 1)) .answer
+      openNext (carvedTo 1000 (caseC 1)) .answer
       ≡ done (
       record {
         index = 37;
@@ -72,6 +68,10 @@ pub record CaseC : Type 0 where
         next = record { sides = sides 5 5 3; allowed = 1; openings = 1; removals = 1; examinations = 1; euler = pos 0; finished = false };
       }
       )
+  -- no opening is allowed; nothing is left to open; the middle does not pass
+  pub none-allowed : openNext (carvedTo 1000 (caseC 0)) .answer ≡ refused 14
+  pub none-left : openNext (carvedTo 9 (after (λ r. r .next) (caseC 2) (openNext (carvedTo 9 (caseC 2))))) .answer ≡ refused 15
+  pub not-taken : take 37 (caseC 0) .answer ≡ refused 12
 
 -- ---- D: 4, 4, 3, all 6; (1, 1, 1) and (2, 2, 1) are -6; T = 0
 
@@ -84,36 +84,57 @@ valuesD = replicate 16 (pos 6) ++ layerD ++ replicate 16 (pos 6)
 unfoldable pub caseD : State
 caseD = start (sides 4 4 3) 0 valuesD
 
--- each value hex 06 00 save the two of hex FA FF
-unfoldable pub bytesD : List ℤ → List ℕ
-bytesD [] = []
-bytesD (pos v ∷ vs) = 0x06 ∷ 0x00 ∷ bytesD vs
-bytesD (negsuc v ∷ vs) = 0xFA ∷ 0xFF ∷ bytesD vs
-
-unfoldable pub fileD : List ℕ
-fileD =
-    (0x56 ∷ 0x48 ∷ 0x04 ∷ 0x04 ∷ 0x03 ∷ 0x00 ∷ 0x00 ∷ [])
-    ++ (0x56 ∷ 0x4C ∷ 0x00 ∷ bytesD (replicate 16 (pos 6)))
-    ++ (0x56 ∷ 0x4C ∷ 0x01 ∷ bytesD layerD)
-    ++ (0x56 ∷ 0x4C ∷ 0x02 ∷ bytesD (replicate 16 (pos 6)))
+-- the status of the four voxels of the box
+abbrev pub boxD : State → List ℕ
+boxD g = map (statusOf (g .status)) (21 ∷ 22 ∷ 25 ∷ 26 ∷ [])
 
 pub record CaseD : Type 0 where
   -- gone: 22, then 25
-  pub before : map (statusOf (caseD .status)) (21 ∷ 22 ∷ 25 ∷ 26 ∷ []) ≡ 1 ∷ 3 ∷ 3 ∷ 1 ∷ []
-  pub first : map (statusOf (carved 1 caseD .status)) (21 ∷ 22 ∷ 25 ∷ 26 ∷ []) ≡ 1 ∷ 0 ∷ 3 ∷ 1 ∷ []
-  pub second : map (statusOf (carved 2 caseD .status)) (21 ∷ 22 ∷ 25 ∷ 26 ∷ []) ≡ 1 ∷ 0 ∷ 0 ∷ 1 ∷ []
-  pub file :
-      read fileD (replicate 48 (pos 0)) ≡ record { answer = done (record { sides = sides 4 4 3; allowed = 0 }); values = valuesD }
-  -- kept 2 removed 2 opened 0 examined 2 euler 1
-  pub line : programLine fileD ≡ carvedLine 2 2 0 2 (pos 1)
-  pub text :
-      lineText (programLine fileD)
-      ≡ 107 ∷ 101 ∷ 112 ∷ 116 ∷ 32 ∷ 50 ∷ 32 ∷ 114 ∷ 101 ∷ 109 ∷ 111 ∷ 118 ∷ 101 ∷ 100 ∷ 32 ∷ 50 ∷ 32 ∷ 111 ∷ 112 ∷ 101 ∷ 110 ∷ 101 ∷ 100 ∷ 32 ∷ 48 ∷ 32 ∷ 101 ∷ 120 ∷ 97 ∷ 109 ∷ 105 ∷ 110 ∷ 101 ∷ 100 ∷ 32 ∷ 50 ∷ 32 ∷ 101 ∷ 117 ∷ 108 ∷ 101 ∷ 114 ∷ 32 ∷ 49 ∷ 10 ∷ []
+  pub before : boxD caseD ≡ 1 ∷ 3 ∷ 3 ∷ 1 ∷ []
+  pub first : boxD (carvedTo 1 caseD) ≡ 1 ∷ 0 ∷ 3 ∷ 1 ∷ []
+  pub second : boxD (carvedTo 2 caseD) ≡ 1 ∷ 0 ∷ 0 ∷ 1 ∷ []
 
--- ---- the list
+-- ---- the arc: C with the voxel at (1, 2) at 3. The middle fails; then that voxel goes and wakes the middle, which now passes.
 
-pub record Cases : Type 0 where
-  pub local-tests : LocalTests
-  pub a : CaseA
-  pub c : CaseC
-  pub d : CaseD
+unfoldable pub valuesArc : List ℤ
+valuesArc = let n = negsuc 3 in plate (n ∷ n ∷ n ∷ []) (pos 3 ∷ pos 4 ∷ n ∷ []) (n ∷ n ∷ n ∷ [])
+
+unfoldable pub arc : State
+arc = start (sides 5 5 3) 0 valuesArc
+
+pub record Arc : Type 0 where
+  pub first : map (statusOf (carvedTo 1 arc .status)) (36 ∷ 37 ∷ []) ≡ 3 ∷ 1 ∷ []
+  pub second : map (statusOf (carvedTo 2 arc .status)) (36 ∷ 37 ∷ []) ≡ 0 ∷ 3 ∷ []
+  pub end : carvedTo 1000 arc .rec ≡ count (arc .rec) 3 2 0 (pos 0)
+
+-- ---- a bar that no begin makes: three voxels in a row, the middle one pending. It has k = 2, m = 1, and stays.
+
+unfoldable pub bar : List ℤ → State
+bar dist =
+    state (newRecord (sides 5 3 3) 1) dist (replicate 21 0 ++ (1 ∷ 3 ∷ 1 ∷ []) ++ replicate 21 0)
+
+pub record Bar : Type 0 where
+  pub stays : carvedTo 9 (bar (replicate 45 (pos 1))) .rec ≡ count (newRecord (sides 5 3 3) 1) 1 0 0 (pos 0)
+  pub pending-refused : openNext (bar (replicate 45 (pos 1))) .answer ≡ refused 13
+  pub not-finished : finish (bar (replicate 45 (pos 1))) .answer ≡ refused 13
+  -- the greatest distance is opened, and of equals the smallest index
+  pub farthest-opened : map (statusOf (openNext (carvedTo 9 (bar (replicate 23 (pos 1) ++ (pos 2 ∷ replicate 21 (pos 1))))) .lent .status)) (21 ∷ 22 ∷ 23 ∷ []) ≡ 1 ∷ 3 ∷ 0 ∷ []
+  pub earliest-opened : map (statusOf (openNext (carvedTo 9 (bar (replicate 45 (pos 1)))) .lent .status)) (21 ∷ 22 ∷ 23 ∷ []) ≡ 0 ∷ 3 ∷ 1 ∷ []
+
+-- ---- the numbers of a state, in their order
+
+-- case D after its record was changed
+abbrev pub with : (Record → Record) → State
+with f = state (f (caseD .rec)) (caseD .dist) (caseD .status)
+
+pub record Numbers : Type 0 where
+  pub side : carve 1 (with (λ r. newRecord (sides 2 4 3) 0)) .answer ≡ refused 1
+  pub length : carve 1 (with (λ r. newRecord (sides 4 3 3) 0)) .answer ≡ refused 2
+  pub openings : carve 1 (with (λ r. count r 0 0 1 (pos 0))) .answer ≡ refused 7
+  pub removals : carve 1 (with (λ r. count r 0 49 0 (pos 0))) .answer ≡ refused 7
+  pub examinations : carve 1 (with (λ r. count r 1297 0 0 (pos 0))) .answer ≡ refused 7
+  pub euler : carve 1 (with (λ r. count r 0 0 0 (pos 384))) .answer ≡ refused 7
+  pub finished : carve 1 (ended (carvedTo 2 caseD)) .answer ≡ refused 8
+  pub index : take 48 caseD .answer ≡ refused 5
+  pub gone : take 0 caseD .answer ≡ refused 10
+  pub inside : take 21 caseD .answer ≡ refused 11

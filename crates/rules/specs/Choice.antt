@@ -1,23 +1,36 @@
--- Document 01, "The carving machine": the voxel that comes first has the greatest worked distance, and the smallest index among equals.
+-- Document 01, "The carving machine": what it is to come first, for any order; the greatest worked distance is one.
 use mathlib.Core.Path.{_≡_}
 use mathlib.Core.Logic.{_↔_}
 use mathlib.Core.Bool.{Bool, true, false}
+use mathlib.Core.List.{List}
 use mathlib.Core.Option.{none, some}
 use Prim.Native.Nat.{ℕ, _<_}
+use lib.IntN.{ℤ}
+use Rattle.rules.specs.declared.Sides.{Sides}
 use Rattle.rules.specs.Grid.{size}
-use Rattle.rules.specs.Machine.{State, farther, firstOf}
+use Rattle.rules.specs.Status.{firstOf}
+use Rattle.rules.specs.Machine.{farther}
 
--- i comes first among the voxels that pass the test
-pub record Foremost (g : State) (p : ℕ → Bool) (i : ℕ) : Type 0 where
-  pub below : i < size (g .rec .sides)
-  pub passes : p i ≡ true
-  pub farthest : (j : ℕ) → j < size (g .rec .sides) → p j ≡ true → farther g j i ≡ false
-  pub earliest : (j : ℕ) → j < i → p j ≡ true → farther g i j ≡ true
+-- an order in which some may be equal: none is ahead of itself, of two at most one is ahead, and who is behind stays behind
+pub record Order (ahead : ℕ → ℕ → Bool) : Type 0 where
+  pub self : (i : ℕ) → ahead i i ≡ false
+  pub turn : (i j : ℕ) → ahead i j ≡ true → ahead j i ≡ false
+  pub behind : (i j k : ℕ) → ahead i j ≡ false → ahead j k ≡ false → ahead i k ≡ false
+
+-- i comes first among the voxels that pass the test: none is ahead of it, and it is ahead of those with a smaller index
+pub record Foremost (s : Sides) (ahead : ℕ → ℕ → Bool) (p : ℕ → Bool) (i : ℕ) : Type 0 where
+  pub below : i < size s
+  pub chosen : p i ≡ true
+  pub farthest : (j : ℕ) → j < size s → p j ≡ true → ahead j i ≡ false
+  pub earliest : (j : ℕ) → j < i → p j ≡ true → ahead i j ≡ true
 
 -- ---- what is proved (proofs/Foremost.antt)
 
+abbrev pub FartherIsOrder : Type 0
+FartherIsOrder = (dist : List ℤ) → Order (farther dist)
+
 abbrev pub FirstIsForemost : Type 0
-FirstIsForemost = (g : State) (p : ℕ → Bool) (i : ℕ) → (firstOf g p ≡ some i) ↔ (Foremost g p i)
+FirstIsForemost = (s : Sides) (ahead : ℕ → ℕ → Bool) → Order ahead → (p : ℕ → Bool) (i : ℕ) → (firstOf s ahead p ≡ some i) ↔ (Foremost s ahead p i)
 
 abbrev pub NoneIsFirst : Type 0
-NoneIsFirst = (g : State) (p : ℕ → Bool) → (firstOf g p ≡ none) ↔ ((i : ℕ) → i < size (g .rec .sides) → p i ≡ false)
+NoneIsFirst = (s : Sides) (ahead : ℕ → ℕ → Bool) (p : ℕ → Bool) → (firstOf s ahead p ≡ none) ↔ ((i : ℕ) → i < size s → p i ≡ false)

@@ -1,6 +1,6 @@
 -- Document 01, "The carving machine", demand 3: a list of calls on a begun grid, the sums of its answers, and what holds after it.
 use mathlib.Core.Path.{_≡_}
-use mathlib.Core.Bool.{true, false, not, _&&_}
+use mathlib.Core.Bool.{Bool, true, false, not, _&&_}
 use mathlib.Core.List.{List, [], _∷_}
 use Prim.Native.Nat.{ℕ, _+_, _*_, _≤_}
 use lib.Dec.{ltb}
@@ -13,7 +13,9 @@ use Rattle.rules.specs.Grid.{size, touch, shareFace}
 use Rattle.rules.specs.Answer.{Reply, refused, done, Carving, Removal, Opening}
 use Rattle.rules.specs.Begin.{isIn, inside, inBox, begin}
 use Rattle.rules.specs.Meaning.{found}
-use Rattle.rules.specs.Machine.{State, state, after, isKept, testAt, anyPending, carve, take, openNext, finish}
+use Rattle.rules.specs.Status.{isKept, testAt, anyPending}
+use Rattle.rules.specs.Checks.{AllHold}
+use Rattle.rules.specs.Machine.{State, state, after, stateChecks, carved, carve, take, openNext, finish}
 use Rattle.rules.specs.Body.{bodyOf, eulerOf}
 
 pub data Call : Type 0 where
@@ -73,23 +75,26 @@ unfoldable pub run : List Call → State → Run
 run [] g = stop g nothing
 run (c ∷ cs) g = let first = call c g in let rest = run cs (first .end) in stop (rest .end) (both (first .answers) (rest .answers))
 
--- ---- what holds after the list, whatever calls it has
+-- ---- what holds after the list, whatever calls it has; start is the body that begin left
 
-pub record Demand (s : Sides) (values : List ℤ) (g : State) (answers : Sums) : Type 0 where
+pub record Demand (s : Sides) (values : List ℤ) (start : ℕ → Bool) (g : State) (answers : Sums) : Type 0 where
+  -- the record has the grid's sides
+  pub same-sides : g .rec .sides ≡ s
   -- every inside voxel is kept
-  pub inside-kept : (i : ℕ) → isIn (inside s values) i ≡ true → isKept g i ≡ true
+  pub inside-kept : (i : ℕ) → isIn (inside s values) i ≡ true → isKept (g .status) i ≡ true
   -- the background is in one piece
-  pub background-one-piece : OnePiece (λ i. ltb i (size s) && not (isKept g i)) (shareFace s)
+  pub background-one-piece : OnePiece (λ i. ltb i (size s) && not (isKept (g .status) i)) (shareFace s)
   -- the Euler number is corners - edges + faces - cubes of the kept voxels, and 1 with the sum of k - m over the openings made
-  pub euler-of-body : g .rec .euler ≡ eulerOf s (bodyOf s (isKept g))
+  pub euler-of-body : g .rec .euler ≡ eulerOf s (bodyOf s (isKept (g .status)))
   pub euler-of-openings : g .rec .euler ≡ pos 1 +ℤ answers .change
   -- with no opening the body is in one piece and its Euler number is 1
-  pub unopened-one-piece : answers .opened ≡ 0 → OnePiece (isKept g) (touch s)
+  pub unopened-one-piece : answers .opened ≡ 0 → OnePiece (isKept (g .status)) (touch s)
   pub unopened-euler : answers .opened ≡ 0 → g .rec .euler ≡ pos 1
   -- where nothing is pending, no kept outside voxel passes
-  pub none-passes : anyPending g ≡ false → (i : ℕ) → isKept g i ≡ true → isIn (inside s values) i ≡ false → passes (testAt g i) ≡ false
-  -- examinations are at most the box voxels and 26 times the removals
-  pub examinations-bound : answers .examined ≤ found s (inBox s (inside s values)) + 26 * answers .removed
+  pub none-passes : anyPending s (g .status) ≡ false → (i : ℕ) → isKept (g .status) i ≡ true → isIn (inside s values) i ≡ false
+      → passes (testAt s (g .status) i) ≡ false
+  -- examinations are at most the voxels of the body at the start and 26 times the removals
+  pub examinations-bound : answers .examined ≤ found s start + 26 * answers .removed
   -- the record's three counts
   pub openings-count : g .rec .openings ≡ answers .opened
   pub removals-count : g .rec .removals ≡ answers .removed
@@ -100,5 +105,23 @@ abbrev pub DemandIsMet : Type 0
 DemandIsMet =
     (s : Sides) (T : ℕ) (values dist : List ℤ) (status : List ℕ) (r : Record) → begin s T values dist status .answer ≡ done r → (calls : List Call)
     → let b = begin s T values dist status in
-    let after = run calls (state r (b .dist) (b .status)) in
-    Demand s values (after .end) (after .answers)
+    let after = run calls (state r (b .lent .dist) (b .lent .status)) in
+    Demand s values (inBox s (inside s values)) (after .end) (after .answers)
+
+-- ---- what the program relies on
+
+-- no list of calls makes a begun grid unfit: no call of it is refused with 1, 2 or 7 (proofs/NeverUnfit.antt)
+abbrev pub NeverUnfit : Type 0
+NeverUnfit =
+    (s : Sides) (T : ℕ) (values dist : List ℤ) (status : List ℕ) (r : Record) → begin s T values dist status .answer ≡ done r → (calls : List Call)
+    → let b = begin s T values dist status in
+    AllHold (stateChecks (run calls (state r (b .lent .dist) (b .lent .status)) .end))
+
+-- a carve of 27 n examinations or more, on a grid that is not finished, leaves nothing pending
+abbrev pub CarveEnds : Type 0
+CarveEnds =
+    (s : Sides) (T : ℕ) (values dist : List ℤ) (status : List ℕ) (r : Record) → begin s T values dist status .answer ≡ done r → (calls : List Call)
+    → (limit : ℕ) → 27 * size s ≤ limit
+    → let b = begin s T values dist status in
+    let g = run calls (state r (b .lent .dist) (b .lent .status)) .end in
+    g .rec .finished ≡ false → (carve limit g ≡ carved limit g) × (anyPending s (carve limit g .lent .status) ≡ false)

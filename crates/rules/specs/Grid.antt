@@ -1,10 +1,12 @@
 -- Document 01, "Grid and worked distances": sides, voxels, and what a value means.
 use mathlib.Core.Bool.{Bool, true, false, not, _&&_, _||_}
-use mathlib.Core.List.{List, [], _∷_}
-use Prim.Native.Nat.{ℕ, zero, suc, _+_, _-_, _*_, _/_, _%_}
+use mathlib.Core.List.{List}
+use Prim.Native.Nat.{ℕ, suc, _+_, _-_, _*_, _/_, _%_}
 use lib.Dec.{leb, ltb, eqb}
 use lib.ListN.{getD}
 use lib.IntN.{ℤ, pos, negsuc}
+unfoldable pub use Rattle.prelude.specs.Lists.{from}
+pub use Rattle.prelude.specs.Integers.{isNegative}
 pub use Rattle.cells.specs.Cells.{facePlaces}
 use Rattle.rules.specs.declared.Sides.{Sides}
 
@@ -30,11 +32,6 @@ index s v = v .x + s .a * (v .y + s .b * v .z)
 
 unfoldable pub voxel : Sides → ℕ → Voxel
 voxel s i = record { x = i % s .a; y = i / s .a % s .b; z = i / (s .a * s .b) }
-
--- k, k + 1, .., n of them
-unfoldable pub from : ℕ → ℕ → List ℕ
-from k zero = []
-from k (suc n) = k ∷ from (suc k) n
 
 -- every voxel, by its index
 unfoldable pub voxels : Sides → List ℕ
@@ -103,10 +100,6 @@ measuredNonNegative (negsuc v) = false
 abbrev pub amount : ℤ → ℕ
 amount (pos v) = v
 amount (negsuc v) = 0
-
-abbrev pub isNegative : ℤ → Bool
-isNegative (pos v) = false
-isNegative (negsuc v) = true
 
 -- what the value buffer, and the distance buffer, hold at an index
 abbrev pub valueAt : List ℤ → ℕ → ℤ

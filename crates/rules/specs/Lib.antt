@@ -1,11 +1,14 @@
 pub mod Grid
+pub mod Checks
 pub mod Answer
 pub mod Begin
 pub mod Meaning
+pub mod Neighbours
+pub mod Status
 pub mod Machine
+pub mod Fit
 pub mod Choice
 pub mod Body
 pub mod Demand
-pub mod Surface
-pub mod File
 pub mod Cases
+pub mod Wrong

@@ -1,20 +1,21 @@
 -- Document 01, "The carving machine" and "Numbers that come from the state": carve, take, open and finish, each as a function of the record,
 -- both buffers and the arguments to the answer and both buffers after.
 use mathlib.Core.Bool.{Bool, true, false, not, cond, _&&_, _||_}
-use mathlib.Core.List.{List, [], _∷_, map}
+use mathlib.Core.List.{List, [], _∷_, _++_, map}
 use mathlib.Core.Option.{Option, none, some}
-use Prim.Native.Nat.{ℕ, zero, suc, _+_, _-_, _*_}
+use Prim.Native.Nat.{ℕ, _+_, _-_, _*_}
 use lib.Dec.{leb, ltb, eqb}
-use lib.ListN.{length, getD, set}
+use lib.ListN.{length}
 use lib.IntN.{ℤ, pos, negsuc, natAbs, _+ℤ_, _-ℤ_}
 use lib.Signed.{ltZ}
-use Rattle.cells.specs.Groups.{any, those}
-use Rattle.cells.specs.Cells.{Test, test, passes}
+use Rattle.cells.specs.Groups.{any}
+use Rattle.cells.specs.Cells.{passes}
 use Rattle.rules.specs.declared.Sides.{Sides}
 use Rattle.rules.specs.declared.Record.{Record}
-use Rattle.rules.specs.Grid.{fitSides, size, voxels, onBorder, touch, block, isNegative, distanceAt}
-use Rattle.rules.specs.Begin.{exposed}
-use Rattle.rules.specs.Answer.{Reply, refused, done, Outcome, outcome, Carving, Removal, Opening, Check, _when_, unless, untouched}
+use Rattle.rules.specs.Grid.{fitSides, size, voxels, onBorder, isNegative, distanceAt}
+use Rattle.rules.specs.Checks.{Check, _when_, unless}
+use Rattle.rules.specs.Answer.{Reply, refused, done, Outcome, outcome, untouched, Buffers, buffers, Carving, Removal, Opening}
+use Rattle.rules.specs.Status.{statusOf, isKept, anyPending, testAt, firstOf, without, carving, openable}
 
 -- what a call is given and lent
 pub record State : Type 0 where
@@ -25,49 +26,23 @@ pub record State : Type 0 where
 abbrev pub state : Record → List ℤ → List ℕ → State
 state r d s = record { rec = r; dist = d; status = s }
 
--- ---- voxels of a state, by index
+abbrev pub lentTo : State → Buffers
+lentTo g = buffers (g .dist) (g .status)
 
-abbrev pub statusOf : List ℕ → ℕ → ℕ
-statusOf status i = getD status i 0
+-- ---- S, to a call on an unfinished grid, is the voxels of negative worked distance: only a voxel outside it may go
 
-unfoldable pub isKept : State → ℕ → Bool
-isKept g i = not (eqb (statusOf (g .status) i) 0)
+unfoldable pub isInside : List ℤ → ℕ → Bool
+isInside dist i = isNegative (distanceAt dist i)
 
-unfoldable pub isPending : State → ℕ → Bool
-isPending g i = eqb (statusOf (g .status) i) 3
+unfoldable pub outside : List ℤ → ℕ → Bool
+outside dist i = not (isInside dist i)
 
--- S, to a call on an unfinished grid
-unfoldable pub isInside : State → ℕ → Bool
-isInside g i = isNegative (distanceAt (g .dist) i)
+-- ---- the greatest worked distance goes ahead
 
--- the voxels that a removal may take or make pending: the kept ones outside S
-unfoldable pub removable : State → ℕ → Bool
-removable g i = isKept g i && not (isInside g i)
+unfoldable pub farther : List ℤ → ℕ → ℕ → Bool
+farther dist i j = ltZ (distanceAt dist j) (distanceAt dist i)
 
-unfoldable pub testAt : State → ℕ → Test
-testAt g i = test (block (g .rec .sides) (isKept g) i)
-
-unfoldable pub anyPending : State → Bool
-anyPending g = any (isPending g) (voxels (g .rec .sides))
-
--- ---- which voxel comes first: the greatest worked distance, the smallest index among equals
-
-unfoldable pub farther : State → ℕ → ℕ → Bool
-farther g i j = ltZ (distanceAt (g .dist) j) (distanceAt (g .dist) i)
-
--- i, whose index is smaller, against the choice among the voxels after it
-unfoldable pub prefer : State → ℕ → Option ℕ → Option ℕ
-prefer g i none = some i
-prefer g i (some j) = cond (farther g j i) (some j) (some i)
-
-unfoldable pub foremost : State → List ℕ → Option ℕ
-foremost g [] = none
-foremost g (i ∷ is) = prefer g i (foremost g is)
-
-unfoldable pub firstOf : State → (ℕ → Bool) → Option ℕ
-firstOf g p = foremost g (those p (voxels (g .rec .sides)))
-
--- ---- the record after one step: how much each count grows
+-- ---- the record after a call: how much each count grows
 
 abbrev pub count : Record → ℕ → ℕ → ℕ → ℤ → Record
 count r examined removed opened change =
@@ -81,66 +56,120 @@ count r examined removed opened change =
       finished = r .finished;
     }
 
--- ---- removal: the voxel is gone, and every kept voxel outside S that touches it becomes pending
+-- ---- number 7, the unfit record, clause by clause
 
-unfoldable pub statusWithout : State → ℕ → ℕ → ℕ
-statusWithout g i j = cond (eqb j i) 0 (cond (removable g j && touch (g .rec .sides) i j) 3 (statusOf (g .status) j))
+unfoldable pub unfitCounts : Record → Bool
+unfitCounts r =
+    ltb (r .allowed) (r .openings)
+    || (ltb (size (r .sides)) (r .removals) || (ltb (27 * size (r .sides)) (r .examinations) || ltb (8 * size (r .sides)) (natAbs (r .euler))))
 
-unfoldable pub without : State → ℕ → List ℕ
-without g i = map (statusWithout g i) (voxels (g .rec .sides))
+-- a status not 0, 1 or 3, a border status not 0, or a negative worked distance with status not 1
+unfoldable pub unfitVoxel : Sides → List ℤ → List ℕ → ℕ → Bool
+unfitVoxel s dist status i =
+    not (eqb (statusOf status i) 0 || (eqb (statusOf status i) 1 || eqb (statusOf status i) 3))
+    || ((onBorder s i && not (eqb (statusOf status i) 0)) || (isInside dist i && not (eqb (statusOf status i) 1)))
+
+unfoldable pub unfit : State → Bool
+unfit g = unfitCounts (g .rec) || any (unfitVoxel (g .rec .sides) (g .dist) (g .status)) (voxels (g .rec .sides))
+
+unfoldable pub wrongLength : State → Bool
+wrongLength g = not (eqb (length (g .dist)) (size (g .rec .sides)) && eqb (length (g .status)) (size (g .rec .sides)))
+
+-- ---- the checks that calls share: 1, 2, 7 on any state, then 8 on one that is to be unfinished, or 9 on one that is to be finished
+
+abbrev pub stateChecks : State → List Check
+stateChecks g =
+    1 when not (fitSides (g .rec .sides))
+    ∷ 2 when wrongLength g
+    ∷ 7 when unfit g
+    ∷ []
+
+abbrev pub workingChecks : State → List Check
+workingChecks g = stateChecks g ++ (8 when g .rec .finished ∷ [])
+
+abbrev pub finishedChecks : State → List Check
+finishedChecks g = stateChecks g ++ (9 when not (g .rec .finished) ∷ [])
 
 -- ---- carve
 
-abbrev pub examinedAs : Bool → State → ℕ → State
-examinedAs true g i = state (count (g .rec) 1 1 0 (pos 0)) (g .dist) (without g i)
-examinedAs false g i = state (count (g .rec) 1 0 0 (pos 0)) (g .dist) (set (g .status) i 1)
-
-unfoldable pub examine : State → ℕ → State
-examine g i = examinedAs (passes (testAt g i)) g i
-
-unfoldable pub carving : ℕ → State → State
-carving zero g = g
-carving (suc limit) g = elim (firstOf g (isPending g)) [ none ↦ g | some i ↦ carving limit (examine g i) ]
-
-unfoldable pub carvedFrom : State → State → Outcome Carving
-carvedFrom g h =
+unfoldable pub carved : ℕ → State → Outcome Buffers Carving
+carved limit g =
+    let s = g .rec .sides in
+    let r = carving s (outside (g .dist)) (farther (g .dist)) limit (g .status) in
     outcome
     (done (
     record {
-      examined = h .rec .examinations - g .rec .examinations;
-      removed = h .rec .removals - g .rec .removals;
-      pending = anyPending h;
-      next = h .rec;
+      examined = r .examined;
+      removed = r .removed;
+      pending = anyPending s (r .status);
+      next = count (g .rec) (r .examined) (r .removed) 0 (pos 0);
     }
     ))
-    (h .dist) (h .status)
+    (buffers (g .dist) (r .status))
+
+unfoldable pub carve : ℕ → State → Outcome Buffers Carving
+carve limit g = unless (workingChecks g) (untouched (lentTo g)) (carved limit g)
 
 -- ---- take
 
-unfoldable pub taken : State → ℕ → Outcome Removal
-taken g i =
-    let t = testAt g i in
-    outcome (done (record { k = t .k; m = t .m; next = count (g .rec) 0 1 0 (pos 0) })) (g .dist) (without g i)
+-- a voxel, to be taken
+abbrev pub voxelChecks : ℕ → State → List Check
+voxelChecks i g =
+    5 when leb (size (g .rec .sides)) i
+    ∷ 10 when not (isKept (g .status) i)
+    ∷ 11 when isInside (g .dist) i
+    ∷ 12 when not (passes (testAt (g .rec .sides) (g .status) i))
+    ∷ []
+
+abbrev pub takeChecks : ℕ → State → List Check
+takeChecks i g = workingChecks g ++ voxelChecks i g
+
+unfoldable pub taken : ℕ → State → Outcome Buffers Removal
+taken i g =
+    let s = g .rec .sides in
+    let t = testAt s (g .status) i in
+    outcome (done (record { k = t .k; m = t .m; next = count (g .rec) 0 1 0 (pos 0) })) (buffers (g .dist) (without s (outside (g .dist)) (g .status) i))
+
+unfoldable pub take : ℕ → State → Outcome Buffers Removal
+take i g = unless (takeChecks i g) (untouched (lentTo g)) (taken i g)
 
 -- ---- open
 
-unfoldable pub openable : State → ℕ → Bool
-openable g i = removable g i && exposed (g .rec .sides) (isKept g) i
-
+-- the voxel to open: the first that may be
 unfoldable pub toOpen : State → Option ℕ
-toOpen g = firstOf g (openable g)
+toOpen g = firstOf (g .rec .sides) (farther (g .dist)) (openable (g .rec .sides) (outside (g .dist)) (g .status))
 
-unfoldable pub isNone : Option ℕ → Bool
+abbrev pub isNone : Option ℕ → Bool
 isNone none = true
 isNone (some i) = false
 
-unfoldable pub openedAt : State → Option ℕ → Outcome Opening
-openedAt g none = outcome (refused 15) (g .dist) (g .status)
-openedAt g (some i) =
-    let t = testAt g i in
+abbrev pub quietChecks : State → List Check
+quietChecks g = 13 when anyPending (g .rec .sides) (g .status) ∷ []
+
+abbrev pub openingChecks : State → List Check
+openingChecks g =
+    14 when eqb (g .rec .openings) (g .rec .allowed)
+    ∷ 15 when isNone (toOpen g)
+    ∷ []
+
+abbrev pub openChecks : State → List Check
+openChecks g = workingChecks g ++ (quietChecks g ++ openingChecks g)
+
+unfoldable pub opened : ℕ → State → Outcome Buffers Opening
+opened i g =
+    let s = g .rec .sides in
+    let t = testAt s (g .status) i in
     outcome
     (done (record { index = i; k = t .k; m = t .m; next = count (g .rec) 0 1 1 (pos (t .k) -ℤ pos (t .m)) }))
-    (g .dist) (without g i)
+    (buffers (g .dist) (without s (outside (g .dist)) (g .status) i))
+
+-- none stands for no voxel to open, which number 15 has refused
+abbrev pub theVoxel : Option ℕ → ℕ
+theVoxel none = 0
+theVoxel (some i) = i
+
+unfoldable pub openNext : State → Outcome Buffers Opening
+openNext g = unless (openChecks g) (untouched (lentTo g)) (opened (theVoxel (toOpen g)) g)
 
 -- ---- finish
 
@@ -149,8 +178,8 @@ unfoldable pub closed : ℤ → ℤ
 closed (pos w) = negsuc (w - 1)
 closed (negsuc w) = negsuc w
 
-unfoldable pub finishedAt : State → ℕ → ℤ
-finishedAt g i = cond (isKept g i) (closed (distanceAt (g .dist) i)) (distanceAt (g .dist) i)
+unfoldable pub closedAt : List ℤ → List ℕ → ℕ → ℤ
+closedAt dist status i = cond (isKept status i) (closed (distanceAt dist i)) (distanceAt dist i)
 
 abbrev pub asFinished : Record → Record
 asFinished r =
@@ -164,8 +193,14 @@ asFinished r =
       finished = true;
     }
 
-unfoldable pub finishedOf : State → Outcome Record
-finishedOf g = outcome (done (asFinished (g .rec))) (map (finishedAt g) (voxels (g .rec .sides))) (g .status)
+abbrev pub finishChecks : State → List Check
+finishChecks g = workingChecks g ++ quietChecks g
+
+unfoldable pub finishedOf : State → Outcome Buffers Record
+finishedOf g = outcome (done (asFinished (g .rec))) (buffers (map (closedAt (g .dist) (g .status)) (voxels (g .rec .sides))) (g .status))
+
+unfoldable pub finish : State → Outcome Buffers Record
+finish g = unless (finishChecks g) (untouched (lentTo g)) (finishedOf g)
 
 -- ---- the state that holds after a call: after a refusal the record is the one that was given
 
@@ -173,73 +208,5 @@ abbrev pub recordAfter : {A : Type 0} → (A → Record) → Record → Reply A 
 recordAfter next given (refused n) = given
 recordAfter next given (done a) = next a
 
-abbrev pub after : {A : Type 0} → (A → Record) → State → Outcome A → State
-after next g o = state (recordAfter next (g .rec) (o .answer)) (o .dist) (o .status)
-
--- ---- number 7, the unfit record, clause by clause
-
-unfoldable pub unfitCounts : Record → Bool
-unfitCounts r =
-    ltb (r .allowed) (r .openings)
-    || (ltb (size (r .sides)) (r .removals) || (ltb (27 * size (r .sides)) (r .examinations) || ltb (8 * size (r .sides)) (natAbs (r .euler))))
-
-unfoldable pub unfitStatus : State → ℕ → Bool
-unfitStatus g i =
-    not (eqb (statusOf (g .status) i) 0 || (eqb (statusOf (g .status) i) 1 || eqb (statusOf (g .status) i) 3))
-    || ((onBorder (g .rec .sides) i && isKept g i) || (isInside g i && not (eqb (statusOf (g .status) i) 1)))
-
-unfoldable pub unfit : State → Bool
-unfit g = unfitCounts (g .rec) || any (unfitStatus g) (voxels (g .rec .sides))
-
-unfoldable pub wrongLength : State → Bool
-wrongLength g = not (eqb (length (g .dist)) (size (g .rec .sides)) && eqb (length (g .status)) (size (g .rec .sides)))
-
--- ---- the calls, each with its checks in order
-
-unfoldable pub carve : ℕ → State → Outcome Carving
-carve limit g =
-    unless (
-    1 when not (fitSides (g .rec .sides))
-    ∷ 2 when wrongLength g
-    ∷ 7 when unfit g
-    ∷ 8 when g .rec .finished
-    ∷ []
-    ) (untouched (g .dist) (g .status)) (carvedFrom g (carving limit g))
-
-unfoldable pub take : ℕ → State → Outcome Removal
-take i g =
-    unless (
-    1 when not (fitSides (g .rec .sides))
-    ∷ 2 when wrongLength g
-    ∷ 7 when unfit g
-    ∷ 8 when g .rec .finished
-    ∷ 5 when leb (size (g .rec .sides)) i
-    ∷ 10 when not (isKept g i)
-    ∷ 11 when isInside g i
-    ∷ 12 when not (passes (testAt g i))
-    ∷ []
-    ) (untouched (g .dist) (g .status)) (taken g i)
-
-unfoldable pub openNext : State → Outcome Opening
-openNext g =
-    unless (
-    1 when not (fitSides (g .rec .sides))
-    ∷ 2 when wrongLength g
-    ∷ 7 when unfit g
-    ∷ 8 when g .rec .finished
-    ∷ 13 when anyPending g
-    ∷ 14 when eqb (g .rec .openings) (g .rec .allowed)
-    ∷ 15 when isNone (toOpen g)
-    ∷ []
-    ) (untouched (g .dist) (g .status)) (openedAt g (toOpen g))
-
-unfoldable pub finish : State → Outcome Record
-finish g =
-    unless (
-    1 when not (fitSides (g .rec .sides))
-    ∷ 2 when wrongLength g
-    ∷ 7 when unfit g
-    ∷ 8 when g .rec .finished
-    ∷ 13 when anyPending g
-    ∷ []
-    ) (untouched (g .dist) (g .status)) (finishedOf g)
+abbrev pub after : {A : Type 0} → (A → Record) → State → Outcome Buffers A → State
+after next g o = state (recordAfter next (g .rec) (o .answer)) (o .lent .dist) (o .lent .status)

@@ -1,4 +1,4 @@
-// The types that the product's calls share: sides, record, point, answers. What they mean stands in specs/, document 01 section by section.
+// The types that the calls on a grid share: sides, record, answers. What they mean stands in specs/, document 01 section by section.
 
 // The grid's sides, in voxels along x, y and z.
 #[repr(C)]
@@ -20,13 +20,6 @@ pub struct Record {
     // the Euler number of the kept voxels
     pub euler: i32,
     pub finished: bool,
-}
-
-#[repr(C)]
-pub struct Point {
-    pub x: f64,
-    pub y: f64,
-    pub z: f64,
 }
 
 pub enum Begun {
@@ -61,17 +54,5 @@ pub enum Opened {
 
 pub enum Finished {
     Closed(Record),
-    Refused(u8),
-}
-
-pub enum Crossing {
-    Nowhere,
-    At(Point),
-    Refused(u8),
-}
-
-// What reading a file answers.
-pub enum Read {
-    Grid { sides: Sides, allowed: u16 },
     Refused(u8),
 }

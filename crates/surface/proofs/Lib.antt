@@ -1,5 +1,9 @@
+pub mod Worked
 pub mod Axis
-pub mod Sizes
 pub mod Indices
+pub mod BoundHalfUlp
+pub mod BoundOps
+pub mod BoundSums
+pub mod Bound
 pub mod Between
-pub mod Checks
+pub mod Crossable

@@ -1,22 +1,34 @@
 // Document 01, "Surface points": crossing.
 ghost use mathlib.Core.Path.{_≡_};
 ghost use mathlib.Core.Bool.{true, _||_};
-ghost use mathlib.Core.List.{List};
 ghost use mathlib.Core.Option.{Option};
-ghost use Prim.Native.Nat.{ℕ, _+_, _<_, _≤_};
-ghost use lib.Dec.{leb, ltb};
+ghost use Prim.Native.Nat.{_+_, _<_, _≤_};
+ghost use lib.Dec.{ltb};
 ghost use lib.ListN.{length};
-ghost use lib.IntN.{natAbs};
-ghost use Rattle.rules.specs.Grid.{voxel, index, size, fitSides};
-ghost use Rattle.rules.specs.declared.Point.{Point};
-ghost use Rattle.rules.specs.Answer.{done, outcome, crossingAnswer};
+ghost use Rattle.rules.specs.Grid.{voxel, size, fitSides};
+ghost use Rattle.rules.specs.Checks.{firstFailing};
+ghost use Rattle.rules.specs.Answer.{done, outcome, buffers};
 ghost use Rattle.rules.specs.Machine.{state};
-ghost use Rattle.rules.specs.Surface.{along, coordinate, side, next, whole, share, moved, pointFrom, crossingOf, crossingAt, crossing, BoundedAt};
-ghost use Rattle.surface.specs.Coordinates.{voxelOf, UpTo, HasNext};
-use rules::Crossing;
-use rules::Point;
+ghost use Rattle.surface.specs.declared.Point.{Point};
+ghost use Rattle.surface.specs.Surface.{along, whole, share, moved, pointFrom, crossingAt, noNext};
+ghost use Rattle.surface.specs.Surface.{crossingChecks, crossing, crossedAnswer, HasNext, BoundedAt};
+ghost use Rattle.surface.specs.Coordinates.{voxelOf, UpTo, stride};
 use rules::Record;
 use rules::Sides;
+
+#[repr(C)]
+pub struct Point {
+    pub x: f64,
+    pub y: f64,
+    pub z: f64,
+}
+
+// No crossing, a point, or a refusal's number.
+pub enum Crossed {
+    Nowhere,
+    At(Point),
+    Refused(u8),
+}
 
 // A voxel's coordinates.
 pub struct Coordinates {
@@ -36,16 +48,16 @@ fn whole(n: usize) -> f64
 }
 
 // t: one division of two whole numbers, each exact as a double.
-fn share(p: u32, q: u32) -> f64
-    requires { ⌜ p + q < 4294967296 ⌝ }
+fn share(p: u64, q: u64) -> f64
+    requires { ⌜ p + q ≤ 4294967296 ⌝ }
     ensures { λ r. ⌜ r ≡ share p q ⌝ }
 {
     p as f64 / (p + q) as f64
 }
 
 // A coordinate moved by t, towards the next voxel or towards the one before, rounded once.
-fn moved(higher: bool, x: usize, p: u32, q: u32) -> f64
-    requires { ⌜ (x ≤ 64) × (p + q < 4294967296) ⌝ }
+fn moved(higher: bool, x: usize, p: u64, q: u64) -> f64
+    requires { ⌜ (x ≤ 64) × (p + q ≤ 4294967296) ⌝ }
     ensures { λ r. ⌜ r ≡ moved higher x p q ⌝ }
 {
     let from = whole(x);
@@ -54,8 +66,8 @@ fn moved(higher: bool, x: usize, p: u32, q: u32) -> f64
 }
 
 // The negative voxel's coordinates as doubles, changed in one.
-fn point_from(axis: u32, higher: bool, v: Coordinates, p: u32, q: u32) -> Point
-    requires { ⌜ UpTo 64 v × (p + q < 4294967296) ⌝ }
+fn point_from(axis: u32, higher: bool, v: Coordinates, p: u64, q: u64) -> Point
+    requires { ⌜ UpTo 63 v × (p + q ≤ 4294967296) ⌝ }
     ensures { λ r. ⌜ r ≡ pointFrom axis higher (voxelOf v) p q ⌝ }
 {
     let mut r = Point {
@@ -73,19 +85,6 @@ fn point_from(axis: u32, higher: bool, v: Coordinates, p: u32, q: u32) -> Point
     }
     r.z = moved(higher, v.z, p, q);
     r
-}
-
-// |d|, which is 2 ^ 31 at most.
-fn size_of(d: i32) -> u32
-    ensures { λ r. ⌜ r ≡ natAbs d ⌝ }
-{
-    if d < 0 {
-        let above = d + 1;
-        let n = (0 - above) as u32;
-        n + 1
-    } else {
-        d as u32
-    }
 }
 
 // ---- voxels
@@ -107,55 +106,26 @@ fn coordinates_of(sides: Sides, i: usize) -> Coordinates
     requires { ⌜ (fitSides sides ≡ true) × (i < size sides) ⌝ }
     ensures { λ r. ⌜ (voxelOf r ≡ voxel sides i) × UpTo 63 r ⌝ }
 {
+    let row = i / sides.a;
     Coordinates {
         x: i % sides.a,
-        y: i / sides.a % sides.b,
-        z: i / (sides.a * sides.b),
+        y: row % sides.b,
+        z: row / sides.b,
     }
 }
 
-fn index_of(sides: Sides, v: Coordinates) -> usize
-    requires { ⌜ (fitSides sides ≡ true) × UpTo 64 v ⌝ }
-    ensures { λ r. ⌜ r ≡ index sides (voxelOf v) ⌝ }
+// How far the next voxel along the axis lies in index.
+pub fn stride(sides: Sides, axis: u32) -> usize
+    requires { ⌜ fitSides sides ≡ true ⌝ }
+    ensures { λ r. ⌜ (r ≡ stride axis sides) × (r ≤ 4096) ⌝ }
 {
-    v.x + sides.a * (v.y + sides.b * v.z)
-}
-
-// The voxel whose coordinate along the axis is one higher.
-fn next(axis: u32, v: Coordinates) -> Coordinates
-    requires { ⌜ UpTo 63 v ⌝ }
-    ensures { λ r. ⌜ (voxelOf r ≡ next axis (voxelOf v)) × UpTo 64 r ⌝ }
-{
-    Coordinates {
-        x: along(axis, v.x + 1, v.x, v.x),
-        y: along(axis, v.y, v.y + 1, v.y),
-        z: along(axis, v.z, v.z, v.z + 1),
-    }
-}
-
-// ---- the crossing
-
-// From v, of worked distance `here`, to the next voxel along the axis, of worked distance `there`.
-fn crossing_between(axis: u32, v: Coordinates, here: i32, there: i32) -> Crossing
-    requires { ⌜ UpTo 63 v ⌝ }
-    ensures { λ r. ⌜ crossingAnswer r ≡ done (crossingOf axis (voxelOf v) here there) ⌝ }
-{
-    if here < 0 {
-        if there < 0 {
-            return Crossing::Nowhere;
-        }
-        return Crossing::At(point_from(axis, true, v, size_of(here), size_of(there)));
-    }
-    if there < 0 {
-        return Crossing::At(point_from(axis, false, next(axis, v), size_of(there), size_of(here)));
-    }
-    Crossing::Nowhere
+    along(axis, 1, sides.a, sides.a * sides.b)
 }
 
 // Number 6: the axis is over 2, or the next voxel lies beyond the grid.
-fn beyond(sides: Sides, i: usize, axis: u32) -> bool
+pub fn beyond(sides: Sides, i: usize, axis: u32) -> bool
     requires { ⌜ (fitSides sides ≡ true) × (i < size sides) ⌝ }
-    ensures { λ r. ⌜ r ≡ (ltb 2 axis || leb (side axis sides) (coordinate axis (voxel sides i) + 1)) ⌝ }
+    ensures { λ r. ⌜ r ≡ (ltb 2 axis || noNext sides i axis) ⌝ }
 {
     let v = coordinates_of(sides, i);
     let end = along(axis, sides.a, sides.b, sides.c);
@@ -163,38 +133,63 @@ fn beyond(sides: Sides, i: usize, axis: u32) -> bool
     (2 < axis) | (end <= at + 1)
 }
 
-// The crossing from the voxel of index i, which has a next one along the axis. No status is looked at.
-fn crossing_at(given: Record, dist: &[i32], i: usize, axis: u32) -> Crossing
-    requires { ⌜ HasNext (given .sides) i axis × (length (now dist) ≡ size (given .sides)) ⌝ }
-    ensures { λ r. ⌜ ((status : List ℕ) → crossingAnswer r ≡ done (crossingAt i axis (state given (now (dist .entry)) status))) ⌝ }
-    ensures { λ r. ⌜ ((status : List ℕ) (o : Option Point) → crossingAnswer r ≡ done o → BoundedAt i axis (state given (now (dist .entry)) status) o) ⌝ }
+// ---- the crossing
+
+// From the voxel of index i, which has a next one along the axis. No status is looked at.
+pub fn crossing_at(sides: Sides, dist: &[i32], i: usize, axis: u32) -> Crossed
+    requires { ⌜ HasNext sides i axis × (length (now dist) ≡ size sides) ⌝ }
+    ensures { λ r. ⌜ crossedAnswer r ≡ done (crossingAt sides (now (dist .entry)) i axis) ⌝ }
+    ensures { λ r. ⌜ ((o : Option Point) → crossedAnswer r ≡ done o → BoundedAt sides (now (dist .entry)) i axis o) ⌝ }
 {
-    let sides = given.sides;
-    let v = coordinates_of(sides, i);
-    let j = index_of(sides, next(axis, v));
+    let j = i + stride(sides, axis);
     let here = dist[i];
     let there = dist[j];
-    crossing_between(axis, v, here, there)
+    if here < 0 {
+        if there < 0 {
+            return Crossed::Nowhere;
+        }
+        let v = coordinates_of(sides, i);
+        let p = sizes::magnitude(here);
+        let q = sizes::magnitude(there);
+        return Crossed::At(point_from(axis, true, v, p, q));
+    }
+    if there < 0 {
+        let v = coordinates_of(sides, j);
+        let p = sizes::magnitude(there);
+        let q = sizes::magnitude(here);
+        return Crossed::At(point_from(axis, false, v, p, q));
+    }
+    Crossed::Nowhere
+}
+
+// The number of the first check that fails, or 0.
+fn crossing_refusal(given: Record, dist: &[i32], status: &[u8], index: usize, axis: u32) -> u8
+    ensures { λ r. ⌜ r ≡ firstFailing (crossingChecks index axis (state given (now (dist .entry)) (now (status .entry)))) ⌝ }
+{
+    let n = fitness::finished_refusal(given, dist, status);
+    if n != 0 {
+        return n;
+    }
+    let sides = given.sides;
+    if sizes::voxel_count(sides) <= index {
+        return 5;
+    }
+    if beyond(sides, index, axis) {
+        return 6;
+    }
+    0
 }
 
 // Crossing, from the voxel of that index to the next along the axis.
-pub fn crossing(given: Record, dist: &[i32], status: &[u8], index: usize, axis: u32) -> Crossing
-    ensures { λ r. ⌜ outcome (crossingAnswer r) (now (dist .entry)) (now (status .entry)) ≡ crossing index axis (state given (now (dist .entry)) (now (status .entry))) ⌝ }
-    ensures { λ r. ⌜ ((o : Option Point) → crossingAnswer r ≡ done o → BoundedAt index axis (state given (now (dist .entry)) (now (status .entry))) o) ⌝ }
+pub fn crossing(given: Record, dist: &[i32], status: &[u8], index: usize, axis: u32) -> Crossed
+    ensures { λ r. ⌜ outcome (crossedAnswer r) (buffers (now (dist .entry)) (now (status .entry)))
+        ≡ crossing index axis (state given (now (dist .entry)) (now (status .entry))) ⌝ }
+    ensures { λ r. ⌜ ((o : Option Point) → crossedAnswer r ≡ done o → BoundedAt (given .sides) (now (dist .entry)) index axis o) ⌝ }
 {
-    let number = fitness::refusal(given, dist, status);
-    if number != 0 {
-        return Crossing::Refused(number);
-    }
-    if !given.finished {
-        return Crossing::Refused(9);
+    let n = crossing_refusal(given, dist, status, index, axis);
+    if n != 0 {
+        return Crossed::Refused(n);
     }
     let sides = given.sides;
-    if fitness::voxel_count(sides) <= index {
-        return Crossing::Refused(5);
-    }
-    if beyond(sides, index, axis) {
-        return Crossing::Refused(6);
-    }
-    crossing_at(given, dist, index, axis)
+    crossing_at(sides, dist, index, axis)
 }

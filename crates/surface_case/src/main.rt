@@ -1,19 +1,19 @@
 // Runs crossing: case A of document 01 after finish, and distances as far apart as 32 bits allow.
 ghost use mathlib.Core.Path.{_≡_};
-ghost use Rattle.rules.specs.Answer.{crossingAnswer};
+ghost use Rattle.surface.specs.Surface.{crossedAnswer};
 ghost use Rattle.surface_case.specs.Points.{isPoint};
-use rules::Crossing;
 use rules::Record;
 use rules::Sides;
+use surface::Crossed;
 
 // The answer is the point with these coordinates.
-fn is_point(c: Crossing, x: f64, y: f64, z: f64) -> bool
-    ensures { λ r. ⌜ r ≡ isPoint x y z (crossingAnswer c) ⌝ }
+fn is_point(c: Crossed, x: f64, y: f64, z: f64) -> bool
+    ensures { λ r. ⌜ r ≡ isPoint x y z (crossedAnswer c) ⌝ }
 {
     match c {
-        Crossing::At(p) => (p.x == x) & ((p.y == y) & (p.z == z)),
-        Crossing::Nowhere => false,
-        Crossing::Refused(_) => false,
+        Crossed::At(p) => (p.x == x) & ((p.y == y) & (p.z == z)),
+        Crossed::Nowhere => false,
+        Crossed::Refused(_) => false,
     }
 }
 

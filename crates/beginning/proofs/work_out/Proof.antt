@@ -1,15 +1,54 @@
--- `work_out` leaves what the rule says. Assumes nothing.
-use Rattle.rules.proofs.Distance.{inside-voxels}
-use Rattle.beginning.proofs.Settling.{worked-out}
+-- `work_out` leaves what the rule says.
+use mathlib.Core.Path.{_≡_, _∙_}
+use native.Mathlib.Omega.{arith}
+use Rattle.rules.specs.Begin.{inside}
+use Rattle.rules.proofs.Places.{Fit, fit}
+use Rattle.distances.specs.Work.{Seeded, Measured}
+use Rattle.beginning.proofs.Settling.{seeded, enclosable, worked-out}
 use borrow.Author.Needs.{needs}
 use Rattle.beginning.proofs.work_out.Statement.{statement}
 use Rattle.beginning.proofs.work_out.Tie as tie
 
+fits : (s : tie.Start) → Fit (s .args .sides)
+fits s = fit (s .args .sides) (s .pre .fit)
+
+add-far : tie.Need-add-far
+add-far c = let s = c .before .before in omega (arith, fits s .a-high, fits s .b-high, fits s .c-high)
+
+add-far-2 : tie.Need-add-far-2
+add-far-2 c = let s = c .before .before .before in omega (arith, fits s .a-high, fits s .b-high, fits s .c-high)
+
+cast-far : tie.Need-cast-far
+cast-far c = let s = c .before .before .before in record { fits = omega (arith, fits s .a-high, fits s .b-high, fits s .c-high) }
+
+abbrev lent : tie.After-struct-known → tie.Start
+lent c = c .before .before
+
+abbrev begun : tie.After-find → tie.Start
+begun c = lent (c .before .before .before .before)
+
+abbrev found : tie.After-measure → tie.After-find
+found c = c .before .before .before .before .before
+
+abbrev measured : tie.After-greatest → tie.After-measure
+measured c = c .before .before .before .before
+
+abbrev raised : tie.After-fill → tie.After-greatest
+raised c = c .before .before .before
+
+-- S is labelled
+labelled : (c : tie.After-find) → let s = begun c in Seeded (s .args .sides) (inside (s .args .sides) (s .args .values .now)) (c .find .last .0)
+labelled c = let s = begun c in seeded (s .args .sides) (s .args .values .now) _ _ (s .pre) (c .find .last .0) _ (omega arith) (c .find .ensures)
+
 find-requires : tie.Need-find-requires
 find-requires c κs = search needs
 
+-- the distances to it
+distances : (c : tie.After-measure) → let a = begun (found c) .args in Measured (a .sides) (inside (a .sides) (a .values .now)) (c .measure .last .0)
+distances c = let a = begun (found c) .args in c .measure .ensures (inside (a .sides) (a .values .now)) (labelled (found c))
+
 measure-requires : tie.Need-measure-requires
-measure-requires c κs = search needs
+measure-requires c κs = let f = c .before .before .before .before in let a = begun f .args in (inside (a .sides) (a .values .now), labelled f)
 
 greatest-requires : tie.Need-greatest-requires
 greatest-requires c κs = search needs
@@ -18,7 +57,10 @@ fill-requires : tie.Need-fill-requires
 fill-requires c κs = search needs
 
 enclose-requires : tie.Need-enclose-requires
-enclose-requires c κs = search needs
+enclose-requires c κs =
+    let d = measured (raised (c .before .before)) in
+    let s = begun (found d) in
+    enclosable (s .args .sides) (s .args .values .now) _ _ (s .pre) (d .measure .last .0) (distances d)
 
 settle-requires : tie.Need-settle-requires
 settle-requires c κs = search needs
@@ -31,17 +73,22 @@ same-length-2 c = search needs
 
 returns : tie.Need-returns
 returns c =
-    let t = c .before .before .before .before .before .before .before .before .before .before .before .before .before .before in
-    let s = c .before .before .before .before .before .before .before .before .before .before .before .before .before .before .before .before .before .before .before .before .before .before .before in
-    let a = s .args in
-    let some = inside-voxels (a .sides) (a .values .now) (s .pre .some) (s .pre .some-negative) in
-    worked-out (a .sides) (a .values .now) _ _ (s .pre) (t .measure .last .1 .0) (t .measure .ensures (a .values .now) some (c .before .before .before .before .before .before .before .before .before .before .before .before .before .before .before .before .before .before .before .find .ensures))
-    _ (c .before .before .before .before .before .before .before .before .before .before .greatest .ensures .0) _ (c .before .before .before .before .before .before .before .fill .ensures) _ (c .before .before .before .before .enclose .ensures) _ (c .before .before .settle .ensures)
+    let t = c .before .before in
+    let b = t .before .before in
+    let w = b .before .before .before in
+    let m = raised w in
+    let d = measured m in
+    let s = begun (found d) in
+    worked-out (s .args .sides) (s .args .values .now) _ _ (s .pre) (d .measure .last .0) (distances d) (m .greatest .result) (m .greatest .ensures .0)
+    _ (w .fill .ensures) (b .enclose .result) (b .enclose .ensures) _ (t .settle .ensures)
 
 pub work-out-spec : {M : Type 1} → statement M
 work-out-spec =
     tie.close
     (tie.spec
+    add-far
+    add-far-2
+    cast-far
     find-requires
     measure-requires
     greatest-requires

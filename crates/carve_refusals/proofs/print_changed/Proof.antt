@@ -1,4 +1,4 @@
--- `carve_refusals::print_changed` meets its contract. Assumes nothing.
+-- `carve_refusals::print_changed` meets its contract.
 use mathlib.Core.Path.{sym}
 use lib.ListN.{length-set}
 use lib.Seq.{length-take-le}

@@ -1,12 +1,12 @@
--- `fitness::refusal` meets its contract: each return is a law of `Passed`. Assumes nothing.
-use mathlib.Core.Path.{_≡_, sym, _∙_}
+-- `fitness::refusal` meets its contract: each return is a law of `Numbers`.
+use mathlib.Core.Path.{_≡_, refl, sym, _∙_}
 use mathlib.Core.Bool.{true}
 use borrow.Author.Needs.{needs}
-use Rattle.cells.proofs.Bools.{not-true, not-false}
+use Rattle.prelude.proofs.Bools.{not-true, not-false}
 use Rattle.rules.specs.Grid.{fitSides}
 use Rattle.rules.specs.Machine.{State, state}
-use Rattle.fitness.specs.Fitness.{Lent}
-use Rattle.fitness.proofs.Passed.{sides-refused, length-refused, counts-refused, voxels-refused, none-refused}
+use Rattle.rules.specs.Fit.{Lent}
+use Rattle.fitness.proofs.Numbers.{sides-refused, length-refused, counts-refused, grid-refused, none-refused}
 use Rattle.fitness.proofs.refusal.Statement.{statement}
 use Rattle.fitness.proofs.refusal.Tie as tie
 
@@ -50,7 +50,7 @@ lent c =
 returns-4 : tie.Need-returns-4
 returns-4 c =
     let u = c .before in
-    sym (counts-refused (lent-to (u .before .before .before .before .before .before .before .before)) (lent (u .before)) _ true (u .unfit-counts .ensures) (c .if4 .taken))
+    sym (counts-refused (lent-to (u .before .before .before .before .before .before .before .before)) (lent (u .before)) _ _ (u .unfit-counts .ensures) refl (c .if4 .taken))
 
 unfit-grid-requires : tie.Need-unfit-grid-requires
 unfit-grid-requires c κs = lent (c .before .before)
@@ -60,14 +60,14 @@ returns-5 c =
     let v = c .before in
     let e = v .before in
     let u = e .before in
-    sym (voxels-refused (lent-to (u .before .before .before .before .before .before .before .before)) (lent (u .before)) _ _ (u .unfit-counts .ensures) (e .if4 .left) (v .unfit-grid .ensures) (c .if5 .taken))
+    sym (grid-refused (lent-to (u .before .before .before .before .before .before .before .before)) (lent (u .before)) _ _ (u .unfit-counts .ensures) (v .unfit-grid .ensures) (c .if5 .taken))
 
 returns-6 : tie.Need-returns-6
 returns-6 c =
     let v = c .before in
     let e = v .before in
     let u = e .before in
-    sym (none-refused (lent-to (u .before .before .before .before .before .before .before .before)) (lent (u .before)) _ _ (u .unfit-counts .ensures) (e .if4 .left) (v .unfit-grid .ensures) (c .if5 .left))
+    sym (none-refused (lent-to (u .before .before .before .before .before .before .before .before)) (lent (u .before)) _ _ (u .unfit-counts .ensures) (v .unfit-grid .ensures) (e .if4 .left) (c .if5 .left))
 
 pub refusal-spec : {M : Type 1} → statement M
 refusal-spec =

@@ -1,4 +1,4 @@
--- `fitness::unfit_counts` meets its contract. Assumes nothing.
+-- `fitness::unfit_counts` meets its contract.
 use mathlib.Core.Path.{ap, ap₂, _∙_}
 use mathlib.Core.Bool.{_||_}
 use Prim.Native.Nat.{ℕ, _*_}

@@ -1,8 +1,8 @@
--- `gridfile::fit_up_to` meets its contract. Assumes nothing.
+-- `gridfile::fit_up_to` meets its contract.
 use mathlib.Core.Path.{ap}
 use mathlib.Core.Bool.{Bool, _&&_}
 use lib.Dec.{leb}
-use Rattle.gridfile.specs.Checks.{fitUpTo}
+use Rattle.gridfile.specs.File.{fitUpTo}
 use borrow.Author.Needs.{needs}
 use Rattle.gridfile.proofs.fit_up_to.Statement.{statement}
 use Rattle.gridfile.proofs.fit_up_to.Tie as tie

@@ -1,58 +1,51 @@
--- `gridfile::header_refusal` meets its contract. Assumes nothing.
+-- `gridfile::header_refusal` meets its contract.
 use mathlib.Core.Path.{_≡_, ap, sym, _∙_}
 use mathlib.Core.Bool.{true, false}
+use lib.Dec.{ltb, eqb}
+use lib.ListN.{length}
 use borrow.Author.Needs.{needs}
-use borrow.Author.Tests.{eq-eqb, ne-eqb, not-true, not-false}
+use borrow.Author.Tests.{lt-ltb, le-ltb, eq-eqb, ne-eqb, not-true, not-false}
 use Rattle.rules.specs.Grid.{fitSides, size}
-use Rattle.rules.specs.File.{marked, sidesIn}
-use Rattle.gridfile.specs.Checks.{fitUpTo}
-use Rattle.gridfile.proofs.Headers.{header-short, header-mark, header-sides, header-lent, fitUpTo-fits}
+use Rattle.rules.specs.Checks.{firstFailing}
+use Rattle.words.specs.Words.{tagged}
+use Rattle.gridfile.specs.File.{sidesIn, fitUpTo}
+use Rattle.gridfile.proofs.Headers.{fitUpTo-fits}
 use Rattle.gridfile.proofs.header_refusal.Statement.{statement}
 use Rattle.gridfile.proofs.header_refusal.Tie as tie
-use Rattle.gridfile.proofs.header_refusal.Reads as reads
-use Rattle.gridfile.proofs.header_refusal.Lts as lts
-use Rattle.gridfile.proofs.fit_up_to.Reads as fit-up-to-reads
-use Rattle.gridfile.proofs.is_marked.Reads as is-marked-reads
-use Rattle.gridfile.proofs.sides_in.Reads as sides-in-reads
-use Rattle.fitness.proofs.voxel_count.Reads as voxel-count-reads
+
+-- the checks, by what the code found at each
+enough : (c : tie.Else1) → ltb (length (c .before .before .args .file .now)) 7 ≡ false
+enough c = le-ltb _ 7 (c .if1 .left)
+
+right : (c : tie.Else2) → tagged 0x48 (c .before .before .before .before .args .file .now) 0 ≡ true
+right c = sym (c .before .is-tagged .ensures) ∙ not-false _ (c .if2 .left)
+
+fit : (c : tie.After-fit-up-to) → let a = c .before .before .before .before .before .before .args in
+    fitUpTo (a .greatest) (sidesIn (a .file .now)) ≡ c .fit-up-to .result
+fit c = sym (c .fit-up-to .ensures ∙ ap (fitUpTo _) (c .before .sides-in .ensures))
+
+fits : (c : tie.Else3) → let a = c .before .before .before .before .before .before .before .args in
+    fitUpTo (a .greatest) (sidesIn (a .file .now)) ≡ true
+fits c = fit (c .before) ∙ not-false (c .before .fit-up-to .result) (c .if3 .left)
+
+count : (c : tie.After-voxel-count) → let a = c .before .before .before .before .before .before .before .before .args in
+    c .voxel-count .result ≡ size (sidesIn (a .file .now))
+count c = c .voxel-count .ensures .0 ∙ ap size (c .before .before .before .sides-in .ensures)
 
 returns : tie.Need-returns
-returns c = sym (header-short _ _ _ (c .if1 .taken))
+unfolding firstFailing
+returns c = simp (lt-ltb _ 7 (c .if1 .taken))
 
-is-marked-requires : tie.Need-is-marked-requires
-is-marked-requires c κs = search needs
+is-tagged-requires : tie.Need-is-tagged-requires
+is-tagged-requires c κs = search needs
 
 returns-2 : tie.Need-returns-2
-returns-2 c = sym (header-mark _ _ _ (c .before .before .if1 .left) (sym (c .before .is-marked .ensures) ∙ not-true _ (c .if2 .taken)))
-
--- places of the code: what is known there
-abbrev Behind2 : Type 0
-Behind2 = lts.Else2 (
-  is-marked-reads.Asked,
-  is-marked-reads.Learnt,
-  sides-in-reads.Asked,
-  sides-in-reads.Learnt,
-  fit-up-to-reads.Asked,
-  fit-up-to-reads.Learnt,
-  voxel-count-reads.Asked,
-  voxel-count-reads.Learnt,
-) reads.Pre reads.Post
-
-abbrev Behind3 : Type 0
-Behind3 = lts.Else3 (
-  is-marked-reads.Asked,
-  is-marked-reads.Learnt,
-  sides-in-reads.Asked,
-  sides-in-reads.Learnt,
-  fit-up-to-reads.Asked,
-  fit-up-to-reads.Learnt,
-  voxel-count-reads.Asked,
-  voxel-count-reads.Learnt,
-) reads.Pre reads.Post
-
--- behind the second branch
-right-mark : (c : Behind2) → marked 0x48 (c .before .before .before .before .args .file .now) 0 ≡ true
-right-mark c = sym (c .before .is-marked .ensures) ∙ not-false _ (c .if2 .left)
+unfolding firstFailing
+returns-2 c =
+    let t = c .before in
+    let e = t .before in
+    let wrong : tagged 0x48 (e .before .before .args .file .now) 0 ≡ false = sym (t .is-tagged .ensures) ∙ not-true (t .is-tagged .result) (c .if2 .taken) in
+    simp (enough e, wrong)
 
 sides-in-requires : tie.Need-sides-in-requires
 sides-in-requires c κs = search needs
@@ -61,38 +54,40 @@ fit-up-to-requires : tie.Need-fit-up-to-requires
 fit-up-to-requires c κs = search needs
 
 returns-3 : tie.Need-returns-3
+unfolding firstFailing
 returns-3 c =
-    let m = c .before .before .before in
-    let unfit = sym (c .before .fit-up-to .ensures ∙ ap (fitUpTo _) (c .before .before .sides-in .ensures)) ∙ not-true _ (c .if3 .taken) in
-    sym (header-sides _ _ _ (m .before .before .if1 .left) (right-mark m) unfit)
-
--- behind the third branch
-fits : (c : Behind3) → let a = c .before .before .before .before .before .before .before .args in fitUpTo (a .greatest) (sidesIn (a .file .now)) ≡ true
-fits c = sym (c .before .fit-up-to .ensures ∙ ap (fitUpTo _) (c .before .before .sides-in .ensures)) ∙ not-false _ (c .if3 .left)
+    let t = c .before .before .before in
+    simp (enough (t .before .before), right t, fit (c .before), not-true (c .before .fit-up-to .result) (c .if3 .taken))
 
 voxel-count-requires : tie.Need-voxel-count-requires
 voxel-count-requires c κs = ap fitSides (c .before .before .sides-in .ensures) ∙ fitUpTo-fits _ _ (fits c)
 
 returns-4 : tie.Need-returns-4
+unfolding firstFailing
 returns-4 c =
-    let f = c .before .before in
-    let m = f .before .before .before in
-    let n = c .before .voxel-count .ensures .0 ∙ ap size (f .before .before .sides-in .ensures) in
-    sym (header-lent _ _ _ false (m .before .before .if1 .left) (right-mark m) (fits f) (ne-eqb _ _ (λ e. c .if4 .taken (e ∙ sym n))))
+    let n = c .before in
+    let f = n .before in
+    let t = f .before .before .before in
+    let a = t .before .before .before .before .args in
+    let wrong : eqb (a .lent) (size (sidesIn (a .file .now))) ≡ false = ne-eqb _ _ (λ e. c .if4 .taken (e ∙ sym (count n))) in
+    simp (enough (t .before .before), right t, fits f, wrong)
 
 returns-5 : tie.Need-returns-5
+unfolding firstFailing
 returns-5 c =
-    let f = c .before .before in
-    let m = f .before .before .before in
-    let n = c .before .voxel-count .ensures .0 ∙ ap size (f .before .before .sides-in .ensures) in
-    sym (header-lent _ _ _ true (m .before .before .if1 .left) (right-mark m) (fits f) (eq-eqb _ _ (c .if4 .left ∙ n)))
+    let n = c .before in
+    let f = n .before in
+    let t = f .before .before .before in
+    let a = t .before .before .before .before .args in
+    let right-size : eqb (a .lent) (size (sidesIn (a .file .now))) ≡ true = eq-eqb _ _ (c .if4 .left ∙ count n) in
+    simp (enough (t .before .before), right t, fits f, right-size)
 
 pub header-refusal-spec : {M : Type 1} → statement M
 header-refusal-spec =
     tie.close
     (tie.spec
     returns
-    is-marked-requires
+    is-tagged-requires
     returns-2
     sides-in-requires
     fit-up-to-requires

@@ -1,19 +1,17 @@
--- `gridfile::layers_refusal` meets its contract. Assumes nothing.
-use mathlib.Core.Path.{_≡_, sym, _∙_}
-use Prim.Native.Nat.{_+_}
-use native.Mathlib.Omega.{arith}
+-- `gridfile::layers_refusal` meets its contract.
+use mathlib.Core.Path.{_≡_, refl, sym, _∙_}
 use mathlib.Core.Bool.{true, false}
+use Prim.Native.Nat.{_+_, _<_}
+use native.Mathlib.Omega.{arith}
 use borrow.Author.Tests.{lt-ltb, le-ltb}
+use Rattle.rules.specs.Checks.{firstFailing}
 use Rattle.rules.proofs.Places.{fit}
-use Rattle.gridfile.specs.Checks.{layerFailing, unseen}
+use Rattle.rules.proofs.Checks.{all-hold}
+use Rattle.layers.specs.Layer.{zAt, layerChecks, Readable}
+use Rattle.layers.proofs.Reading.{readable}
 use Rattle.gridfile.proofs.Checking.{Checking, checking-start, checking-refused, checking-seen, checking-next, checking-done}
-use Rattle.gridfile.proofs.Records.{Right, failing-zero}
 use Rattle.gridfile.proofs.layers_refusal.Statement.{statement}
 use Rattle.gridfile.proofs.layers_refusal.Tie as tie
-use Rattle.gridfile.proofs.layers_refusal.Reads as reads
-use Rattle.gridfile.proofs.layers_refusal.Lts as lts
-use Rattle.gridfile.proofs.layer_length.Reads as layer-length-reads
-use Rattle.gridfile.proofs.layer_refusal.Reads as layer-refusal-reads
 
 abbrev Inv-loop : tie.InvT-loop
 Inv-loop sides file seen₀ start₀ left₀ seen start left = Checking sides file seen start left
@@ -21,33 +19,29 @@ Inv-loop sides file seen₀ start₀ left₀ seen start left = Checking sides fi
 abbrev μ-loop : tie.MeasureT-loop
 μ-loop sides file seen₀ start₀ left₀ seen start left = left
 
+-- behind the first branch
+none-failing : (c : tie.Else1 Inv-loop μ-loop) → let l = c .before .before .before in let a = l .before .before .args in
+    firstFailing (layerChecks (a .sides) (a .file .now) (l .loop .start)) ≡ 0
+none-failing c = sym (c .before .layer-refusal .ensures) ∙ c .if1 .left
+
+right : (c : tie.Else1 Inv-loop μ-loop) → let l = c .before .before .before in let a = l .before .before .args in
+    Readable (a .sides) (a .file .now) (l .loop .start)
+right c = let l = c .before .before .before in readable _ _ _ (l .before .before .pre) (all-hold _ refl (none-failing c))
+
+z-below : (c : tie.Else1 Inv-loop μ-loop) → let l = c .before .before .before in let a = l .before .before .args in
+    zAt (a .file .now) (l .loop .start) < 64
+z-below c = omega (arith, right c .z-below, fit _ (right c .fits) .c-high)
+
 loop-holds : tie.Need-loop-holds Inv-loop μ-loop
-unfolding unseen
 loop-holds c = checking-start _ _
 
 layer-refusal-requires : tie.Need-layer-refusal-requires Inv-loop μ-loop
-layer-refusal-requires c κs = tt
+layer-refusal-requires c κs = c .before .before .before .pre
 
 returns : tie.Need-returns Inv-loop μ-loop
 returns c =
     let t = c .before .before in
-    checking-refused _ _ _ _ _ (t .before .loop .inv) (t .loop-test .taken) _ (c .before .layer-refusal .ensures) (omega arith)
-
--- places of the code: what is known there
-abbrev Behind1 : Type 0
-Behind1 = lts.Else1 (
-  layer-refusal-reads.Asked,
-  layer-refusal-reads.Learnt,
-  layer-length-reads.Asked,
-  layer-length-reads.Learnt,
-) reads.Pre reads.Post Inv-loop μ-loop
-
--- behind the first branch
-none-failing : (c : Behind1) → let l = c .before .before .before in let a = l .before .before .args in layerFailing (a .sides) (a .file .now) (l .loop .start) ≡ 0
-none-failing c = sym (c .before .layer-refusal .ensures) ∙ c .if1 .left
-
-right : (c : Behind1) → let l = c .before .before .before in let a = l .before .before .args in Right (a .sides) (a .file .now) (l .loop .start)
-right c = failing-zero _ _ _ (none-failing c)
+    checking-refused _ _ _ _ _ (t .before .loop .inv) (t .loop-test .taken) _ (c .before .layer-refusal .ensures) (c .if1 .taken)
 
 add-z : tie.Need-add-z Inv-loop μ-loop
 add-z c = omega (arith, right c .whole)
@@ -56,19 +50,21 @@ shared-slice-read-z : tie.Need-shared-slice-read-z Inv-loop μ-loop
 shared-slice-read-z c = omega (arith, right (c .before) .whole)
 
 cast-z : tie.Need-cast-z Inv-loop μ-loop
-cast-z c = omega (arith, c .shared-slice-known2 .given (c .before .before .before .before .loop .start + 2))
+cast-z c =
+    let l = c .before .before .before .before in
+    omega (arith, c .shared-slice-known2 .given (l .loop .start + 2))
 
 array-read-if2 : tie.Need-array-read-if2 Inv-loop μ-loop
-array-read-if2 c = let r = right (c .before) in omega (arith, r .z-below, fit _ (r .fits) .c-high)
+array-read-if2 c = z-below (c .before)
 
 returns-2 : tie.Need-returns-2 Inv-loop μ-loop
 returns-2 c =
     let r = c .before .before in
     let t = r .before .before in
-    checking-seen _ _ _ _ _ (t .before .loop .inv) (t .loop-test .taken) (none-failing r) (c .if2 .taken)
+    checking-seen _ _ _ _ _ (t .before .loop .inv) (t .loop-test .taken) (none-failing r) (z-below r) (c .if2 .taken)
 
 array-write-seen : tie.Need-array-write-seen Inv-loop μ-loop
-array-write-seen c = let r = right (c .before .before) in omega (arith, r .z-below, fit _ (r .fits) .c-high)
+array-write-seen c = z-below (c .before .before)
 
 layer-length-requires : tie.Need-layer-length-requires Inv-loop μ-loop
 layer-length-requires c κs = right (c .before .before) .fits
@@ -86,7 +82,9 @@ loop-again : tie.Need-loop-again Inv-loop μ-loop
 loop-again c =
     let r = c .before .before .before in
     let t = r .before .before in
-    rw (c .layer-length .ensures) (checking-next _ _ _ _ _ (t .before .loop .inv) (t .loop-test .taken) (none-failing r) (c .before .if2 .left))
+    rw (c .layer-length .ensures) (
+    checking-next _ _ _ _ _ (t .before .loop .inv) (t .loop-test .taken) (none-failing r) (z-below r) (c .before .if2 .left)
+    )
 
 returns-3 : tie.Need-returns-3 Inv-loop μ-loop
 returns-3 c = checking-done _ _ _ _ _ (c .before .before .loop .inv) (c .before .loop-test .left) true (lt-ltb _ _ (c .if3 .taken))

@@ -1,4 +1,4 @@
--- `gridfile::sides_in` meets its contract. Assumes nothing.
+-- `gridfile::sides_in` meets its contract.
 use native.Mathlib.Omega.{arith}
 use borrow.Author.Needs.{needs}
 use Rattle.gridfile.proofs.sides_in.Statement.{statement}

@@ -1,9 +1,9 @@
--- `local_test::block_bits` meets its contract: the layers side by side. Assumes nothing.
+-- `local_test::block_bits` meets its contract: the layers side by side.
 use lib.Dec.{lit≤}
 use borrow.Author.Needs.{needs}
-use Rattle.local_test.specs.Bits.{bits}
+use Rattle.bits.specs.Bits.{bits}
 use Rattle.local_test.specs.Block.{keptIn}
-use Rattle.local_test.proofs.Bits.{three}
+use Rattle.bits.proofs.Bits.{three}
 use Rattle.local_test.proofs.block_bits.Statement.{statement}
 use Rattle.local_test.proofs.block_bits.Tie as tie
 

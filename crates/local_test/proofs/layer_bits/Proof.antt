@@ -1,9 +1,9 @@
--- `local_test::layer_bits` meets its contract: the rows side by side, three bits of each. Assumes nothing.
+-- `local_test::layer_bits` meets its contract: the rows side by side, three bits of each.
 use lib.Dec.{lit≤}
 use borrow.Author.Needs.{needs}
-use Rattle.local_test.specs.Bits.{bits}
+use Rattle.bits.specs.Bits.{bits}
 use Rattle.local_test.specs.Block.{keptInLayer}
-use Rattle.local_test.proofs.Bits.{three, low-three}
+use Rattle.bits.proofs.Bits.{three, low-three}
 use Rattle.local_test.proofs.layer_bits.Statement.{statement}
 use Rattle.local_test.proofs.layer_bits.Tie as tie
 

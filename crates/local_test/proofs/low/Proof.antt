@@ -1,6 +1,6 @@
--- `local_test::low` meets its contract. Assumes nothing.
+-- `local_test::low` meets its contract.
 use lib.Bits.{and-le-r}
-use Rattle.local_test.proofs.Bits.{low}
+use Rattle.bits.proofs.Bits.{low}
 use Rattle.local_test.proofs.low.Statement.{statement}
 use Rattle.local_test.proofs.low.Tie as tie
 

@@ -1,7 +1,7 @@
--- `local_test::rank` meets its contract: bit by bit. Assumes nothing.
+-- `local_test::rank` meets its contract: bit by bit.
 use borrow.Author.Needs.{needs}
-use Rattle.cells.specs.Rank.{rank, rankBy}
-use Rattle.local_test.proofs.Bits.{has-or, has-and, has-shr}
+use Rattle.closed_sets.specs.Rank.{rank, rankBy}
+use Rattle.bits.proofs.Bits.{has-or, has-and, has-shr}
 use Rattle.local_test.proofs.rank.Statement.{statement}
 use Rattle.local_test.proofs.rank.Tie as tie
 
@@ -35,10 +35,12 @@ add-result-4 c = search needs
 returns : tie.Need-returns
 unfolding rank rankBy
 returns c =
+    let l3 = c .before .before in
+    let l1 = l3 .before .before in
     simp (
-      c .before .before .before .before .low .ensures .0,
-      c .before .before .before .low2 .ensures .0,
-      c .before .before .low3 .ensures .0,
+      l1 .low .ensures .0,
+      l3 .before .low2 .ensures .0,
+      l3 .low3 .ensures .0,
       c .before .low4 .ensures .0,
       c .rank-of-4 .ensures .0,
       has-or,

@@ -1,6 +1,6 @@
--- `local_test::rank_of_4` meets its contract. Assumes nothing.
+-- `local_test::rank_of_4` meets its contract.
 use borrow.Author.Needs.{needs}
-use Rattle.local_test.proofs.Bits.{has-or, has-and}
+use Rattle.bits.proofs.Bits.{has-or, has-and}
 use Rattle.local_test.proofs.rank_of_4.Statement.{statement}
 use Rattle.local_test.proofs.rank_of_4.Tie as tie
 

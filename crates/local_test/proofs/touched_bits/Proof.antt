@@ -1,4 +1,4 @@
--- `local_test::touched_bits` meets its contract. Assumes nothing.
+-- `local_test::touched_bits` meets its contract.
 use Rattle.local_test.proofs.Spread.{touched-spread}
 use Rattle.local_test.proofs.touched_bits.Statement.{statement}
 use Rattle.local_test.proofs.touched_bits.Tie as tie

@@ -1,39 +1,49 @@
--- `raise` meets its contract: its word lifted into the leaf of its block. Assumes nothing.
-use mathlib.Core.Logic.{inr}
-use mathlib.Core.Path.{refl, ap, _∙_}
-use borrow.Author.Needs.{sfits-of, needs}
+-- `raise` meets its contract: a key not above its stretch's changes nothing, one above it is the offset's and is lifted.
+use mathlib.Core.Path.{_≡_, refl, ap, _∙_, subst}
+use mathlib.Core.Bool.{true}
+use Prim.Native.Nat.{ℕ, _/_, _≤_, _<_}
 use native.Mathlib.Omega.{arith}
-use lib.IntN.{ℤ}
-use lib.ListN.{length-set}
-use mir.Facts.{toZ-ofZ}
-use Rattle.pending.specs.Word.{wordOf}
-use Rattle.pending.proofs.Blocks.{nodes-set, index-raised}
+use lib.ListN.{set}
+use Rattle.rules.specs.Status.{pendingByte}
+use Rattle.rules.proofs.Topology.Bytes.{woken-pending}
+use Rattle.keys.specs.Key.{keyAt, stretchKey}
+use Rattle.pending.proofs.Held.{held, held-key}
+use Rattle.pending.proofs.Changes.{nodes-now, index-kept, index-raised}
+use borrow.Author.Needs.{needs}
 use Rattle.pending.proofs.raise.Statement.{statement}
 use Rattle.pending.proofs.raise.Tie as tie
+
+slice-read-wake : tie.Need-slice-read-wake
+slice-read-wake c = search needs
+
+wake-requires : tie.Need-wake-requires
+wake-requires c κs = search needs
 
 slice-write-status : tie.Need-slice-write-status
 slice-write-status c = search needs
 
-count-blocks-requires : tie.Need-count-blocks-requires
-count-blocks-requires c κs = search needs
+voxel-key-requires : tie.Need-voxel-key-requires
+voxel-key-requires c κs = search needs
 
-mul-d : tie.Need-mul-d
-mul-d c = search needs
+-- the byte is pending
+woken-byte : (c : tie.After-wake) → pendingByte (c .wake .result) ≡ true
+woken-byte c = ap pendingByte (c .wake .ensures) ∙ woken-pending _
 
-shared-slice-copy-out-d : tie.Need-shared-slice-copy-out-d
-shared-slice-copy-out-d c = search needs
+-- the greatest key of the voxel's stretch
+stretch-now : (c : tie.After-held-key) → let w = c .before .before .before in let s = w .before .before .before .before .before in
+    c .held-key .result ≡ stretchKey (keyAt (s .args .dist .now) (s .args .status .now)) (s .args .j / 64)
+stretch-now c =
+    let w = c .before .before .before in
+    let s = w .before .before .before .before .before in
+    let i = s .pre .0 in
+    c .held-key .ensures ∙ held-key _ _ (i .lent) _ (i .index .offset) _ (omega (arith, s .pre .1))
 
-word-requires : tie.Need-word-requires
-word-requires c κs =
-    let s = c .before .before .before .before .before in
-    (omega (arith, s .pre .1, s .pre .0 .lent .few), inr refl)
-
-lift-requires : tie.Need-lift-requires
-lift-requires c κs =
-    let n = c .before .before .before in
-    let s = n .before .before .before in
-    let e = simp length-set at (n .count-blocks .ensures) in
-    (nodes-set _ _ (s .args .j) _ _ (s .pre .0) _ (n .count-blocks .ensures), omega (arith, s .pre .1), omega (arith, s .pre .0 .lent .few))
+held-key-requires : tie.Need-held-key-requires
+held-key-requires c κs =
+    let w = c .before .before in
+    let s = w .before .before .before .before .before in
+    let i = s .pre .0 in
+    (held _ _ (i .lent) _ (i .index .offset), omega (arith, s .pre .1, i .lent .same))
 
 same-length : tie.Need-same-length
 same-length c = search needs
@@ -43,25 +53,79 @@ same-length-2 c = search needs
 
 returns : tie.Need-returns
 returns c =
-    let l = c .before .before in
-    let w = l .before in
-    let d = w .before .before in
-    let n = d .before in
-    let s = n .before .before .before in
+    let b = c .before in
+    let v = b .before .before in
+    let w = v .before in
+    let s = w .before .before .before .before .before in
     let a = s .args in
-    let v = w .word .ensures ∙ ap (λ (x : ℤ). wordOf x 3 (a .j)) (toZ-ofZ (sfits-of (d .d .given))) in
-    (refl, index-raised _ _ (a .j) _ (s .pre .0) _ (n .count-blocks .ensures) _ _ (s .pre .1) (s .pre .2) v (l .lift .ensures))
+    record {
+      status = ap (set (a .status .now) (a .j)) (w .wake .ensures);
+      index =
+          index-kept _ _ (a .j) _ _ _ (s .pre .0) (s .pre .1) (woken-byte w) _ (v .voxel-key .ensures)
+          (subst (λ (x : ℕ). v .voxel-key .result ≤ x) (stretch-now b) (c .if1 .taken));
+    }
+
+count-groups-requires : tie.Need-count-groups-requires
+count-groups-requires c κs = search needs
+
+cast-offsets : tie.Need-cast-offsets
+cast-offsets c = search needs
+
+slice-write-offsets : tie.Need-slice-write-offsets
+slice-write-offsets c = search needs
+
+lift-requires : tie.Need-lift-requires
+lift-requires c κs =
+    let g = c .before in
+    let w = g .before .before .before .before .before in
+    let s = w .before .before .before .before .before in
+    let i = s .pre .0 in
+    let e = g .count-groups .ensures in
+    (nodes-now _ _ (s .args .j) (w .wake .result) _ _ i (s .pre .1) _ e, omega (arith, s .pre .1, i .lent .same))
+
+same-length-3 : tie.Need-same-length-3
+same-length-3 c = search needs
+
+same-length-4 : tie.Need-same-length-4
+same-length-4 c = search needs
+
+same-length-5 : tie.Need-same-length-5
+same-length-5 c = search needs
+
+returns-2 : tie.Need-returns-2
+returns-2 c =
+    let l = c .before .before in
+    let g = l .before .before in
+    let i = g .before in
+    let b = i .before in
+    let v = b .before .before in
+    let w = v .before in
+    let s = w .before .before .before .before .before in
+    let a = s .args in
+    record {
+      status = ap (set (a .status .now) (a .j)) (w .wake .ensures);
+      index =
+          index-raised _ _ (a .j) _ _ _ (s .pre .0) (s .pre .1) (woken-byte w) _ (v .voxel-key .ensures) _ _ _
+          (subst (λ (x : ℕ). x < v .voxel-key .result) (stretch-now b) (i .if1 .left)) refl (g .count-groups .ensures) (l .lift .ensures);
+    }
 
 pub raise-spec : {M : Type 1} → statement M
 raise-spec =
     tie.close
     (tie.spec
+    slice-read-wake
+    wake-requires
     slice-write-status
-    count-blocks-requires
-    mul-d
-    shared-slice-copy-out-d
-    word-requires
-    lift-requires
+    voxel-key-requires
+    held-key-requires
     same-length
     same-length-2
-    returns)
+    returns
+    count-groups-requires
+    cast-offsets
+    slice-write-offsets
+    lift-requires
+    same-length-3
+    same-length-4
+    same-length-5
+    returns-2)

@@ -1,4 +1,4 @@
--- The block around a voxel that is not on the border: its places, the voxels there, and which of them contain a cell. Assumes nothing.
+-- The block around a voxel that is not on the border: its places, the voxels there, and which of them contain a cell.
 use mathlib.Core.Path.{_≡_, refl, ap, ap₂}
 use mathlib.Core.Logic.{_⊎_, inl, inr, _≢_}
 use mathlib.Core.Bool.{Bool, true, not, _&&_, _||_}
@@ -8,13 +8,13 @@ use lib.Dec.{leb, eqb}
 use borrow.Author.Tests.{leb-true, leb-false, le-leb, eqb-true, eqb-false, ne-eqb}
 use Rattle.cells.specs.Groups.{any, those}
 use Rattle.cells.specs.Cells.{spans, contains, places}
-use Rattle.cells.proofs.Bools.{and-true, true-and, or-true, or-false}
-use Rattle.cells.proofs.Lists.{Mem, any-false, mem-those}
-use Rattle.cells.proofs.EveryBlock.{contains-trans}
+use Rattle.prelude.proofs.Bools.{and-true, true-and, or-true, or-false}
+use Rattle.prelude.proofs.Lists.{Mem, any-false, mem-those}
+use Rattle.closed_sets.proofs.EveryBlock.{contains-trans}
 use Rattle.rules.specs.declared.Sides.{Sides}
 use Rattle.rules.specs.Grid.{Voxel, index, voxel, from, gap, near, touch, reaches, neighbour, blockOf}
 use Rattle.rules.proofs.Places.{InGrid, voxel-eq}
-use Rattle.rules.proofs.Voxels.{mem-from}
+use Rattle.prelude.proofs.Ranges.{mem-from}
 
 -- ---- voxels that touch
 

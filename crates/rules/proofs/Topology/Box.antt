@@ -1,4 +1,4 @@
--- A solid box inside the grid: its voxels by index, and the shape of this body: in one piece, and so is the rest of the grid. Assumes nothing.
+-- A solid box inside the grid: its voxels by index, and the shape of this body: in one piece, and so is the rest of the grid.
 use mathlib.Core.Path.{_≡_, refl, ap, ap₂, sym, _∙_, subst, fun-ext}
 use mathlib.Core.Logic.{_⊎_, inl, inr}
 use mathlib.Core.Bool.{Bool, true, false, not, _&&_}
@@ -8,7 +8,7 @@ use lib.Dec.{ltb, eqb}
 use lib.IntN.{pos}
 use borrow.Author.Tests.{ltb-true, lt-ltb, eq-eqb}
 use Rattle.cells.specs.Linked.{Linked, stay, step, OnePiece}
-use Rattle.cells.proofs.Bools.{and-true, true-and, and-zero, and-false, both-ways, not-true}
+use Rattle.prelude.proofs.Bools.{and-true, true-and, and-zero, and-false, both-ways, not-true}
 use Rattle.cells.proofs.Chains.{append, before, reverse, carry}
 use Rattle.rules.specs.declared.Sides.{Sides}
 use Rattle.rules.specs.Grid.{Voxel, index, voxel, size, gap, near, touch, apart, steps, shareFace}

@@ -1,4 +1,4 @@
--- A solid box of voxels has the Euler number 1. Assumes nothing.
+-- A solid box of voxels has the Euler number 1.
 use mathlib.Core.Path.{_≡_, refl, ap, sym, _∙_}
 use mathlib.Core.Logic.{inl, inr}
 use mathlib.Core.Bool.{Bool, true, false, _&&_, _||_}
@@ -9,7 +9,7 @@ use lib.Dec.{leb}
 use lib.IntN.{pos}
 use borrow.Author.Tests.{leb-true, le-leb, lt-leb}
 use Rattle.cells.specs.Cells.{bit}
-use Rattle.cells.proofs.Bools.{and-true, true-and, and-zero}
+use Rattle.prelude.proofs.Bools.{and-true, true-and, and-zero}
 use Rattle.rules.specs.declared.Sides.{Sides}
 use Rattle.rules.specs.Body.{Voxels, Piece, plane, stretch, some, covered, sum, sum3, corners, edges, faces, cubes, eulerOf, Has}
 use Rattle.rules.proofs.Topology.Ints.{difference-one}

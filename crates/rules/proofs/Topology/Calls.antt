@@ -1,42 +1,160 @@
--- Every call keeps what holds of a state, and the record's counts grow by what the call answered. Assumes nothing.
-use mathlib.Core.Path.{_≡_, refl, ap, sym, _∙_}
-use mathlib.Core.Bool.{Bool, true, false, not, cond, true≢false}
+-- Every call keeps what holds of a state, and the record's counts grow by what the call answered.
+use mathlib.Core.Path.{_≡_, refl, ap, sym, _∙_, subst}
+use mathlib.Core.Logic.{_⊎_, inl, inr}
+use mathlib.Core.Bool.{Bool, true, false, not, cond, _&&_, true≢false}
 use mathlib.Core.List.{List, [], _∷_}
 use mathlib.Core.Option.{Option, none, some}
-use Prim.Native.Nat.{ℕ, zero, suc, _+_, _≤_, _<_}
+use Prim.Native.Nat.{ℕ, zero, suc, _+_, _*_, _≤_, _<_}
 use native.Mathlib.Omega.{arith}
-use lib.IntN.{ℤ, _+ℤ_, +ℤ-assoc, +ℤ-idr}
-use borrow.Author.Tests.{leb-false}
+use lib.IntN.{ℤ, pos, _+ℤ_, +ℤ-assoc, +ℤ-idr}
+use lib.ListN.{length}
+use Rattle.cells.specs.Groups.{any, those}
 use Rattle.cells.specs.Cells.{passes}
-use Rattle.cells.proofs.Bools.{and-true, not-true, not-false}
-use Rattle.rules.specs.Grid.{size}
+use Rattle.prelude.proofs.Bools.{and-true, and-one, not-true, not-both, two}
+use Rattle.prelude.proofs.Lists.{Mem, any-true, mem-those}
+use Rattle.rules.specs.declared.Sides.{Sides}
+use Rattle.rules.specs.declared.Record.{Record}
+use Rattle.rules.specs.Grid.{size, from, voxels}
 use Rattle.rules.specs.Begin.{exposed}
-use Rattle.rules.specs.Answer.{Outcome, Check, unless, untouched}
-use Rattle.rules.specs.Machine.{State, after, isKept, isPending, isInside, removable, testAt, firstOf, examinedAs, examine, carving, carvedFrom, taken, openable, toOpen, openedAt, finishedOf, carve, take, openNext, finish}
+use Rattle.rules.specs.Meaning.{found}
+use Rattle.rules.specs.Status.{Progress, isKept, isPending, anyPending, removable, testAt, firstOf, examine, carving, counted, openable}
+use Rattle.rules.specs.Machine.{State, after, lentTo, isInside, outside, farther, count, workingChecks, takeChecks, openChecks, finishChecks, carved, taken, toOpen, isNone, opened, theVoxel, finishedOf, carve, take, openNext, finish}
+use Rattle.rules.specs.Answer.{untouched}
+use Rattle.rules.specs.Choice.{Order}
+use Rattle.rules.specs.Fit.{Working, Takeable, Openable}
 use Rattle.rules.specs.Demand.{Call, carveUpTo, takeAt, openOne, finishIt, Sums, nothing, ofCarve, ofTake, ofOpen, call, run}
-use Rattle.rules.proofs.Foremost.{first-foremost}
-use Rattle.rules.proofs.Topology.Steps.{Good, good-taken, good-opened, good-examine}
+use Rattle.rules.proofs.Checks.{by-checks}
+use Rattle.prelude.proofs.Ranges.{any-below}
+use Rattle.rules.proofs.Foremost.{farther-order, first-foremost, first-none}
+use Rattle.rules.proofs.Fit as fit
+use Rattle.rules.proofs.Topology.Steps.{Tally, tally, Sound, sound-taken, sound-opened, sound-examined}
 
--- ---- the first check that fails refuses; where none fails, the call does its work
+-- ---- a run of examinations, by any order, with no voxel pinned
 
-abbrev pub Passing : List Check → Type 0
-Passing [] = Unit {0}
-Passing (c ∷ cs) = (c .fails ≡ false) × (Passing cs)
+none-those : (p : ℕ → Bool) (l : List ℕ) → length (those p l) ≡ 0 → any p l ≡ false
+none-those p l z =
+    elim (two (any p l)) [
+      | inl t ↦ let r = any-true p l t in not-both false (filled (those p l) (r .0) (mem-those p l (r .0) (r .1) (r .2)) z) refl
+      | inr f ↦ f
+    ]
+  where
+    filled : (l : List ℕ) (x : ℕ) → Mem x l → length l ≡ 0 → false ≡ true
+    filled (y ∷ l) x m z = let w : ⊥ = omega arith in absurd w
 
-module _ {A : Type 0} (d : List ℤ) (b : List ℕ) (work : Outcome A) (P : Outcome A → Type 0) where
-  pub by-checks : (cs : List Check) → ((n : ℕ) → P (untouched d b n)) → (Passing cs → P work) → P (unless cs (untouched d b) work)
-  unfolding unless
-  by-checks [] refuse pass = pass tt
-  by-checks (c ∷ cs) refuse pass = go (c .fails) refl (λ pass. by-checks cs refuse pass)
+none-pending : (s : Sides) (status : List ℕ) → found s (isPending status) ≡ 0 → anyPending s status ≡ false
+unfolding anyPending
+none-pending s status z = none-those (isPending status) (voxels s) z
+
+module _ (s : Sides) (S held free : ℕ → Bool) (ahead : ℕ → ℕ → Bool) (order : Order ahead) (total : ℕ)
+    (free-is : (j : ℕ) → j < size s → free j ≡ not (S j)) where
+  abbrev none-pinned : ℕ → Bool
+  none-pinned j = false
+
+  free-unpinned : (j : ℕ) → j < size s → free j ≡ (not (S j) && not (none-pinned j))
+  free-unpinned j h = free-is j h ∙ sym (and-one (not (S j)))
+
+  never-pinned : (j : ℕ) → none-pinned j ≡ true → held j ≡ true
+  never-pinned j e = absurd (true≢false (sym e))
+
+  -- the counts before a run, and what it did
+  abbrev grown : Tally → Progress → Tally
+  grown t p = tally (p .examined + t .examined) (p .removed + t .removed) (t .opened) (t .number)
+
+  nothing-done : (status : List ℕ) (t : Tally) → Sound s S held total status t → Sound s S held total status (tally (0 + t .examined) (0 + t .removed) (t .opened) (t .number))
+  nothing-done status t h = subst (λ (t : Tally). Sound s S held total status t) (λ n. tally (same (t .examined) n) (same (t .removed) n) (t .opened) (t .number)) h
     where
-      go : (t : Bool) → c .fails ≡ t → ((Passing cs → P work) → P (unless cs (untouched d b) work)) → P (cond t (untouched d b (c .number)) (unless cs (untouched d b) work))
-      go true e rest = refuse (c .number)
-      go false e rest = rest (λ h. pass (e, h))
+      same : (n : ℕ) → n ≡ 0 + n
+      same n = omega arith
 
--- ---- what one call does to the record
+  pub carving-sound : (limit : ℕ) (status : List ℕ) (t : Tally) → Sound s S held total status t
+      → let p = carving s free ahead limit status in Sound s S held total (p .status) (grown t p)
+  unfolding carving
+  carving-sound zero status t sound = nothing-done status t sound
+  carving-sound (suc limit) status t sound = go (firstOf s ahead (isPending status)) refl (λ i t sound. carving-sound limit (examine s free status i) t sound)
+    where
+      next : Option ℕ → Progress
+      next o = elim o [
+        | none ↦ record { examined = 0; removed = 0; status = status }
+        | some i ↦ counted (passes (testAt s status i)) (carving s free ahead limit (examine s free status i))
+      ]
 
+      more : (u : Bool) (p : Progress) → Sound s S held total (p .status) (grown (tally (suc (t .examined)) (cond u (suc (t .removed)) (t .removed)) (t .opened) (t .number)) p)
+          → Sound s S held total (counted u p .status) (grown t (counted u p))
+      more u p h = subst (λ (t : Tally). Sound s S held total (p .status) t) (λ n. tally (examinations n) (removals u n) (t .opened) (t .number)) h
+        where
+          examinations : p .examined + suc (t .examined) ≡ suc (p .examined) + t .examined
+          examinations = omega arith
+
+          removals : (u : Bool) → p .removed + cond u (suc (t .removed)) (t .removed) ≡ cond u (suc (p .removed)) (p .removed) + t .removed
+          removals true = omega arith
+          removals false = refl
+
+      go : (o : Option ℕ) → firstOf s ahead (isPending status) ≡ o
+          → ((i : ℕ) (t : Tally) → Sound s S held total (examine s free status i) t
+          → let p = carving s free ahead limit (examine s free status i) in Sound s S held total (p .status) (grown t p))
+          → Sound s S held total (next o .status) (grown t (next o))
+      go none e rest = nothing-done status t sound
+      go (some i) e rest =
+          let first = first-foremost s ahead order (isPending status) i e in
+          more (passes (testAt s status i)) (carving s free ahead limit (examine s free status i))
+          (rest i (tally (suc (t .examined)) (cond (passes (testAt s status i)) (suc (t .removed)) (t .removed)) (t .opened) (t .number))
+          (sound-examined s S none-pinned held free total never-pinned free-unpinned status t sound i (first .below) (first .chosen) refl))
+
+  -- so many examinations, unless nothing is pending any more
+  carving-examines : (limit : ℕ) (status : List ℕ)
+      → (anyPending s (carving s free ahead limit status .status) ≡ false) ⊎ (carving s free ahead limit status .examined ≡ limit)
+  unfolding carving
+  carving-examines zero status = inr refl
+  carving-examines (suc limit) status = go (firstOf s ahead (isPending status)) refl (λ i. carving-examines limit (examine s free status i))
+    where
+      next : Option ℕ → Progress
+      next o = elim o [
+        | none ↦ record { examined = 0; removed = 0; status = status }
+        | some i ↦ counted (passes (testAt s status i)) (carving s free ahead limit (examine s free status i))
+      ]
+
+      quiet : firstOf s ahead (isPending status) ≡ none → anyPending s status ≡ false
+      quiet e =
+          unfold anyPending voxels in
+          elim (two (any (isPending status) (from 0 (size s)))) [
+            | inl t ↦
+                let r = any-below (isPending status) (size s) t in
+                not-both (isPending status (r .0)) (r .2) (first-none s ahead (isPending status) e (r .0) (r .1))
+            | inr f ↦ f
+          ]
+
+      go : (o : Option ℕ) → firstOf s ahead (isPending status) ≡ o
+          → ((i : ℕ) → let p = carving s free ahead limit (examine s free status i) in (anyPending s (p .status) ≡ false) ⊎ (p .examined ≡ limit))
+          → (anyPending s (next o .status) ≡ false) ⊎ (next o .examined ≡ suc limit)
+      go none e rest = inl (quiet e)
+      go (some i) e rest = elim (rest i) [ inl f ↦ inl f | inr f ↦ inr (ap suc f) ]
+
+  -- a run of as many examinations as 27 for each voxel of the body at the start leaves nothing pending
+  pub carving-ends : (limit : ℕ) (status : List ℕ) (t : Tally) → Sound s S held total status t → 27 * total ≤ limit
+      → anyPending s (carving s free ahead limit status .status) ≡ false
+  carving-ends limit status t sound h = go (carving-examines limit status)
+    where
+      go : (anyPending s (carving s free ahead limit status .status) ≡ false) ⊎ (carving s free ahead limit status .examined ≡ limit)
+          → anyPending s (carving s free ahead limit status .status) ≡ false
+      go (inl e) = e
+      go (inr e) =
+          let inv = carving-sound limit status t sound .inv in
+          none-pending s (carving s free ahead limit status .status) (omega (arith, inv .bounded, inv .spent))
+
+-- ---- states
+
+abbrev pub tallyOf : Record → Tally
+tallyOf r = tally (r .examinations) (r .removals) (r .openings) (r .euler)
+
+-- what holds of a state between calls: to an unfinished grid S is the voxels of negative worked distance
+pub record Good (S held : ℕ → Bool) (total : ℕ) (g : State) : Type 0 where
+  pub sound : Sound (g .rec .sides) S held total (g .status) (tallyOf (g .rec))
+  pub signs : g .rec .finished ≡ false → (i : ℕ) → i < size (g .rec .sides) → isInside (g .dist) i ≡ S i
+
+-- what one call does to the record
 pub record Adds (g h : State) (a : Sums) : Type 0 where
   pub sides : h .rec .sides ≡ g .rec .sides
+  pub allowed : h .rec .allowed ≡ g .rec .allowed
   pub openings : h .rec .openings ≡ g .rec .openings + a .opened
   pub removals : h .rec .removals ≡ g .rec .removals + a .removed
   pub examinations : h .rec .examinations ≡ g .rec .examinations + a .examined
@@ -46,156 +164,145 @@ adds-nothing : (g : State) → Adds g g nothing
 adds-nothing g =
     record {
       sides = refl;
+      allowed = refl;
       openings = omega arith;
       removals = omega arith;
       examinations = omega arith;
       euler = sym (+ℤ-idr (g .rec .euler));
     }
 
-module _ (S : ℕ → Bool) (total : ℕ) where
+module _ (S held : ℕ → Bool) (total : ℕ) where
   -- what holds after a call
   pub record Keeps (g h : State) (a : Sums) : Type 0 where
-    pub good : Good S total h
+    pub good : Good S held total h
     pub adds : Adds g h a
 
-  -- ---- carve
+  kept-as-is : (g : State) → Good S held total g → Keeps g g nothing
+  kept-as-is g good = record { good = good; adds = adds-nothing g }
 
-  record Grows (g h : State) : Type 0 where
-    sides : h .rec .sides ≡ g .rec .sides
-    openings : h .rec .openings ≡ g .rec .openings
-    removals : g .rec .removals ≤ h .rec .removals
-    examinations : g .rec .examinations ≤ h .rec .examinations
-    euler : h .rec .euler ≡ g .rec .euler
-    finished : h .rec .finished ≡ g .rec .finished
+  module _ (g : State) (good : Good S held total g) where
+    abbrev s : Sides
+    s = g .rec .sides
 
-  grows-self : (g : State) → Grows g g
-  grows-self g = record { sides = refl; openings = refl; removals = omega arith; examinations = omega arith; euler = refl; finished = refl }
+    free-is : g .rec .finished ≡ false → (j : ℕ) → j < size s → outside (g .dist) j ≡ not (S j)
+    unfolding outside
+    free-is f j h = ap not (good .signs f j h)
 
-  grows-more : (g h k : State) → Grows g h → Grows h k → Grows g k
-  grows-more g h k p q =
-      record {
-        sides = q .sides ∙ p .sides;
-        openings = q .openings ∙ p .openings;
-        removals = omega (arith, p .removals, q .removals);
-        examinations = omega (arith, p .examinations, q .examinations);
-        euler = q .euler ∙ p .euler;
-        finished = q .finished ∙ p .finished;
-      }
+    free-unpinned-is : g .rec .finished ≡ false → (j : ℕ) → j < size s → outside (g .dist) j ≡ (not (S j) && true)
+    free-unpinned-is f j h = free-is f j h ∙ sym (and-one (not (S j)))
 
-  examine-grows : (g : State) (i : ℕ) → Grows g (examine g i)
-  unfolding examine
-  examine-grows g i = go (passes (testAt g i))
-    where
-      go : (t : Bool) → Grows g (examinedAs t g i)
-      go true = record { sides = refl; openings = omega arith; removals = omega arith; examinations = omega arith; euler = +ℤ-idr (g .rec .euler); finished = refl }
-      go false = record { sides = refl; openings = omega arith; removals = omega arith; examinations = omega arith; euler = +ℤ-idr (g .rec .euler); finished = refl }
+    -- the counts as the record has them after a call
+    recounted : {status : List ℕ} {t : Tally} (examined removed opened : ℕ) (change : ℤ)
+        → t .examined ≡ g .rec .examinations + examined → t .removed ≡ g .rec .removals + removed
+        → t .opened ≡ g .rec .openings + opened → t .number ≡ g .rec .euler +ℤ change
+        → Sound s S held total status t → Sound s S held total status (tallyOf (count (g .rec) examined removed opened change))
+    recounted {status} {t} examined removed opened change e r o c h =
+        subst (λ (t : Tally). Sound s S held total status t) (λ n. tally (e n) (r n) (o n) (c n)) h
 
-  carving-keeps : (limit : ℕ) (g : State) → Good S total g → g .rec .finished ≡ false → (Good S total (carving limit g)) × (Grows g (carving limit g))
-  unfolding carving
-  carving-keeps zero g good f = (good, grows-self g)
-  carving-keeps (suc limit) g good f = go (firstOf g (isPending g)) refl (λ i k e. carving-keeps limit (examine g i) k e)
-    where
-      next : Option ℕ → State
-      next o = elim o [ none ↦ g | some i ↦ carving limit (examine g i) ]
+    -- ---- carve
 
-      go : (o : Option ℕ) → firstOf g (isPending g) ≡ o
-          → ((i : ℕ) → Good S total (examine g i) → examine g i .rec .finished ≡ false
-          → (Good S total (carving limit (examine g i))) × (Grows (examine g i) (carving limit (examine g i))))
-          → (Good S total (next o)) × (Grows g (next o))
-      go none e rest = (good, grows-self g)
-      go (some i) e rest =
-          let first = first-foremost g (isPending g) i e in
-          let grown = examine-grows g i in
-          let r = rest i (good-examine S total g good f i (first .below) (first .passes)) (grown .finished ∙ f) in
-          (r .0, grows-more g (examine g i) (carving limit (examine g i)) grown (r .1))
+    carve-keeps : (limit : ℕ) → Keeps g (call (carveUpTo limit) g .end) (call (carveUpTo limit) g .answers)
+    unfolding call carve carved
+    carve-keeps limit =
+        by-checks (untouched (lentTo g)) (carved limit g) (λ o. Keeps g (after (λ r. r .next) g o) (ofCarve (o .answer)))
+        (workingChecks g) (λ n. kept-as-is g good) (λ h. ran (fit.working g h))
+      where
+        p : Progress
+        p = carving s (outside (g .dist)) (farther (g .dist)) limit (g .status)
 
-  carve-keeps : (limit : ℕ) (g : State) → Good S total g → Keeps g (call (carveUpTo limit) g .end) (call (carveUpTo limit) g .answers)
-  unfolding call carve carvedFrom
-  carve-keeps limit g good =
-      by-checks (g .dist) (g .status) (carvedFrom g (carving limit g)) (λ o. Keeps g (after (λ r. r .next) g o) (ofCarve (o .answer)))
-      _ (λ n. record { good = good; adds = adds-nothing g })
-      (λ p.
-      let r = carving-keeps limit g good (p .1 .1 .1 .0) in
-      let w = r .1 in
-      record {
-        good = r .0;
-        adds = record {
-          sides = w .sides;
-          openings = omega (arith, w .openings);
-          removals = omega (arith, w .removals);
-          examinations = omega (arith, w .examinations);
-          euler = w .euler ∙ sym (+ℤ-idr (g .rec .euler));
-        };
-      })
+        ran : Working g → Keeps g (after (λ r. r .next) g (carved limit g)) (ofCarve (carved limit g .answer))
+        ran w =
+            let sound = carving-sound s S held (outside (g .dist)) (farther (g .dist)) (farther-order (g .dist)) total (free-is (w .unfinished))
+            limit (g .status) (tallyOf (g .rec)) (good .sound) in
+            record {
+              good = record {
+                sound = recounted (p .examined) (p .removed) 0 (pos 0) (omega arith) (omega arith) (omega arith) (sym (+ℤ-idr (g .rec .euler))) sound;
+                signs = good .signs;
+              };
+              adds = record { sides = refl; allowed = refl; openings = refl; removals = refl; examinations = refl; euler = refl };
+            }
 
-  -- ---- take
+    -- ---- take
 
-  take-keeps : (i : ℕ) (g : State) → Good S total g → Keeps g (call (takeAt i) g .end) (call (takeAt i) g .answers)
-  unfolding call take taken
-  take-keeps i g good =
-      by-checks (g .dist) (g .status) (taken g i) (λ o. Keeps g (after (λ r. r .next) g o) (ofTake (o .answer)))
-      _ (λ n. record { good = good; adds = adds-nothing g })
-      (λ p.
-      let f = p .1 .1 .1 in
-      let h : i < size (g .rec .sides) = leb-false (size (g .rec .sides)) i (f .1 .0) in
-      record {
-        good =
-            good-taken S total g good (f .0) i (not-false (isKept g i) (f .1 .1 .0)) (sym (good .signs (f .0) i h) ∙ f .1 .1 .1 .0)
-            (not-false (passes (testAt g i)) (f .1 .1 .1 .1 .0));
-        adds = record { sides = refl; openings = omega arith; removals = omega arith; examinations = omega arith; euler = refl };
-      })
+    take-keeps : (i : ℕ) → Keeps g (call (takeAt i) g .end) (call (takeAt i) g .answers)
+    unfolding call take taken
+    take-keeps i =
+        by-checks (untouched (lentTo g)) (taken i g) (λ o. Keeps g (after (λ r. r .next) g o) (ofTake (o .answer)))
+        (takeChecks i g) (λ n. kept-as-is g good) (λ h. went (fit.takeable g i h))
+      where
+        went : Takeable i g → Keeps g (after (λ r. r .next) g (taken i g)) (ofTake (taken i g .answer))
+        went t =
+            let f = t .working .unfinished in
+            let sound = sound-taken s S (λ j. false) held (outside (g .dist)) total (λ j e. absurd (true≢false (sym e))) (free-unpinned-is f)
+            (g .status) (tallyOf (g .rec)) (good .sound) i (t .kept) (sym (good .signs f i (t .below)) ∙ t .outer) refl (t .passing) in
+            record {
+              good = record {
+                sound = recounted 0 1 0 (pos 0) (omega arith) (omega arith) (omega arith) (sym (+ℤ-idr (g .rec .euler))) sound;
+                signs = good .signs;
+              };
+              adds = record { sides = refl; allowed = refl; openings = refl; removals = refl; examinations = refl; euler = refl };
+            }
 
-  -- ---- open
+    -- ---- open
 
-  open-keeps : (g : State) → Good S total g → Keeps g (call openOne g .end) (call openOne g .answers)
-  unfolding call openNext
-  open-keeps g good =
-      by-checks (g .dist) (g .status) (openedAt g (toOpen g)) (λ o. Keeps g (after (λ r. r .next) g o) (ofOpen (o .answer)))
-      _ (λ n. record { good = good; adds = adds-nothing g })
-      (λ p. opened (p .1 .1 .1 .0) (toOpen g) refl)
-    where
-      opened : g .rec .finished ≡ false → (o : Option ℕ) → toOpen g ≡ o
-          → Keeps g (after (λ r. r .next) g (openedAt g o)) (ofOpen (openedAt g o .answer))
-      opened f none e = unfold openedAt in record { good = good; adds = adds-nothing g }
-      opened f (some i) e =
-          unfold openedAt in
-          let first = first-foremost g (openable g) i (unfold toOpen in e) in
-          let o = and-true (removable g i) (exposed (g .rec .sides) (isKept g) i) (unfold openable in first .passes) in
-          let r = and-true (isKept g i) (not (isInside g i)) (unfold removable in o .0) in
-          record {
-            good = good-opened S total g good f i (r .0) (sym (good .signs f i (first .below)) ∙ not-true (isInside g i) (r .1)) (o .1);
-            adds = record { sides = refl; openings = omega arith; removals = omega arith; examinations = omega arith; euler = refl };
-          }
+    open-keeps : Keeps g (call openOne g .end) (call openOne g .answers)
+    unfolding call openNext
+    open-keeps =
+        by-checks (untouched (lentTo g)) (opened (theVoxel (toOpen g)) g) (λ o. Keeps g (after (λ r. r .next) g o) (ofOpen (o .answer)))
+        (openChecks g) (λ n. kept-as-is g good) (λ h. through (fit.openable g h) (toOpen g) refl)
+      where
+        through : Openable g → (o : Option ℕ) → toOpen g ≡ o
+            → Keeps g (after (λ r. r .next) g (opened (theVoxel o) g)) (ofOpen (opened (theVoxel o) g .answer))
+        through w none e = absurd (true≢false (ap isNone (sym e) ∙ w .found))
+        through w (some i) e =
+            unfold opened in
+            let f = w .quiet .working .unfinished in
+            let first = first-foremost s (farther (g .dist)) (farther-order (g .dist)) (openable s (outside (g .dist)) (g .status)) i (unfold toOpen in e) in
+            let o = and-true (removable (outside (g .dist)) (g .status) i) (exposed s (isKept (g .status)) i) (unfold openable in first .chosen) in
+            let r = and-true (isKept (g .status) i) (outside (g .dist) i) (unfold removable in o .0) in
+            let outer : S i ≡ false = not-true (S i) (sym (free-is f i (first .below)) ∙ r .1) in
+            let sound = sound-opened s S (λ j. false) held (outside (g .dist)) total (λ j e. absurd (true≢false (sym e))) (free-unpinned-is f)
+            (g .status) (tallyOf (g .rec)) (good .sound) i (r .0) outer refl (o .1) in
+            record {
+              good = record {
+                sound = recounted 0 1 1 _ (omega arith) (omega arith) (omega arith) refl sound;
+                signs = good .signs;
+              };
+              adds = record { sides = refl; allowed = refl; openings = refl; removals = refl; examinations = refl; euler = refl };
+            }
 
-  -- ---- finish
+    -- ---- finish
 
-  good-finished : (g : State) → Good S total g → Good S total (after (λ r. r) g (finishedOf g))
-  unfolding finishedOf isKept isPending
-  good-finished g good = record { inv = good .inv; lent = good .lent; signs = λ f. absurd (true≢false f) }
-
-  finish-keeps : (g : State) → Good S total g → Keeps g (call finishIt g .end) (call finishIt g .answers)
-  unfolding call finish
-  finish-keeps g good =
-      by-checks (g .dist) (g .status) (finishedOf g) (λ o. Keeps g (after (λ r. r) g o) nothing)
-      _ (λ n. record { good = good; adds = adds-nothing g })
-      (λ p. record { good = good-finished g good; adds = unfold finishedOf in adds-same })
-    where
-      adds-same : Adds g (after (λ r. r) g (finishedOf g)) nothing
-      adds-same =
-          unfold finishedOf in
-          record { sides = refl; openings = omega arith; removals = omega arith; examinations = omega arith; euler = sym (+ℤ-idr (g .rec .euler)) }
+    finish-keeps : Keeps g (call finishIt g .end) (call finishIt g .answers)
+    unfolding call finish finishedOf
+    finish-keeps =
+        by-checks (untouched (lentTo g)) (finishedOf g) (λ o. Keeps g (after (λ r. r) g o) nothing)
+        (finishChecks g) (λ n. kept-as-is g good)
+        (λ h. record { good = record { sound = good .sound; signs = λ f. absurd (true≢false f) }; adds = adds-finished })
+      where
+        adds-finished : Adds g (after (λ r. r) g (finishedOf g)) nothing
+        adds-finished =
+            unfold finishedOf in
+            record {
+              sides = refl;
+              allowed = refl;
+              openings = omega arith;
+              removals = omega arith;
+              examinations = omega arith;
+              euler = sym (+ℤ-idr (g .rec .euler));
+            }
 
   -- ---- any list of calls
 
-  call-keeps : (c : Call) (g : State) → Good S total g → Keeps g (call c g .end) (call c g .answers)
-  call-keeps (carveUpTo limit) g good = carve-keeps limit g good
-  call-keeps (takeAt i) g good = take-keeps i g good
+  pub call-keeps : (c : Call) (g : State) → Good S held total g → Keeps g (call c g .end) (call c g .answers)
+  call-keeps (carveUpTo limit) g good = carve-keeps g good limit
+  call-keeps (takeAt i) g good = take-keeps g good i
   call-keeps openOne g good = open-keeps g good
   call-keeps finishIt g good = finish-keeps g good
 
-  pub run-keeps : (cs : List Call) (g : State) → Good S total g → Keeps g (run cs g .end) (run cs g .answers)
+  pub run-keeps : (cs : List Call) (g : State) → Good S held total g → Keeps g (run cs g .end) (run cs g .answers)
   unfolding run
-  run-keeps [] g good = record { good = good; adds = adds-nothing g }
+  run-keeps [] g good = kept-as-is g good
   run-keeps (c ∷ cs) g good =
       let first = call-keeps c g good in
       let h = call c g .end in
@@ -207,6 +314,7 @@ module _ (S : ℕ → Bool) (total : ℕ) where
         good = rest .good;
         adds = record {
           sides = q .sides ∙ p .sides;
+          allowed = q .allowed ∙ p .allowed;
           openings = omega (arith, p .openings, q .openings);
           removals = omega (arith, p .removals, q .removals);
           examinations = omega (arith, p .examinations, q .examinations);

@@ -1,4 +1,4 @@
--- The cells of a body: what `covered` says, and how their numbers change when one voxel goes. Assumes nothing.
+-- The cells of a body: what `covered` says, and how their numbers change when one voxel goes.
 use mathlib.Core.Path.{_≡_, refl, ap, ap₂, sym, _∙_}
 use mathlib.Core.Logic.{_⊎_, inl, inr, _≢_}
 use mathlib.Core.Bool.{Bool, true, false, _||_}
@@ -7,7 +7,7 @@ use native.Mathlib.Omega.{arith}
 use native.Mathlib.Decide.{ℕ-discrete}
 use lib.IntN.{pos, _+ℤ_, _-ℤ_}
 use Rattle.cells.specs.Cells.{bit}
-use Rattle.cells.proofs.Bools.{true-or, or-true}
+use Rattle.prelude.proofs.Bools.{true-or, or-true}
 use Rattle.rules.specs.declared.Sides.{Sides}
 use Rattle.rules.specs.Body.{Voxels, Piece, plane, stretch, some, covered, Has, Holder, CoveredIsHeld, sum3, corners, edges, faces, cubes, eulerOf}
 use Rattle.rules.proofs.Topology.Sum.{win, win3, Off, local3, win3-all}

@@ -1,4 +1,4 @@
--- How many voxels pass a test. Assumes nothing.
+-- How many voxels pass a test.
 use mathlib.Core.Path.{_≡_, refl, ap}
 use mathlib.Core.Bool.{Bool, true, false, _||_}
 use mathlib.Core.List.{List, [], _∷_}
@@ -10,11 +10,11 @@ use lib.ListN.{length}
 use borrow.Author.Tests.{eq-eqb, ne-eqb}
 use Rattle.cells.specs.Groups.{any, those, consIf}
 use Rattle.cells.specs.Cells.{bit}
-use Rattle.cells.proofs.Lists.{Mem, here, there}
+use Rattle.prelude.proofs.Lists.{Mem, here, there, those-ext}
 use Rattle.rules.specs.declared.Sides.{Sides}
 use Rattle.rules.specs.Grid.{size, from, voxels}
 use Rattle.rules.specs.Meaning.{found}
-use Rattle.rules.proofs.Voxels.{mem-from}
+use Rattle.prelude.proofs.Ranges.{from-mem, mem-from, length-from}
 use Rattle.rules.proofs.Topology.Surface.{omit, omit-true}
 use Rattle.rules.proofs.Topology.Removal.{omit-self}
 
@@ -48,6 +48,14 @@ mono-in p q (x ∷ l) h = omega (arith, count-cons p x l, count-cons q x l, bit-
 or-in : (p q : ℕ → Bool) (l : List ℕ) → countIn (λ j. p j || q j) l ≤ countIn p l + countIn q l
 or-in p q [] = omega (arith, count-nil (λ j. p j || q j))
 or-in p q (x ∷ l) = omega (arith, count-cons (λ j. p j || q j) x l, count-cons p x l, count-cons q x l, bit-or (p x) (q x), or-in p q l)
+
+all-in : (p : ℕ → Bool) (l : List ℕ) → countIn p l ≤ length l
+all-in p [] = omega (arith, count-nil p)
+all-in p (x ∷ l) = go (p x) (count-cons p x l) (all-in p l)
+  where
+    go : (t : Bool) → countIn p (x ∷ l) ≡ bit t + countIn p l → countIn p l ≤ length l → countIn p (x ∷ l) ≤ suc (length l)
+    go true e h = omega arith
+    go false e h = omega arith
 
 none-in : (l : List ℕ) → countIn (λ j. false) l ≡ 0
 none-in [] = count-nil (λ j. false)
@@ -101,3 +109,13 @@ module _ (s : Sides) where
   unfolding any countIn voxels
   found-list [] = omega (arith, none-in (voxels s))
   found-list (x ∷ xs) = omega (arith, or-in (λ j. eqb j x) (λ j. any (eqb j) xs) (voxels s), at-from x 0 (size s) .0, found-list xs)
+
+  -- tests that agree on the grid
+  pub found-same : (p q : ℕ → Bool) → ((j : ℕ) → j < size s → p j ≡ q j) → found s p ≡ found s q
+  unfolding voxels
+  found-same p q h = ap length (those-ext p q (from 0 (size s)) (λ j m. h j (omega (arith, from-mem 0 (size s) j m .1))))
+
+  -- at most all voxels
+  pub found-all : (p : ℕ → Bool) → found s p ≤ size s
+  unfolding countIn voxels
+  found-all p = omega (arith, all-in p (voxels s), length-from 0 (size s))

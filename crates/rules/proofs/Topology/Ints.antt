@@ -1,4 +1,4 @@
--- Differences of whole numbers. Assumes nothing.
+-- Differences of whole numbers.
 use mathlib.Core.Path.{_≡_, ap, sym, _∙_}
 use Prim.Native.Nat.{ℕ, _+_}
 use native.Mathlib.Omega.{arith}

@@ -1,9 +1,9 @@
--- Sets in one piece: what taking a point out, or putting one in, does to them. Assumes nothing.
+-- Sets in one piece: what taking a point out, or putting one in, does to them.
 use mathlib.Core.Path.{_≡_, sym, _∙_, subst}
 use mathlib.Core.Logic.{_⊎_, inl, inr}
 use mathlib.Core.Bool.{Bool, true, false}
 use Rattle.cells.specs.Linked.{Linked, stay, step, OnePiece}
-use Rattle.cells.proofs.Bools.{not-both}
+use Rattle.prelude.proofs.Bools.{not-both}
 use Rattle.cells.proofs.Chains.{last-member, append, before, link, widen}
 
 -- v is taken out of p, which leaves q; a bridge of q joins the neighbours of v

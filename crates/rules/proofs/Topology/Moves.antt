@@ -1,7 +1,7 @@
 -- The moves of the carving machine on sets of voxels, and what every move keeps. A move says which voxel is examined or goes, and neither who
--- chose it nor why. Assumes nothing.
+-- chose it nor why.
 use mathlib.Core.Path.{_≡_, ap, ap₂, sym, _∙_}
-use mathlib.Core.Logic.{inl, inr}
+use mathlib.Core.Logic.{_⊎_, inl, inr}
 use mathlib.Core.Bool.{Bool, true, false, not, _&&_, _||_}
 use mathlib.Core.List.{List, map}
 use Prim.Native.Nat.{ℕ, suc, _+_, _*_, _≤_}
@@ -12,8 +12,8 @@ use borrow.Author.Tests.{eq-eqb}
 use Rattle.cells.specs.Groups.{any}
 use Rattle.cells.specs.Linked.{OnePiece}
 use Rattle.cells.specs.Cells.{places, test, passes}
-use Rattle.cells.proofs.Bools.{and-true, or-true, or-false, true-or, not-true, not-both, two}
-use Rattle.cells.proofs.Lists.{true-any}
+use Rattle.prelude.proofs.Bools.{and-true, and-false, or-true, or-false, true-or, not-true, not-false, not-both, two}
+use Rattle.prelude.proofs.Lists.{true-any}
 use Rattle.rules.specs.declared.Sides.{Sides}
 use Rattle.rules.specs.Grid.{index, voxel, touch, shareFace, neighbour, block}
 use Rattle.rules.specs.Begin.{exposed}
@@ -70,69 +70,115 @@ pub record Sets : Type 0 where
   pub number : ℤ
 
 module _ (s : Sides) (S : ℕ → Bool) where
-  -- pending after the voxel i is gone: every kept voxel outside S that touches it besides
-  unfoldable pub woken : (ℕ → Bool) → (ℕ → Bool) → ℕ → ℕ → Bool
-  woken kept pending i j = omit pending i j || (omit kept i j && (not (S j) && touch s i j))
+  -- pending after the voxel i is gone: every kept voxel outside S that touches it besides, save the pinned ones
+  unfoldable pub pendingAfter : (ℕ → Bool) → (ℕ → Bool) → (ℕ → Bool) → ℕ → ℕ → Bool
+  pendingAfter pins kept pending i j = omit pending i j || (omit kept i j && ((not (S j) && not (pins j)) && touch s i j))
 
   -- the sets after the voxel i is gone, with the counts given
-  abbrev pub gone : Sets → ℕ → ℕ → ℕ → ℤ → Sets
-  gone g i examined opened number =
+  abbrev pub gone : (ℕ → Bool) → Sets → ℕ → ℕ → ℕ → ℤ → Sets
+  gone pins g i examined opened number =
       record {
         kept = omit (g .kept) i;
-        pending = woken (g .kept) (g .pending) i;
+        pending = pendingAfter pins (g .kept) (g .pending) i;
         examined = examined;
         removed = suc (g .removed);
         opened = opened;
         number = number;
       }
 
-  pub data Move (g : Sets) : Sets → Type 0 where
-    -- examined, and it does not pass
-    failed : (i : ℕ) → g .pending i ≡ true → passes (test (block s (g .kept) i)) ≡ false
-        → Move g (record { kept = g .kept; pending = omit (g .pending) i; examined = suc (g .examined); removed = g .removed; opened = g .opened; number = g .number })
+  -- a move of a call that pins these voxels
+  pub data Move (pins : ℕ → Bool) (g : Sets) : Sets → Type 0 where
+    -- examined, and it stays: it does not pass, or it is pinned
+    stayed : (i : ℕ) → g .pending i ≡ true → (passes (test (block s (g .kept) i)) && not (pins i)) ≡ false
+        → Move pins g (record { kept = g .kept; pending = omit (g .pending) i; examined = suc (g .examined); removed = g .removed; opened = g .opened; number = g .number })
     -- examined, and gone
-    passed : (i : ℕ) → g .pending i ≡ true → passes (test (block s (g .kept) i)) ≡ true
-        → Move g (gone g i (suc (g .examined)) (g .opened) (g .number))
+    passed : (i : ℕ) → g .pending i ≡ true → pins i ≡ false → passes (test (block s (g .kept) i)) ≡ true
+        → Move pins g (gone pins g i (suc (g .examined)) (g .opened) (g .number))
     -- gone without an examination
-    taken : (i : ℕ) → g .kept i ≡ true → S i ≡ false → passes (test (block s (g .kept) i)) ≡ true
-        → Move g (gone g i (g .examined) (g .opened) (g .number))
-    opened-up : (i : ℕ) → g .kept i ≡ true → S i ≡ false → exposed s (g .kept) i ≡ true
-        → Move g (gone g i (g .examined) (suc (g .opened)) (g .number +ℤ (pos (test (block s (g .kept) i) .k) -ℤ pos (test (block s (g .kept) i) .m))))
+    taken : (i : ℕ) → g .kept i ≡ true → S i ≡ false → pins i ≡ false → passes (test (block s (g .kept) i)) ≡ true
+        → Move pins g (gone pins g i (g .examined) (g .opened) (g .number))
+    opened-up : (i : ℕ) → g .kept i ≡ true → S i ≡ false → pins i ≡ false → exposed s (g .kept) i ≡ true
+        → Move pins g (gone pins g i (g .examined) (suc (g .opened)) (g .number +ℤ (pos (test (block s (g .kept) i) .k) -ℤ pos (test (block s (g .kept) i) .m))))
 
-  pub record Inv (total : ℕ) (g : Sets) : Type 0 where
+  -- held: every voxel that some call of the list pins, or more
+  pub record Inv (held : ℕ → Bool) (total : ℕ) (g : Sets) : Type 0 where
     pub shape : Shape s (g .kept) (g .opened) (g .number)
     pub inside : (j : ℕ) → S j ≡ true → g .kept j ≡ true
     pub waiting : (j : ℕ) → g .pending j ≡ true → (g .kept j ≡ true) × (S j ≡ false)
-    pub failing : (j : ℕ) → g .kept j ≡ true → S j ≡ false → g .pending j ≡ false → passes (test (block s (g .kept) j)) ≡ false
+    pub failing : (j : ℕ) → g .kept j ≡ true → S j ≡ false → held j ≡ false → g .pending j ≡ false → passes (test (block s (g .kept) j)) ≡ false
     pub bounded : g .examined + found s (g .pending) ≤ total + 26 * g .removed
+    pub spent : found s (g .kept) + g .removed ≤ total
 
-  -- ---- what the removal of a kept voxel i outside S keeps
-  module _ (total : ℕ) (g : Sets) (inv : Inv total g) (i : ℕ) (ki : g .kept i ≡ true) (si : S i ≡ false) where
+  -- ---- any starting body: of the voxels that none holds, each kept one outside S that has a face neighbour not kept is pending
+  pub record Start (held kept pending : ℕ → Bool) : Type 0 where
+    pub shape : Shape s kept 0 (pos 1)
+    pub inside : (j : ℕ) → S j ≡ true → kept j ≡ true
+    pub waiting : (j : ℕ) → pending j ≡ true → (kept j ≡ true) × (S j ≡ false)
+    pub surface : (j : ℕ) → kept j ≡ true → S j ≡ false → held j ≡ false → exposed s kept j ≡ true → pending j ≡ true
+
+  abbrev pub fresh : (ℕ → Bool) → (ℕ → Bool) → Sets
+  fresh kept pending = record { kept = kept; pending = pending; examined = 0; removed = 0; opened = 0; number = pos 1 }
+
+  pub start-inv : (held kept pending : ℕ → Bool) → Start held kept pending → Inv held (found s kept) (fresh kept pending)
+  start-inv held kept pending start =
+      record {
+        shape = start .shape;
+        inside = start .inside;
+        waiting = start .waiting;
+        failing = λ j kj sj hj pj. elim (two (passes (test (block s kept j)))) [
+          | inl e ↦ not-both (pending j) (start .surface j kj sj hj (passes-exposed s kept j e)) pj
+          | inr e ↦ e
+        ];
+        bounded = omega (arith, found-mono s pending kept (λ j e. start .waiting j e .0));
+        spent = omega arith;
+      }
+
+  -- ---- what the removal of a kept voxel i outside S keeps, whatever voxels the call pins of those that are held
+  module _ (held : ℕ → Bool) (total : ℕ) (pins : ℕ → Bool) (sub : (j : ℕ) → pins j ≡ true → held j ≡ true)
+      (g : Sets) (inv : Inv held total g) (i : ℕ) (ki : g .kept i ≡ true) (si : S i ≡ false) where
     still-inside : (j : ℕ) → S j ≡ true → omit (g .kept) i j ≡ true
     still-inside j e = true-omit (g .kept) i j (inv .inside j e) (λ q. not-both (S j) e (ap S q ∙ si))
 
-    woken-waiting : (j : ℕ) → woken (g .kept) (g .pending) i j ≡ true → (omit (g .kept) i j ≡ true) × (S j ≡ false)
-    unfolding woken
-    woken-waiting j e =
-        elim (or-true (omit (g .pending) i j) (omit (g .kept) i j && (not (S j) && touch s i j)) e) [
-          | inl h ↦ let p = omit-true (g .pending) i j h in let q = inv .waiting j (p .0) in (true-omit (g .kept) i j (q .0) (p .1), q .1)
+    -- a voxel that a removal makes pending
+    record Reached (j : ℕ) : Type 0 where
+      kept : omit (g .kept) i j ≡ true
+      outside : S j ≡ false
+      touches : touch s i j ≡ true
+
+    woken-split : (j : ℕ) → pendingAfter pins (g .kept) (g .pending) i j ≡ true → (omit (g .pending) i j ≡ true) ⊎ (Reached j)
+    unfolding pendingAfter
+    woken-split j e =
+        elim (or-true (omit (g .pending) i j) (omit (g .kept) i j && ((not (S j) && not (pins j)) && touch s i j)) e) [
+          | inl h ↦ inl h
           | inr h ↦
-              let p = and-true (omit (g .kept) i j) (not (S j) && touch s i j) h in
-              (p .0, not-true (S j) (and-true (not (S j)) (touch s i j) (p .1) .0))
+              let p = and-true (omit (g .kept) i j) ((not (S j) && not (pins j)) && touch s i j) h in
+              let q = and-true (not (S j) && not (pins j)) (touch s i j) (p .1) in
+              inr (record { kept = p .0; outside = not-true (S j) (and-true (not (S j)) (not (pins j)) (q .0) .0); touches = q .1 })
         ]
 
-    still-failing : (j : ℕ) → omit (g .kept) i j ≡ true → S j ≡ false → woken (g .kept) (g .pending) i j ≡ false
+    woken-waiting : (j : ℕ) → pendingAfter pins (g .kept) (g .pending) i j ≡ true → (omit (g .kept) i j ≡ true) × (S j ≡ false)
+    woken-waiting j e =
+        elim (woken-split j e) [
+          | inl h ↦ let p = omit-true (g .pending) i j h in let q = inv .waiting j (p .0) in (true-omit (g .kept) i j (q .0) (p .1), q .1)
+          | inr h ↦ (h .kept, h .outside)
+        ]
+
+    unpinned : (j : ℕ) → held j ≡ false → pins j ≡ false
+    unpinned j h = elim (two (pins j)) [ inl e ↦ not-both (held j) (sub j e) h | inr e ↦ e ]
+
+    still-failing : (j : ℕ) → omit (g .kept) i j ≡ true → S j ≡ false → held j ≡ false → pendingAfter pins (g .kept) (g .pending) i j ≡ false
         → passes (test (block s (omit (g .kept) i) j)) ≡ false
-    unfolding woken
-    still-failing j kj sj wj =
+    unfolding pendingAfter
+    still-failing j kj sj hj wj =
         let t = omit-true (g .kept) i j kj in
-        let o = or-false (omit (g .pending) i j) (omit (g .kept) i j && (not (S j) && touch s i j)) wj in
-        let far : touch s i j ≡ false = sym (ap₂ (λ (p q : Bool). p && (not q && touch s i j)) kj sj) ∙ o .1 in
+        let o = or-false (omit (g .pending) i j) (omit (g .kept) i j && ((not (S j) && not (pins j)) && touch s i j)) wj in
+        let free : pins j ≡ false = unpinned j hj in
+        let far : touch s i j ≡ false = rw (kj, sj, free) at (o .1) in
         let still : g .pending j ≡ false = elim (two (g .pending j)) [
           | inl e ↦ not-both (omit (g .pending) i j) (true-omit (g .pending) i j e (t .1)) (o .0)
           | inr e ↦ e
         ] in
-        ap passes (removal-elsewhere s (g .kept) (inv .shape .inner) i ki j (t .0) far) ∙ inv .failing j (t .0) sj still
+        ap passes (removal-elsewhere s (g .kept) (inv .shape .inner) i ki j (t .0) far) ∙ inv .failing j (t .0) sj hj still
 
     -- the 26 voxels around i
     at-place-of : ℕ → ℕ
@@ -154,60 +200,80 @@ module _ (s : Sides) (S : ℕ → Bool) where
         ap (index s) (at-same (voxel s i) (neighbour (voxel s i) p) (voxel s j) p (neighbour-at s (voxel s i) u p (a .1 .low) .0) (a .1)) ∙ index-of j in
         true-any (eqb j) (map at-place-of places) (at-place-of p) (mem-map at-place-of places p m) (eq-eqb j (at-place-of p) (sym e))
 
-    woken-found : found s (woken (g .kept) (g .pending) i) ≤ found s (omit (g .pending) i) + 26
-    unfolding woken around
+    woken-found : found s (pendingAfter pins (g .kept) (g .pending) i) ≤ found s (omit (g .pending) i) + 26
+    unfolding around
     woken-found =
         omega (
           arith,
           found-or s (omit (g .pending) i) (λ j. any (eqb j) around),
           found-list s around,
-          found-mono s (woken (g .kept) (g .pending) i) (λ j. omit (g .pending) i j || any (eqb j) around) among,
+          found-mono s (pendingAfter pins (g .kept) (g .pending) i) (λ j. omit (g .pending) i j || any (eqb j) around) among,
         )
       where
-        among : (j : ℕ) → woken (g .kept) (g .pending) i j ≡ true → (omit (g .pending) i j || any (eqb j) around) ≡ true
+        among : (j : ℕ) → pendingAfter pins (g .kept) (g .pending) i j ≡ true → (omit (g .pending) i j || any (eqb j) around) ≡ true
         among j e =
-            elim (or-true (omit (g .pending) i j) (omit (g .kept) i j && (not (S j) && touch s i j)) e) [
+            elim (woken-split j e) [
               | inl h ↦ true-or (omit (g .pending) i j) (any (eqb j) around) (inl h)
-              | inr h ↦
-                  let p = and-true (omit (g .kept) i j) (not (S j) && touch s i j) h in
-                  true-or (omit (g .pending) i j) (any (eqb j) around) (inr (touching-around j (p .0) (and-true (not (S j)) (touch s i j) (p .1) .1)))
+              | inr h ↦ true-or (omit (g .pending) i j) (any (eqb j) around) (inr (touching-around j (h .kept) (h .touches)))
             ]
 
     -- the invariant after the removal, from the new body's shape and the bound on examinations
     inv-gone : (examined opened : ℕ) (number : ℤ) → Shape s (omit (g .kept) i) opened number
-        → examined + found s (omit (g .pending) i) ≤ total + 26 * g .removed → Inv total (gone g i examined opened number)
+        → examined + found s (omit (g .pending) i) ≤ total + 26 * g .removed → Inv held total (gone pins g i examined opened number)
     inv-gone examined opened number shape bound =
-        record { shape = shape; inside = still-inside; waiting = woken-waiting; failing = still-failing; bounded = omega (arith, woken-found) }
+        record {
+          shape = shape;
+          inside = still-inside;
+          waiting = woken-waiting;
+          failing = still-failing;
+          bounded = omega (arith, woken-found);
+          spent = omega (arith, found-omit s (g .kept) i (inv .shape .inner i ki .0) ki, inv .spent);
+        }
 
     fewer : found s (omit (g .pending) i) ≤ found s (g .pending)
     fewer = found-mono s (omit (g .pending) i) (g .pending) (λ j e. omit-true (g .pending) i j e .0)
 
   -- every move keeps the invariant
-  pub move-keeps : (total : ℕ) {g h : Sets} → Inv total g → Move g h → Inv total h
-  move-keeps total {g} inv (failed i pi e) =
+  pub move-keeps : (held : ℕ → Bool) (total : ℕ) (pins : ℕ → Bool) → ((j : ℕ) → pins j ≡ true → held j ≡ true)
+      → {g h : Sets} → Inv held total g → Move pins g h → Inv held total h
+  move-keeps held total pins sub {g} inv (stayed i pi e) =
       record {
         shape = inv .shape;
         inside = inv .inside;
         waiting = λ j h. inv .waiting j (omit-true (g .pending) i j h .0);
-        failing = λ j kj sj pj. elim (two (g .pending j)) [
+        failing = λ j kj sj hj pj. elim (two (g .pending j)) [
           | inl h ↦ elim (omit-split (g .pending) i j h) [
-            | inl q ↦ ap (λ (n : ℕ). passes (test (block s (g .kept) n))) q ∙ e
+            | inl q ↦ ap (λ (n : ℕ). passes (test (block s (g .kept) n))) q ∙ fails (ap pins (sym q) ∙ free j hj)
             | inr w ↦ not-both (omit (g .pending) i j) w pj
           ]
-          | inr h ↦ inv .failing j kj sj h
+          | inr h ↦ inv .failing j kj sj hj h
         ];
         bounded = omega (arith, found-omit s (g .pending) i (inv .shape .inner i (inv .waiting i pi .0) .0) pi, inv .bounded);
+        spent = inv .spent;
       }
-  move-keeps total {g} inv (passed i pi e) =
+    where
+      free : (j : ℕ) → held j ≡ false → pins j ≡ false
+      free j h = elim (two (pins j)) [ inl e ↦ not-both (held j) (sub j e) h | inr e ↦ e ]
+
+      fails : pins i ≡ false → passes (test (block s (g .kept) i)) ≡ false
+      fails f = elim (and-false (passes (test (block s (g .kept) i))) (not (pins i)) e) [ inl h ↦ h | inr h ↦ not-both (pins i) (not-false (pins i) h) f ]
+  move-keeps held total pins sub {g} inv (passed i pi fi e) =
       let w = inv .waiting i pi in
-      inv-gone total g inv i (w .0) (w .1) (suc (g .examined)) (g .opened) (g .number)
+      inv-gone held total pins sub g inv i (w .0) (w .1) (suc (g .examined)) (g .opened) (g .number)
       (shape-passed s (g .kept) (g .opened) (g .number) (inv .shape) i (w .0) e)
       (omega (arith, found-omit s (g .pending) i (inv .shape .inner i (w .0) .0) pi, inv .bounded))
-  move-keeps total {g} inv (taken i ki si e) =
-      inv-gone total g inv i ki si (g .examined) (g .opened) (g .number)
+  move-keeps held total pins sub {g} inv (taken i ki si fi e) =
+      inv-gone held total pins sub g inv i ki si (g .examined) (g .opened) (g .number)
       (shape-passed s (g .kept) (g .opened) (g .number) (inv .shape) i ki e)
-      (omega (arith, fewer total g inv i ki si, inv .bounded))
-  move-keeps total {g} inv (opened-up i ki si e) =
-      inv-gone total g inv i ki si (g .examined) (suc (g .opened)) (g .number +ℤ (pos (test (block s (g .kept) i) .k) -ℤ pos (test (block s (g .kept) i) .m)))
+      (omega (arith, fewer held total pins sub g inv i ki si, inv .bounded))
+  move-keeps held total pins sub {g} inv (opened-up i ki si fi e) =
+      inv-gone held total pins sub g inv i ki si (g .examined) (suc (g .opened)) (g .number +ℤ (pos (test (block s (g .kept) i) .k) -ℤ pos (test (block s (g .kept) i) .m)))
       (shape-opened s (g .kept) (g .opened) (g .number) (inv .shape) i ki e)
-      (omega (arith, fewer total g inv i ki si, inv .bounded))
+      (omega (arith, fewer held total pins sub g inv i ki si, inv .bounded))
+
+  -- no move takes a voxel that it pins
+  pub pinned-stays : (pins : ℕ → Bool) {g h : Sets} → Move pins g h → (j : ℕ) → pins j ≡ true → g .kept j ≡ true → h .kept j ≡ true
+  pinned-stays pins (stayed i pi e) j pj kj = kj
+  pinned-stays pins {g} (passed i pi fi e) j pj kj = true-omit (g .kept) i j kj (λ q. not-both (pins j) pj (ap pins q ∙ fi))
+  pinned-stays pins {g} (taken i ki si fi e) j pj kj = true-omit (g .kept) i j kj (λ q. not-both (pins j) pj (ap pins q ∙ fi))
+  pinned-stays pins {g} (opened-up i ki si fi e) j pj kj = true-omit (g .kept) i j kj (λ q. not-both (pins j) pj (ap pins q ∙ fi))

@@ -1,4 +1,4 @@
--- One voxel of the body goes: what becomes of the body, the background, the Euler number and the local test elsewhere. Assumes nothing.
+-- One voxel of the body goes: what becomes of the body, the background, the Euler number and the local test elsewhere.
 use mathlib.Core.Path.{_≡_, refl, ap, ap₂, sym, _∙_, subst, fun-ext}
 use mathlib.Core.Logic.{_⊎_, inl, inr, _≢_}
 use mathlib.Core.Bool.{Bool, true, false, not, _&&_, _||_}
@@ -12,10 +12,10 @@ use Rattle.cells.specs.Groups.{any, those}
 use Rattle.cells.specs.Linked.{Linked, OnePiece}
 use Rattle.cells.specs.Classes.{cells, among}
 use Rattle.cells.specs.Cells.{contains, joined, places, touched, Test, testOf, test, passes}
-use Rattle.cells.proofs.Bools.{and-true, true-and, or-true, or-false, both-ways, not-true, not-false, not-both, two, and-zero}
-use Rattle.cells.proofs.Lists.{Mem, any-true, true-any, any-false, any-ext}
+use Rattle.prelude.proofs.Bools.{and-true, true-and, or-true, or-false, both-ways, not-true, not-false, not-both, two, and-zero}
+use Rattle.prelude.proofs.Lists.{Mem, any-true, true-any, any-false, any-ext}
 use Rattle.cells.proofs.GroupsAre.{mem-among, cells-one-piece}
-use Rattle.cells.proofs.EveryBlock.{contains-self, bare-face}
+use Rattle.closed_sets.proofs.EveryBlock.{contains-self, bare-face}
 use Rattle.rules.specs.declared.Sides.{Sides}
 use Rattle.rules.specs.Grid.{Voxel, index, voxel, size, gap, touch, apart, steps, shareFace, neighbour, blockOf, block, facePlaces}
 use Rattle.rules.specs.Begin.{exposed}

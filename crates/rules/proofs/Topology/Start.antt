@@ -1,5 +1,5 @@
--- What begin leaves: the box that holds S is kept, pending is what step 4 says, and the signs of the distances are S. Assumes nothing.
-use mathlib.Core.Path.{_≡_, refl, ap, ap₂, sym, _∙_, subst, fun-ext}
+-- What begin leaves: the box that holds S is kept, pending is what step 4 says, and the signs of the distances are S.
+use mathlib.Core.Path.{_≡_, refl, ap, sym, _∙_, subst, fun-ext}
 use mathlib.Core.Logic.{_⊎_, inl, inr, _≢_}
 use mathlib.Core.Bool.{Bool, true, false, not, cond, _&&_, _||_}
 use mathlib.Core.List.{List, map}
@@ -10,27 +10,27 @@ use lib.Dec.{ltb, eqb}
 use lib.ListN.{length}
 use lib.IntN.{ℤ, pos, negsuc}
 use borrow.Author.Tests.{lt-ltb, le-ltb, eqb-false}
-use Rattle.cells.specs.Cells.{test, passes}
-use Rattle.cells.proofs.Bools.{and-true, or-false, not-true, not-both, two}
-use Rattle.cells.proofs.Lists.{Mem, any-ext}
+use Rattle.prelude.proofs.Bools.{and-true, true-and, or-false, not-true, not-both}
+use Rattle.prelude.proofs.Lists.{Mem, any-ext}
 use Rattle.rules.specs.declared.Sides.{Sides}
 use Rattle.rules.specs.Grid.{size, Voxel, index, voxel, voxels, end, onBorder, neighbour, block, facePlaces, measuredNegative, measuredNonNegative, isNegative, valueAt}
-use Rattle.rules.specs.Begin.{least, greatest, isIn, inside, facing, greatestFacing, distance, workedAt, worked, inBox, exposed, statusAt, boxStatus, newRecord}
-use Rattle.rules.specs.Machine.{State, state, statusOf, isKept, isPending, isInside}
+use Rattle.rules.specs.Begin.{least, greatest, isIn, inside, facing, greatestFacing, distance, workedAt, worked, inBox, exposed, statusAt, startStatus}
+use Rattle.rules.specs.Status.{statusOf, keptByte, pendingByte, isKept, isPending}
+use Rattle.rules.specs.Machine.{isInside}
 use Rattle.rules.specs.Meaning.{found, negative}
-use Rattle.rules.proofs.Voxels.{getD-map-from, length-map-from}
+use Rattle.prelude.proofs.Ranges.{getD-map-from, length-map-from}
 use Rattle.rules.proofs.Places.{Fit, index-lt}
 use Rattle.rules.proofs.InsideLeast.{least-le, least-is, le-greatest, greatest-is, mem-map, map-mem}
 use Rattle.rules.proofs.Inside.{isIn-mem, mem-isIn, inside-some, inside-members, negative-lt}
 use Rattle.rules.proofs.Distance.{voxel-inside}
 use Rattle.rules.proofs.Boxes.{in-box, inside-off-border}
 use Rattle.rules.proofs.Topology.Around.{Inner, neighbour-at, block-at}
-use Rattle.rules.proofs.Topology.Removal.{face-steps, passes-exposed}
-use Rattle.rules.proofs.Topology.Count.{found-mono}
-use Rattle.rules.proofs.Topology.Moves.{Shape}
+use Rattle.rules.proofs.Topology.Removal.{face-steps}
+use Rattle.rules.proofs.Topology.Count.{found-same}
+use Rattle.rules.proofs.Topology.Moves.{Shape, Inv, Start, start-inv}
 use Rattle.rules.proofs.Topology.BoxCells.{among, Bounds, box}
 use Rattle.rules.proofs.Topology.Box.{Fits, inside-box, boxed, boxed-inner, boxed-shape}
-use Rattle.rules.proofs.Topology.Steps.{Good, kept-beyond, pending-beyond}
+use Rattle.rules.proofs.Topology.Steps.{sets, Sound, tally, kept-beyond, pending-beyond}
 
 -- ---- the box lies off the border
 
@@ -88,12 +88,14 @@ box-bounds s S i = refl
 
 -- ---- what the status bytes and the distances say
 
-kept-byte : (t q : Bool) → not (eqb (cond t (cond q 3 1) 0) 0) ≡ t
+kept-byte : (t q : Bool) → keptByte (cond t (cond q 3 1) 0) ≡ t
+unfolding keptByte
 kept-byte true true = refl
 kept-byte true false = refl
 kept-byte false q = refl
 
-pending-byte : (t q : Bool) → eqb (cond t (cond q 3 1) 0) 3 ≡ (t && q)
+pending-byte : (t q : Bool) → pendingByte (cond t (cond q 3 1) 0) ≡ (t && q)
+unfolding pendingByte
 pending-byte true true = refl
 pending-byte true false = refl
 pending-byte false q = refl
@@ -116,24 +118,103 @@ worked-sign false true true w m inner outer = outer refl
 worked-sign false true false w m inner outer = refl
 worked-sign false false f w m inner outer = refl
 
-module _ (s : Sides) (T : ℕ) (values : List ℤ) (sides : Fit s)
-    (clear : (i : ℕ) → i < size s → onBorder s i ≡ true → measuredNegative (valueAt values i) ≡ false) (v : ℕ) (some-negative : negative s values v ≡ true) where
-  abbrev S : List ℕ
-  S = inside s values
+-- ---- any starting body
 
-  abbrev begun-state : State
-  begun-state = state (newRecord s T) (worked s values S) (boxStatus s S)
+-- a set of voxels, within the grid
+unfoldable pub inGrid : Sides → (ℕ → Bool) → ℕ → Bool
+inGrid s K j = ltb j (size s) && K j
 
-  inside-in : (i : ℕ) → isIn S i ≡ true → i < size s
-  inside-in i m = negative-lt s values i (inside-members s values i m)
+module _ (s : Sides) (S : List ℕ) (K : ℕ → Bool) (shape : Shape s (inGrid s K) 0 (pos 1)) (holds : (j : ℕ) → isIn S j ≡ true → inGrid s K j ≡ true) where
+  abbrev started : List ℕ
+  started = startStatus s S K
 
+  body-in-grid : (j : ℕ) → j < size s → inGrid s K j ≡ K j
+  unfolding inGrid
+  body-in-grid j h = ap (λ (t : Bool). t && K j) (lt-ltb j (size s) h)
+
+  body-beyond : (j : ℕ) → size s ≤ j → inGrid s K j ≡ false
+  unfolding inGrid
+  body-beyond j h = ap (λ (t : Bool). t && K j) (le-ltb j (size s) h)
+
+  status-lent : length started ≡ size s
+  unfolding startStatus voxels
+  status-lent = length-map-from (statusAt s S K) (size s)
+
+  status-start : (j : ℕ) → j < size s → statusOf started j ≡ statusAt s S K j
+  unfolding startStatus voxels
+  status-start j h = getD-map-from (statusAt s S K) 0 (size s) j h
+
+  -- pending at first
+  abbrev waits : ℕ → Bool
+  waits j = not (isIn S j) && exposed s K j
+
+  kept-in : (j : ℕ) → j < size s → isKept started j ≡ inGrid s K j
+  unfolding isKept statusAt
+  kept-in j h = ap keptByte (status-start j h) ∙ kept-byte (K j) (waits j) ∙ sym (body-in-grid j h)
+
+  kept-start : (j : ℕ) → isKept started j ≡ inGrid s K j
+  kept-start j =
+      elim (decLt j (size s)) [
+        | yes h ↦ kept-in j h
+        | no n ↦ kept-beyond started j (omega (arith, status-lent)) ∙ sym (body-beyond j (omega arith))
+      ]
+
+  pending-in : (j : ℕ) → j < size s → isPending started j ≡ (inGrid s K j && waits j)
+  unfolding isPending statusAt
+  pending-in j h = ap pendingByte (status-start j h) ∙ pending-byte (K j) (waits j) ∙ ap (λ (t : Bool). t && waits j) (sym (body-in-grid j h))
+
+  pending-start : (j : ℕ) → isPending started j ≡ (inGrid s K j && waits j)
+  pending-start j =
+      elim (decLt j (size s)) [
+        | yes h ↦ pending-in j h
+        | no n ↦ pending-beyond started j (omega (arith, status-lent)) ∙ sym (ap (λ (t : Bool). t && waits j) (body-beyond j (omega arith)))
+      ]
+
+  -- the body by index has the same face neighbours
+  exposed-same : (j : ℕ) → inGrid s K j ≡ true → exposed s K j ≡ exposed s (inGrid s K) j
+  unfolding exposed block
+  exposed-same j e =
+      any-ext (λ p. not (block s K j p)) (λ p. not (block s (inGrid s K) j p)) facePlaces (λ p m.
+      let u = shape .inner j e .1 in
+      let a = neighbour-at s (voxel s j) u p (face-steps p m .1) in
+      let w : Voxel = neighbour (voxel s j) p in
+      ap not (
+      block-at s K (voxel s j) w p u (a .0) ∙ sym (body-in-grid (index s w) (index-lt s w (a .1))) ∙ sym (block-at s (inGrid s K) (voxel s j) w p u (a .0))))
+
+  -- what holds at the start, whatever voxels are held
+  pub start-sound : (held : ℕ → Bool) → Sound s (isIn S) held (found s K) started (tally 0 0 0 (pos 1))
+  start-sound held = record { inv = inv; lent = status-lent }
+    where
+      kept : isKept started ≡ inGrid s K
+      kept = fun-ext kept-start
+
+      start : Start s (isIn S) held (isKept started) (isPending started)
+      start =
+          record {
+            shape = subst (λ (k : ℕ → Bool). Shape s k 0 (pos 1)) (sym kept) shape;
+            inside = λ j m. kept-start j ∙ holds j m;
+            waiting = λ j e.
+                let p = and-true (inGrid s K j) (waits j) (sym (pending-start j) ∙ e) in
+                (kept-start j ∙ p .0, not-true (isIn S j) (and-true (not (isIn S j)) (exposed s K j) (p .1) .0));
+            surface = λ j kj sj hj e.
+                let b : inGrid s K j ≡ true = sym (kept-start j) ∙ kj in
+                let x : exposed s K j ≡ true = exposed-same j b ∙ ap (λ (k : ℕ → Bool). exposed s k j) (sym kept) ∙ e in
+                pending-start j ∙ true-and (inGrid s K j) (waits j) b (true-and (not (isIn S j)) (exposed s K j) (ap not sj) x);
+          }
+
+      inv : Inv s (isIn S) held (found s K) (sets started (tally 0 0 0 (pos 1)))
+      inv =
+          subst (λ (n : ℕ). Inv s (isIn S) held n (sets started (tally 0 0 0 (pos 1)))) (found-same s (isKept started) K (λ j h. kept-start j ∙ body-in-grid j h))
+          (start-inv s (isIn S) held (isKept started) (isPending started) start)
+
+-- ---- the box of some voxels off the border
+
+module _ (s : Sides) (sides : Fit s) (S : List ℕ) (off : (j : ℕ) → isIn S j ≡ true → (j < size s) × (Inner s (voxel s j))) (first : ℕ) (some-in : isIn S first ≡ true) where
   fits : Fits s (bounds s S)
   fits =
-      let off : (i : ℕ) → isIn S i ≡ true → Inner s (voxel s i) = λ i m. border-inner s i (inside-in i m) (inside-off-border s values clear i m) in
-      let first = inside-some s values v some-negative in
-      let x = extremes (s .a) S (λ j. voxel s j .x) (omega (arith, sides .a-low)) (λ j m. (off j m .x-low, off j m .x-high)) (first .0) (first .1) in
-      let y = extremes (s .b) S (λ j. voxel s j .y) (omega (arith, sides .b-low)) (λ j m. (off j m .y-low, off j m .y-high)) (first .0) (first .1) in
-      let z = extremes (s .c) S (λ j. voxel s j .z) (omega (arith, sides .c-low)) (λ j m. (off j m .z-low, off j m .z-high)) (first .0) (first .1) in
+      let x = extremes (s .a) S (λ j. voxel s j .x) (omega (arith, sides .a-low)) (λ j m. (off j m .1 .x-low, off j m .1 .x-high)) first some-in in
+      let y = extremes (s .b) S (λ j. voxel s j .y) (omega (arith, sides .b-low)) (λ j m. (off j m .1 .y-low, off j m .1 .y-high)) first some-in in
+      let z = extremes (s .c) S (λ j. voxel s j .z) (omega (arith, sides .c-low)) (λ j m. (off j m .1 .z-low, off j m .1 .z-high)) first some-in in
       record {
         x-low = x .0;
         x-some = x .1;
@@ -146,106 +227,40 @@ module _ (s : Sides) (T : ℕ) (values : List ℤ) (sides : Fit s)
         z-high = z .2;
       }
 
-  abbrev start-box : ℕ → Bool
-  start-box = boxed s (bounds s S)
-
-  box-in : (j : ℕ) → j < size s → start-box j ≡ inBox s S j
-  unfolding boxed
-  box-in j h = ap₂ _&&_ (lt-ltb j (size s) h) (sym (box-bounds s S j))
-
-  box-beyond : (j : ℕ) → size s ≤ j → start-box j ≡ false
-  unfolding boxed
-  box-beyond j h = ap (λ (t : Bool). t && inside-box (bounds s S) (voxel s j)) (le-ltb j (size s) h)
-
-  status-lent : length (boxStatus s S) ≡ size s
-  unfolding boxStatus voxels
-  status-lent = length-map-from (statusAt s S) (size s)
-
-  status-start : (j : ℕ) → j < size s → statusOf (boxStatus s S) j ≡ statusAt s S j
-  unfolding boxStatus voxels
-  status-start j h = getD-map-from (statusAt s S) 0 (size s) j h
-
-  -- pending at first: outside S, with a face neighbour not kept
-  abbrev waits-first : ℕ → Bool
-  waits-first j = not (isIn S j) && exposed s (inBox s S) j
-
-  kept-in : (j : ℕ) → j < size s → isKept begun-state j ≡ start-box j
-  unfolding isKept statusAt
-  kept-in j h = ap (λ (x : ℕ). not (eqb x 0)) (status-start j h) ∙ kept-byte (inBox s S j) (waits-first j) ∙ sym (box-in j h)
-
-  kept-start : (j : ℕ) → isKept begun-state j ≡ start-box j
-  kept-start j =
-      elim (decLt j (size s)) [
-        | yes h ↦ kept-in j h
-        | no n ↦ kept-beyond begun-state j (omega (arith, status-lent)) ∙ sym (box-beyond j (omega arith))
-      ]
-
-  pending-in : (j : ℕ) → j < size s → isPending begun-state j ≡ (start-box j && waits-first j)
-  unfolding isPending statusAt
-  pending-in j h =
-      ap (λ (x : ℕ). eqb x 3) (status-start j h) ∙ pending-byte (inBox s S j) (waits-first j) ∙ ap (λ (t : Bool). t && waits-first j) (sym (box-in j h))
-
-  pending-start : (j : ℕ) → isPending begun-state j ≡ (start-box j && waits-first j)
-  pending-start j =
-      elim (decLt j (size s)) [
-        | yes h ↦ pending-in j h
-        | no n ↦
-            pending-beyond begun-state j (omega (arith, status-lent)) ∙ sym (ap (λ (t : Bool). t && waits-first j) (box-beyond j (omega arith)))
-      ]
-
-  -- the box by index has the same face neighbours
-  exposed-box : (j : ℕ) → start-box j ≡ true → exposed s (inBox s S) j ≡ exposed s start-box j
-  unfolding exposed block
-  exposed-box j e =
-      any-ext (λ p. not (block s (inBox s S) j p)) (λ p. not (block s start-box j p)) facePlaces (λ p m.
-      let u = boxed-inner s (bounds s S) fits j e .1 in
-      let a = neighbour-at s (voxel s j) u p (face-steps p m .1) in
-      let w : Voxel = neighbour (voxel s j) p in
-      ap not (
-      block-at s (inBox s S) (voxel s j) w p u (a .0) ∙ sym (box-in (index s w) (index-lt s w (a .1))) ∙ sym (block-at s start-box (voxel s j) w p u (a .0))))
-
-  start-signs : (i : ℕ) → i < size s → isInside begun-state i ≡ isIn S i
-  unfolding isInside worked workedAt voxels
-  start-signs i h =
-      let M = greatestFacing s values S in
-      ap (λ (w : ℤ). isNegative w) (getD-map-from (workedAt s values S M) (pos 0) (size s) i h)
-      ∙ worked-sign (isIn S i) (measuredNonNegative (valueAt values i)) (facing s S i) (valueAt values i) (cond (facing s S i) M (M + distance s S i))
-      (λ m. negative-sign (valueAt values i) (and-true (ltb i (size s)) (measuredNegative (valueAt values i)) (inside-members s values i m) .1))
-      (non-negative-sign (valueAt values i))
-
-  pub start-good : Good (isIn S) (found s (inBox s S)) begun-state
-  start-good =
-      record {
-        inv =
-            record {
-              shape = subst (λ (k : ℕ → Bool). Shape s k 0 (pos 1)) (sym kept) (boxed-shape s (bounds s S) fits 0);
-              inside = λ j m. kept-start j ∙ box-in j (inside-in j m) ∙ in-box s S j m;
-              waiting = λ j e. let r = waits j e in (kept-start j ∙ r .0, r .1);
-              failing = failing;
-              bounded = omega (arith, found-mono s (isPending begun-state) (inBox s S) (λ j e. let r = waits j e in in-the-box j (r .0)));
-            };
-        lent = status-lent;
-        signs = λ _. start-signs;
-      }
+  pub box-shape : Shape s (inGrid s (inBox s S)) 0 (pos 1)
+  box-shape = subst (λ (k : ℕ → Bool). Shape s k 0 (pos 1)) (sym (fun-ext same)) (boxed-shape s (bounds s S) fits 0)
     where
-      kept : isKept begun-state ≡ start-box
-      kept = fun-ext kept-start
+      same : (j : ℕ) → inGrid s (inBox s S) j ≡ boxed s (bounds s S) j
+      same j = unfold inGrid boxed in ap (λ (t : Bool). ltb j (size s) && t) (box-bounds s S j)
 
-      waits : (j : ℕ) → isPending begun-state j ≡ true → (start-box j ≡ true) × (isIn S j ≡ false)
-      waits j e =
-          let p = and-true (start-box j) (waits-first j) (sym (pending-start j) ∙ e) in
-          (p .0, not-true (isIn S j) (and-true (not (isIn S j)) (exposed s (inBox s S) j) (p .1) .0))
+  pub box-holds : (j : ℕ) → isIn S j ≡ true → inGrid s (inBox s S) j ≡ true
+  box-holds j m = unfold inGrid in true-and (ltb j (size s)) (inBox s S j) (lt-ltb j (size s) (off j m .0)) (in-box s S j m)
 
-      in-the-box : (j : ℕ) → start-box j ≡ true → inBox s S j ≡ true
-      in-the-box j e = sym (box-in j (boxed-inner s (bounds s S) fits j e .0)) ∙ e
+-- ---- begin
 
-      failing : (j : ℕ) → isKept begun-state j ≡ true → isIn S j ≡ false → isPending begun-state j ≡ false → passes (test (block s (isKept begun-state) j)) ≡ false
-      failing j kj sj pj =
-          let b : start-box j ≡ true = sym (kept-start j) ∙ kj in
-          let closed : exposed s (inBox s S) j ≡ false =
-          sym (ap₂ (λ (p q : Bool). p && (not q && exposed s (inBox s S) j)) b sj) ∙ sym (pending-start j) ∙ pj in
-          let shut : exposed s (isKept begun-state) j ≡ false = ap (λ (k : ℕ → Bool). exposed s k j) kept ∙ sym (exposed-box j b) ∙ closed in
-          elim (two (passes (test (block s (isKept begun-state) j)))) [
-            | inl e ↦ not-both (exposed s (isKept begun-state) j) (passes-exposed s (isKept begun-state) j e) shut
-            | inr e ↦ e
-          ]
+-- the signs of the worked distances are S
+pub worked-signs : (s : Sides) (values : List ℤ) (i : ℕ) → i < size s → isInside (worked s values (inside s values)) i ≡ isIn (inside s values) i
+unfolding isInside worked workedAt voxels
+worked-signs s values i h =
+    let S = inside s values in
+    let M = greatestFacing s values S in
+    ap (λ (w : ℤ). isNegative w) (getD-map-from (workedAt s values S M) (pos 0) (size s) i h)
+    ∙ worked-sign (isIn S i) (measuredNonNegative (valueAt values i)) (facing s S i) (valueAt values i) (cond (facing s S i) M (M + distance s S i))
+    (λ m. negative-sign (valueAt values i) (and-true (ltb i (size s)) (measuredNegative (valueAt values i)) (inside-members s values i m) .1))
+    (non-negative-sign (valueAt values i))
+
+-- the solid box is a body to start from
+module _ (s : Sides) (values : List ℤ) (sides : Fit s)
+    (clear : (i : ℕ) → i < size s → onBorder s i ≡ true → measuredNegative (valueAt values i) ≡ false) (v : ℕ) (some-negative : negative s values v ≡ true) where
+  abbrev S : List ℕ
+  S = inside s values
+
+  off-border : (i : ℕ) → isIn S i ≡ true → (i < size s) × (Inner s (voxel s i))
+  off-border i m =
+      let h = negative-lt s values i (inside-members s values i m) in
+      (h, border-inner s i h (inside-off-border s values clear i m))
+
+  pub box-sound : (held : ℕ → Bool) → Sound s (isIn S) held (found s (inBox s S)) (startStatus s S (inBox s S)) (tally 0 0 0 (pos 1))
+  box-sound held =
+      let f = inside-some s values v some-negative in
+      start-sound s S (inBox s S) (box-shape s sides S off-border (f .0) (f .1)) (box-holds s sides S off-border (f .0) (f .1)) held

@@ -1,239 +1,223 @@
--- Each step of a call on a state is a move on its sets. Assumes nothing.
+-- Each step of a call on the status bytes is a move on the sets that they stand for.
 use mathlib.Core.Path.{_≡_, refl, ap, ap₂, sym, _∙_, subst, fun-ext}
 use mathlib.Core.Bool.{Bool, true, false, not, cond, _&&_, _||_}
+use mathlib.Core.List.{List}
 use Prim.Native.Nat.{ℕ, suc, _+_, _≤_, _<_}
 use native.Mathlib.Omega.{arith}
 use native.Mathlib.Decide.{ℕ-discrete, decLt}
 use lib.Dec.{eqb}
 use lib.ListN.{length, getD, set, length-set, List·getD-eq-default}
 use lib.Seq.{getD-set-same, getD-set-other}
-use lib.IntN.{ℤ, pos, _+ℤ_, _-ℤ_, +ℤ-idr}
-use borrow.Author.Tests.{eqb-true, eq-eqb, ne-eqb}
+use lib.IntN.{ℤ, pos, _+ℤ_, _-ℤ_}
+use borrow.Author.Tests.{eq-eqb, ne-eqb}
 use Rattle.cells.specs.Cells.{test, passes}
-use Rattle.cells.proofs.Bools.{and-zero, and-one, or-zero, or-one}
+use Rattle.prelude.proofs.Bools.{and-zero, and-one, not-both}
 use Rattle.rules.specs.declared.Sides.{Sides}
-use Rattle.rules.specs.declared.Record.{Record}
 use Rattle.rules.specs.Grid.{size, voxels, touch, block}
 use Rattle.rules.specs.Begin.{exposed}
-use Rattle.rules.specs.Machine.{State, state, statusOf, isKept, isPending, isInside, removable, testAt, count, statusWithout, without, examinedAs, examine}
-use Rattle.rules.proofs.Voxels.{getD-map-from, length-map-from}
+use Rattle.rules.specs.Status.{statusOf, keptByte, pendingByte, rested, isKept, isPending, removable, testAt, statusWithout, without, examinedAs, examine}
+use Rattle.prelude.proofs.Ranges.{getD-map-from, length-map-from}
 use Rattle.rules.proofs.Topology.Surface.{omit}
-use Rattle.rules.proofs.Topology.Moves.{Sets, woken, gone, failed, passed, taken, opened-up, Inv, move-keeps}
+use Rattle.rules.proofs.Topology.Moves.{Sets, pendingAfter, gone, Move, stayed, passed, taken, opened-up, Inv, move-keeps}
+use Rattle.rules.proofs.Topology.Bytes.{rested-kept, rested-pending, still-kept, now-pending}
 
--- the sets and counts that a state stands for
-abbrev pub sets : State → Sets
-sets g =
+-- how many examinations, removals and openings, and the Euler number
+pub record Tally : Type 0 where
+  pub examined : ℕ
+  pub removed : ℕ
+  pub opened : ℕ
+  pub number : ℤ
+
+abbrev pub tally : ℕ → ℕ → ℕ → ℤ → Tally
+tally examined removed opened number = record { examined = examined; removed = removed; opened = opened; number = number }
+
+-- the sets that status bytes stand for
+abbrev pub sets : List ℕ → Tally → Sets
+sets status t =
     record {
-      kept = isKept g;
-      pending = isPending g;
-      examined = g .rec .examinations;
-      removed = g .rec .removals;
-      opened = g .rec .openings;
-      number = g .rec .euler;
+      kept = isKept status;
+      pending = isPending status;
+      examined = t .examined;
+      removed = t .removed;
+      opened = t .opened;
+      number = t .number;
     }
 
--- what holds of a state between calls: to an unfinished grid S is the voxels of negative worked distance
-pub record Good (S : ℕ → Bool) (total : ℕ) (g : State) : Type 0 where
-  pub inv : Inv (g .rec .sides) S total (sets g)
-  pub lent : length (g .status) ≡ size (g .rec .sides)
-  pub signs : g .rec .finished ≡ false → (i : ℕ) → i < size (g .rec .sides) → isInside g i ≡ S i
+-- what holds of the status bytes and the counts between calls
+pub record Sound (s : Sides) (S held : ℕ → Bool) (total : ℕ) (status : List ℕ) (t : Tally) : Type 0 where
+  pub inv : Inv s S held total (sets status t)
+  pub lent : length status ≡ size s
 
--- ---- a voxel of a state is gone
+-- ---- beyond the buffer there is nothing
 
-pub kept-beyond : (g : State) (j : ℕ) → length (g .status) ≤ j → isKept g j ≡ false
-unfolding isKept
-kept-beyond g j h = ap (λ (x : ℕ). not (eqb x 0)) (List·getD-eq-default (g .status) 0 h)
+pub kept-beyond : (status : List ℕ) (j : ℕ) → length status ≤ j → isKept status j ≡ false
+unfolding isKept keptByte
+kept-beyond status j h = ap keptByte (List·getD-eq-default status 0 h)
 
-pub pending-beyond : (g : State) (j : ℕ) → length (g .status) ≤ j → isPending g j ≡ false
-unfolding isPending
-pending-beyond g j h = ap (λ (x : ℕ). eqb x 3) (List·getD-eq-default (g .status) 0 h)
+pub pending-beyond : (status : List ℕ) (j : ℕ) → length status ≤ j → isPending status j ≡ false
+unfolding isPending pendingByte
+pending-beyond status j h = ap pendingByte (List·getD-eq-default status 0 h)
 
-still-kept : (e k n t : Bool) (x : ℕ) → not (eqb x 0) ≡ k → not (eqb (cond e 0 (cond ((k && n) && t) 3 x)) 0) ≡ (k && not e)
-still-kept true k n t x q = sym (and-zero k)
-still-kept false true true true x q = refl
-still-kept false true true false x q = q
-still-kept false true false t x q = q
-still-kept false false n t x q = q
+-- ---- a call that pins no voxel but those that are held; free are the voxels outside S that it does not pin
 
-now-pending : (e k n t : Bool) (x : ℕ) → eqb (cond e 0 (cond ((k && n) && t) 3 x)) 3 ≡ ((eqb x 3 && not e) || ((k && not e) && (n && t)))
-now-pending true k n t x = sym (ap₂ (λ (p q : Bool). p || (q && (n && t))) (and-zero (eqb x 3)) (and-zero k))
-now-pending false true true true x = sym (or-one (eqb x 3 && true))
-now-pending false true true false x = sym (or-zero (eqb x 3 && true) ∙ and-one (eqb x 3))
-now-pending false true false t x = sym (or-zero (eqb x 3 && true) ∙ and-one (eqb x 3))
-now-pending false false n t x = sym (or-zero (eqb x 3 && true) ∙ and-one (eqb x 3))
+module _ (s : Sides) (S pins held free : ℕ → Bool) (total : ℕ) (within : (j : ℕ) → pins j ≡ true → held j ≡ true)
+    (free-is : (j : ℕ) → j < size s → free j ≡ (not (S j) && not (pins j))) (status : List ℕ) (t : Tally) (sound : Sound s S held total status t) where
+  keeps : {h : Sets} → Move s S pins (sets status t) h → Inv s S held total h
+  keeps m = move-keeps s S held total pins within (sound .inv) m
 
-module _ (S : ℕ → Bool) (total : ℕ) (g : State) (good : Good S total g) (unfinished : g .rec .finished ≡ false) where
-  abbrev s : Sides
-  s = g .rec .sides
+  -- ---- a voxel is gone
 
-  abbrev put : ℕ → ℕ → ℤ → ℕ → State
-  put examined opened change i = state (count (g .rec) examined 1 opened change) (g .dist) (without g i)
-
-  status-without : (i j : ℕ) → j < size s → statusOf (without g i) j ≡ statusWithout g i j
+  status-without : (i j : ℕ) → j < size s → statusOf (without s free status i) j ≡ statusWithout s free status i j
   unfolding without voxels
-  status-without i j h = getD-map-from (statusWithout g i) 0 (size s) j h
+  status-without i j h = getD-map-from (statusWithout s free status i) 0 (size s) j h
 
-  length-without : (i : ℕ) → length (without g i) ≡ size s
+  pub length-without : (i : ℕ) → length (without s free status i) ≡ size s
   unfolding without voxels
-  length-without i = length-map-from (statusWithout g i) (size s)
+  length-without i = length-map-from (statusWithout s free status i) (size s)
 
-  kept-at : (i j : ℕ) → j < size s → not (eqb (statusOf (without g i) j) 0) ≡ omit (isKept g) i j
+  kept-at : (i j : ℕ) → j < size s → isKept (without s free status i) j ≡ omit (isKept status) i j
   unfolding statusWithout removable isKept omit
-  kept-at i j h =
-      ap (λ (x : ℕ). not (eqb x 0)) (status-without i j h)
-      ∙ still-kept (eqb j i) (isKept g j) (not (isInside g j)) _ (statusOf (g .status) j) refl
+  kept-at i j h = ap keptByte (status-without i j h) ∙ still-kept (statusOf status j) (eqb j i) (free j) (touch s i j)
 
-  pending-at : (i j : ℕ) → j < size s → eqb (statusOf (without g i) j) 3 ≡ woken s S (isKept g) (isPending g) i j
-  unfolding statusWithout removable isPending woken omit
+  pending-at : (i j : ℕ) → j < size s → isPending (without s free status i) j ≡ pendingAfter s S pins (isKept status) (isPending status) i j
+  unfolding statusWithout removable isPending isKept pendingAfter omit
   pending-at i j h =
-      ap (λ (x : ℕ). eqb x 3) (status-without i j h)
-      ∙ now-pending (eqb j i) (isKept g j) (not (isInside g j)) (touch s i j) (statusOf (g .status) j)
-      ∙ ap (λ (t : Bool). (isPending g j && not (eqb j i)) || ((isKept g j && not (eqb j i)) && (not t && touch s i j))) (good .signs unfinished j h)
+      ap pendingByte (status-without i j h)
+      ∙ now-pending (statusOf status j) (eqb j i) (free j) (touch s i j)
+      ∙ ap (λ (f : Bool). (isPending status j && not (eqb j i)) || ((isKept status j && not (eqb j i)) && (f && touch s i j))) (free-is j h)
 
-  -- beyond the grid there is nothing
-  woken-beyond : (i j : ℕ) → size s ≤ j → (omit (isKept g) i j ≡ false) × (woken s S (isKept g) (isPending g) i j ≡ false)
-  unfolding woken omit
-  woken-beyond i j h =
-      let k : isKept g j ≡ false = kept-beyond g j (omega (arith, good .lent)) in
-      let p : isPending g j ≡ false = pending-beyond g j (omega (arith, good .lent)) in (
-        ap (λ (t : Bool). t && not (eqb j i)) k,
-        ap₂ (λ (q t : Bool). (q && not (eqb j i)) || ((t && not (eqb j i)) && (not (S j) && touch s i j))) p k,
-      )
+  omit-beyond : (i j : ℕ) → size s ≤ j → omit (isKept status) i j ≡ false
+  unfolding omit
+  omit-beyond i j h = ap (λ (k : Bool). k && not (eqb j i)) (kept-beyond status j (omega (arith, sound .lent)))
 
-  kept-without : (i : ℕ) (r : Record) → isKept (state r (g .dist) (without g i)) ≡ omit (isKept g) i
-  kept-without i r = fun-ext (λ j. go j (decLt j (size s)))
+  after-beyond : (i j : ℕ) → size s ≤ j → pendingAfter s S pins (isKept status) (isPending status) i j ≡ false
+  unfolding pendingAfter omit
+  after-beyond i j h =
+      ap₂ (λ (p k : Bool). (p && not (eqb j i)) || ((k && not (eqb j i)) && ((not (S j) && not (pins j)) && touch s i j)))
+      (pending-beyond status j (omega (arith, sound .lent))) (kept-beyond status j (omega (arith, sound .lent)))
+
+  pub kept-without : (i : ℕ) → isKept (without s free status i) ≡ omit (isKept status) i
+  kept-without i = fun-ext (λ j. go j (decLt j (size s)))
     where
-      go : (j : ℕ) → Dec (j < size s) → isKept (state r (g .dist) (without g i)) j ≡ omit (isKept g) i j
-      go j (yes h) = unfold isKept in kept-at i j h
-      go j (no n) =
-          kept-beyond (state r (g .dist) (without g i)) j (omega (arith, length-without i)) ∙ sym (woken-beyond i j (omega arith) .0)
+      go : (j : ℕ) → Dec (j < size s) → isKept (without s free status i) j ≡ omit (isKept status) i j
+      go j (yes h) = kept-at i j h
+      go j (no n) = kept-beyond (without s free status i) j (omega (arith, length-without i)) ∙ sym (omit-beyond i j (omega arith))
 
-  pending-without : (i : ℕ) (r : Record) → isPending (state r (g .dist) (without g i)) ≡ woken s S (isKept g) (isPending g) i
-  pending-without i r = fun-ext (λ j. go j (decLt j (size s)))
+  pub pending-without : (i : ℕ) → isPending (without s free status i) ≡ pendingAfter s S pins (isKept status) (isPending status) i
+  pending-without i = fun-ext (λ j. go j (decLt j (size s)))
     where
-      go : (j : ℕ) → Dec (j < size s) → isPending (state r (g .dist) (without g i)) j ≡ woken s S (isKept g) (isPending g) i j
-      go j (yes h) = unfold isPending in pending-at i j h
-      go j (no n) =
-          pending-beyond (state r (g .dist) (without g i)) j (omega (arith, length-without i)) ∙ sym (woken-beyond i j (omega arith) .1)
+      go : (j : ℕ) → Dec (j < size s) → isPending (without s free status i) j ≡ pendingAfter s S pins (isKept status) (isPending status) i j
+      go j (yes h) = pending-at i j h
+      go j (no n) = pending-beyond (without s free status i) j (omega (arith, length-without i)) ∙ sym (after-beyond i j (omega arith))
 
-  -- the state without i, from the invariant of the sets without i
-  good-gone : (i examined opened : ℕ) (change : ℤ)
-      → Inv s S total (gone s S (sets g) i (g .rec .examinations + examined) (g .rec .openings + opened) (g .rec .euler +ℤ change))
-      → Good S total (put examined opened change i)
-  unfolding isInside
-  good-gone i examined opened change inv =
-      record { inv = subst (Inv s S total) (sym same) inv; lent = length-without i; signs = good .signs }
+  -- the bytes without i, from the invariant of the sets without i
+  sound-gone : (i examined opened : ℕ) (number : ℤ) → Inv s S held total (gone s S pins (sets status t) i examined opened number)
+      → Sound s S held total (without s free status i) (tally examined (suc (t .removed)) opened number)
+  sound-gone i examined opened number inv = record { inv = subst (Inv s S held total) (sym same) inv; lent = length-without i }
     where
-      one : g .rec .removals + 1 ≡ suc (g .rec .removals)
-      one = omega arith
-
-      same : sets (put examined opened change i) ≡ gone s S (sets g) i (g .rec .examinations + examined) (g .rec .openings + opened) (g .rec .euler +ℤ change)
+      same : sets (without s free status i) (tally examined (suc (t .removed)) opened number) ≡ gone s S pins (sets status t) i examined opened number
       same = λ n.
           record {
-            kept = kept-without i (count (g .rec) examined 1 opened change) n;
-            pending = pending-without i (count (g .rec) examined 1 opened change) n;
-            examined = g .rec .examinations + examined;
-            removed = one n;
-            opened = g .rec .openings + opened;
-            number = g .rec .euler +ℤ change;
+            kept = kept-without i n;
+            pending = pending-without i n;
+            examined = examined;
+            removed = suc (t .removed);
+            opened = opened;
+            number = number;
           }
-
-  none-more : (n : ℕ) → n ≡ n + 0
-  none-more n = omega arith
-
-  one-more : (n : ℕ) → suc n ≡ n + 1
-  one-more n = omega arith
 
   -- ---- the three ways in which a voxel goes
 
-  pub good-taken : (i : ℕ) → isKept g i ≡ true → S i ≡ false → passes (testAt g i) ≡ true → Good S total (put 0 0 (pos 0) i)
+  pub sound-taken : (i : ℕ) → isKept status i ≡ true → S i ≡ false → pins i ≡ false → passes (testAt s status i) ≡ true
+      → Sound s S held total (without s free status i) (tally (t .examined) (suc (t .removed)) (t .opened) (t .number))
   unfolding testAt
-  good-taken i ki si e =
-      good-gone i 0 0 (pos 0) (
-      subst (Inv s S total) (λ n. gone s S (sets g) i (none-more (g .rec .examinations) n) (none-more (g .rec .openings) n) (sym (+ℤ-idr (g .rec .euler)) n))
-      (move-keeps s S total (good .inv) (taken i ki si e)))
+  sound-taken i ki si fi e = sound-gone i (t .examined) (t .opened) (t .number) (keeps (taken i ki si fi e))
 
-  pub good-opened : (i : ℕ) → isKept g i ≡ true → S i ≡ false → exposed s (isKept g) i ≡ true
-      → Good S total (put 0 1 (pos (testAt g i .k) -ℤ pos (testAt g i .m)) i)
+  pub sound-opened : (i : ℕ) → isKept status i ≡ true → S i ≡ false → pins i ≡ false → exposed s (isKept status) i ≡ true
+      → Sound s S held total (without s free status i)
+      (tally (t .examined) (suc (t .removed)) (suc (t .opened)) (t .number +ℤ (pos (testAt s status i .k) -ℤ pos (testAt s status i .m))))
   unfolding testAt
-  good-opened i ki si e =
-      let change : ℤ = pos (test (block s (isKept g) i) .k) -ℤ pos (test (block s (isKept g) i) .m) in
-      good-gone i 0 1 change (
-      subst (Inv s S total) (λ n. gone s S (sets g) i (none-more (g .rec .examinations) n) (one-more (g .rec .openings) n) (g .rec .euler +ℤ change))
-      (move-keeps s S total (good .inv) (opened-up i ki si e)))
+  sound-opened i ki si fi e =
+      sound-gone i (t .examined) (suc (t .opened)) (t .number +ℤ (pos (test (block s (isKept status) i) .k) -ℤ pos (test (block s (isKept status) i) .m)))
+      (keeps (opened-up i ki si fi e))
 
-  good-passed : (i : ℕ) → isPending g i ≡ true → passes (testAt g i) ≡ true → Good S total (put 1 0 (pos 0) i)
+  sound-passed : (i : ℕ) → isPending status i ≡ true → pins i ≡ false → passes (testAt s status i) ≡ true
+      → Sound s S held total (without s free status i) (tally (suc (t .examined)) (suc (t .removed)) (t .opened) (t .number))
   unfolding testAt
-  good-passed i pi e =
-      good-gone i 1 0 (pos 0) (
-      subst (Inv s S total) (λ n. gone s S (sets g) i (one-more (g .rec .examinations) n) (none-more (g .rec .openings) n) (sym (+ℤ-idr (g .rec .euler)) n))
-      (move-keeps s S total (good .inv) (passed i pi e)))
+  sound-passed i pi fi e = sound-gone i (suc (t .examined)) (t .opened) (t .number) (keeps (passed i pi fi e))
 
-  -- ---- a pending voxel that does not pass is pending no more
+  -- ---- a pending voxel that stays is pending no more
 
-  kept-cleared : (i : ℕ) (r : Record) → i < size s → isPending g i ≡ true → isKept (state r (g .dist) (set (g .status) i 1)) ≡ isKept g
+  abbrev stayed-at : ℕ → List ℕ
+  stayed-at i = set status i (rested (statusOf status i))
+
+  kept-stayed : (i : ℕ) → i < size s → isPending status i ≡ true → isKept (stayed-at i) ≡ isKept status
   unfolding isKept isPending
-  kept-cleared i r h p = fun-ext (λ j. go j (ℕ-discrete j i))
+  kept-stayed i h p = fun-ext (λ j. go j (ℕ-discrete j i))
     where
-      go : (j : ℕ) → Dec (j ≡ i) → not (eqb (getD (set (g .status) i 1) j 0) 0) ≡ not (eqb (getD (g .status) j 0) 0)
-      go j (yes e) =
-          ap (λ (k : ℕ). not (eqb (getD (set (g .status) i 1) k 0) 0)) e
-          ∙ ap (λ (x : ℕ). not (eqb x 0)) (getD-set-same (g .status) i 1 0 (omega (arith, good .lent)))
-          ∙ sym (ap (λ (k : ℕ). not (eqb (getD (g .status) k 0) 0)) e ∙ ap (λ (x : ℕ). not (eqb x 0)) (eqb-true (getD (g .status) i 0) 3 p))
-      go j (no n) = ap (λ (x : ℕ). not (eqb x 0)) (getD-set-other (g .status) i j 1 0 n)
+      x : ℕ
+      x = rested (statusOf status i)
 
-  pending-cleared : (i : ℕ) (r : Record) → i < size s → isPending (state r (g .dist) (set (g .status) i 1)) ≡ omit (isPending g) i
+      go : (j : ℕ) → Dec (j ≡ i) → keptByte (getD (stayed-at i) j 0) ≡ keptByte (getD status j 0)
+      go j (yes e) =
+          ap (λ (k : ℕ). keptByte (getD (stayed-at i) k 0)) e
+          ∙ ap keptByte (getD-set-same status i (rested (statusOf status i)) 0 (omega (arith, sound .lent)))
+          ∙ rested-kept (statusOf status i) p
+          ∙ ap (λ (k : ℕ). keptByte (getD status k 0)) (sym e)
+      go j (no n) = ap keptByte (getD-set-other status i j (rested (statusOf status i)) 0 n)
+
+  pending-stayed : (i : ℕ) → i < size s → isPending status i ≡ true → isPending (stayed-at i) ≡ omit (isPending status) i
   unfolding isPending omit
-  pending-cleared i r h = fun-ext (λ j. go j (ℕ-discrete j i))
+  pending-stayed i h p = fun-ext (λ j. go j (ℕ-discrete j i))
     where
-      go : (j : ℕ) → Dec (j ≡ i) → eqb (getD (set (g .status) i 1) j 0) 3 ≡ (eqb (getD (g .status) j 0) 3 && not (eqb j i))
+      go : (j : ℕ) → Dec (j ≡ i) → pendingByte (getD (stayed-at i) j 0) ≡ (pendingByte (getD status j 0) && not (eqb j i))
       go j (yes e) =
-          ap (λ (k : ℕ). eqb (getD (set (g .status) i 1) k 0) 3) e
-          ∙ ap (λ (x : ℕ). eqb x 3) (getD-set-same (g .status) i 1 0 (omega (arith, good .lent)))
-          ∙ sym (ap (λ (t : Bool). eqb (getD (g .status) j 0) 3 && not t) (eq-eqb j i e) ∙ and-zero (eqb (getD (g .status) j 0) 3))
+          ap (λ (k : ℕ). pendingByte (getD (stayed-at i) k 0)) e
+          ∙ ap pendingByte (getD-set-same status i (rested (statusOf status i)) 0 (omega (arith, sound .lent)))
+          ∙ rested-pending (statusOf status i) p
+          ∙ sym (ap (λ (q : Bool). pendingByte (getD status j 0) && not q) (eq-eqb j i e) ∙ and-zero (pendingByte (getD status j 0)))
       go j (no n) =
-          ap (λ (x : ℕ). eqb x 3) (getD-set-other (g .status) i j 1 0 n)
-          ∙ sym (ap (λ (t : Bool). eqb (getD (g .status) j 0) 3 && not t) (ne-eqb j i n) ∙ and-one (eqb (getD (g .status) j 0) 3))
+          ap pendingByte (getD-set-other status i j (rested (statusOf status i)) 0 n)
+          ∙ sym (ap (λ (q : Bool). pendingByte (getD status j 0) && not q) (ne-eqb j i n) ∙ and-one (pendingByte (getD status j 0)))
 
-  good-failed : (i : ℕ) → i < size s → isPending g i ≡ true → passes (testAt g i) ≡ false
-      → Good S total (state (count (g .rec) 1 0 0 (pos 0)) (g .dist) (set (g .status) i 1))
-  unfolding isInside testAt
-  good-failed i h pi e =
+  sound-stayed : (i : ℕ) → i < size s → isPending status i ≡ true → (passes (testAt s status i) && not (pins i)) ≡ false
+      → Sound s S held total (stayed-at i) (tally (suc (t .examined)) (t .removed) (t .opened) (t .number))
+  unfolding testAt
+  sound-stayed i h pi e =
       record {
-        inv = subst (Inv s S total) same (move-keeps s S total (good .inv) (failed i pi e));
-        lent = length-set (g .status) i 1 ∙ good .lent;
-        signs = good .signs;
+        inv = subst (Inv s S held total) same (keeps (stayed i pi e));
+        lent = length-set status i (rested (statusOf status i)) ∙ sound .lent;
       }
     where
-      next : Record
-      next = count (g .rec) 1 0 0 (pos 0)
-
-      cleared : Sets
-      cleared =
+      kept-only : Sets
+      kept-only =
           record {
-            kept = isKept g;
-            pending = omit (isPending g) i;
-            examined = suc (g .rec .examinations);
-            removed = g .rec .removals;
-            opened = g .rec .openings;
-            number = g .rec .euler;
+            kept = isKept status;
+            pending = omit (isPending status) i;
+            examined = suc (t .examined);
+            removed = t .removed;
+            opened = t .opened;
+            number = t .number;
           }
 
-      same : cleared ≡ sets (state next (g .dist) (set (g .status) i 1))
+      same : kept-only ≡ sets (stayed-at i) (tally (suc (t .examined)) (t .removed) (t .opened) (t .number))
       same = λ n.
           record {
-            kept = sym (kept-cleared i next h pi) n;
-            pending = sym (pending-cleared i next h) n;
-            examined = one-more (g .rec .examinations) n;
-            removed = none-more (g .rec .removals) n;
-            opened = none-more (g .rec .openings) n;
-            number = sym (+ℤ-idr (g .rec .euler)) n;
+            kept = sym (kept-stayed i h pi) n;
+            pending = sym (pending-stayed i h pi) n;
+            examined = suc (t .examined);
+            removed = t .removed;
+            opened = t .opened;
+            number = t .number;
           }
 
-  pub good-examine : (i : ℕ) → i < size s → isPending g i ≡ true → Good S total (examine g i)
+  -- an examination of a voxel that is not pinned
+  pub sound-examined : (i : ℕ) → i < size s → isPending status i ≡ true → pins i ≡ false
+      → Sound s S held total (examine s free status i) (tally (suc (t .examined)) (cond (passes (testAt s status i)) (suc (t .removed)) (t .removed)) (t .opened) (t .number))
   unfolding examine
-  good-examine i h pi = go (passes (testAt g i)) refl
+  sound-examined i h pi fi = go (passes (testAt s status i)) refl
     where
-      go : (t : Bool) → passes (testAt g i) ≡ t → Good S total (examinedAs t g i)
-      go true e = good-passed i pi e
-      go false e = good-failed i h pi e
+      go : (u : Bool) → passes (testAt s status i) ≡ u
+          → Sound s S held total (examinedAs u s free status i) (tally (suc (t .examined)) (cond u (suc (t .removed)) (t .removed)) (t .opened) (t .number))
+      go true e = sound-passed i pi fi e
+      go false e = sound-stayed i h pi (ap (λ (u : Bool). u && not (pins i)) e)

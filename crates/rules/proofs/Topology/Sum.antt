@@ -1,4 +1,4 @@
--- Sums over the numbers below n, and what a change inside a window does to them. Assumes nothing.
+-- Sums over the numbers below n, and what a change inside a window does to them.
 use mathlib.Core.Path.{_≡_, refl, ap, _∙_}
 use mathlib.Core.Logic.{_⊎_, inl, inr}
 use Prim.Native.Nat.{ℕ, zero, suc, _+_, _-_, _*_, _≤_, _<_}

@@ -1,4 +1,4 @@
--- The cells of a kept voxel's surface: touched in its block is covered by the body without it, and the test counts them. Assumes nothing.
+-- The cells of a kept voxel's surface: touched in its block is covered by the body without it, and the test counts them.
 use mathlib.Core.Path.{_≡_, refl, ap, ap₂, sym, _∙_, subst}
 use mathlib.Core.Logic.{_⊎_, inl, inr, _≢_}
 use mathlib.Core.Bool.{Bool, true, false, not, cond, _&&_}
@@ -10,9 +10,9 @@ use lib.ListN.{length}
 use borrow.Author.Tests.{ltb-true, lt-ltb, eqb-true, eqb-false, eq-eqb, ne-eqb}
 use Rattle.cells.specs.Groups.{those, consIf}
 use Rattle.cells.specs.Cells.{spans, contains, places, touched, bit, dimension, countOf, testOf, test}
-use Rattle.cells.proofs.Bools.{and-true, true-and, or-true, true-or, both-ways, not-true}
-use Rattle.cells.proofs.Lists.{Mem, here, there, any-true, true-any}
-use Rattle.cells.proofs.EveryBlock.{euler}
+use Rattle.prelude.proofs.Bools.{and-true, true-and, or-true, true-or, both-ways, not-true}
+use Rattle.prelude.proofs.Lists.{Mem, here, there, any-true, true-any}
+use Rattle.closed_sets.proofs.EveryBlock.{euler}
 use Rattle.rules.specs.declared.Sides.{Sides}
 use Rattle.rules.specs.Grid.{Voxel, index, voxel, neighbour, blockOf}
 use Rattle.rules.specs.Body.{Voxels, bodyOf, Piece, plane, stretch, covered, Has}

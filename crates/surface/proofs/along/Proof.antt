@@ -1,4 +1,4 @@
--- `surface::along` meets its contract. Assumes nothing.
+-- `surface::along` meets its contract.
 use borrow.Author.Needs.{needs}
 use Rattle.surface.proofs.Axis.{along-z}
 use Rattle.surface.proofs.along.Statement.{statement}

@@ -1,29 +1,33 @@
--- `surface::coordinates_of` meets its contract. Assumes nothing.
-use mathlib.Core.Path.{refl}
-use native.Mathlib.Omega.{arith}
-use Rattle.rules.specs.Grid.{voxel}
-use Rattle.surface.proofs.Indices.{a-pos, b-pos, ab-pos, ab-le, voxel-up-to}
+-- `surface::coordinates_of` meets its contract.
+use mathlib.Core.Path.{_≡_, ap}
+use Prim.Native.Nat.{ℕ, _/_, _%_}
+use native.Mathlib.Nat.{div-div-eq-div-mul}
+use Rattle.rules.specs.Grid.{Voxel, voxel}
+use Rattle.surface.proofs.Indices.{a-pos, b-pos, voxel-up-to}
 use Rattle.surface.proofs.coordinates_of.Statement.{statement}
 use Rattle.surface.proofs.coordinates_of.Tie as tie
 
-rem-t3 : tie.Need-rem-t3
-rem-t3 c = a-pos (c .before .args .sides) (c .before .pre .0)
+div-row : tie.Need-div-row
+div-row c = a-pos (c .before .args .sides) (c .before .pre .0)
 
-div-t4 : tie.Need-div-t4
-div-t4 c = a-pos (c .before .before .args .sides) (c .before .before .pre .0)
+rem-t4 : tie.Need-rem-t4
+rem-t4 c = let s = c .before .before in a-pos (s .args .sides) (s .pre .0)
 
 rem-t5 : tie.Need-rem-t5
-rem-t5 c = b-pos (c .before .before .before .args .sides) (c .before .before .before .pre .0)
+rem-t5 c = let s = c .before .before .before in b-pos (s .args .sides) (s .pre .0)
 
-mul-t6 : tie.Need-mul-t6
-mul-t6 c = let s = c .before .before .before .before in omega (arith, ab-le (s .args .sides) (s .pre .0))
-
-div-t7 : tie.Need-div-t7
-div-t7 c = let s = c .before .before .before .before in ab-pos (s .args .sides) (s .pre .0)
+div-t6 : tie.Need-div-t6
+div-t6 c = let s = c .before .before .before .before in b-pos (s .args .sides) (s .pre .0)
 
 returns : tie.Need-returns
 unfolding voxel
-returns c = let s = c .before .before .before .before in (refl, voxel-up-to (s .args .sides) (s .pre .0) (s .args .i) _ (s .pre .1) refl)
+returns c =
+    let p = c .before .before .before .before in
+    let s = p .args .sides in
+    let i = p .args .i in
+    let e : _≡_ {A = Voxel} (record { x = i % s .a; y = i / s .a % s .b; z = i / s .a / s .b }) (voxel s i) =
+    ap (λ (z : ℕ). record { x = i % s .a; y = i / s .a % s .b; z = z }) (div-div-eq-div-mul i (s .a) (s .b)) in
+    (e, voxel-up-to s (p .pre .0) i _ (p .pre .1) e)
 
 pub coordinates-of-spec : {M : Type 1} → statement M
-coordinates-of-spec = tie.close (tie.spec rem-t3 div-t4 rem-t5 mul-t6 div-t7 returns)
+coordinates-of-spec = tie.close (tie.spec div-row rem-t4 rem-t5 div-t6 returns)

@@ -1,97 +1,103 @@
--- `surface::crossing_at` meets its contract: it reads both distances, and the rule's bound holds of what it answers. Assumes nothing.
+-- `surface::crossing_at` meets its contract: it reads both distances, and the rule's bound holds of what it answers.
 use borrow.Author.Needs.{needs}
-use borrow.Author.Tests.{lt-leb}
-use mathlib.Core.Path.{_≡_, sym, ap, ap₂, _∙_, subst}
-use mathlib.Core.Bool.{false}
-use mathlib.Core.List.{List}
-use mathlib.Core.Option.{Option}
-use Prim.Native.Nat.{ℕ, _<_}
+use mathlib.Core.Path.{_≡_, sym, ap, _∙_, subst}
+use mathlib.Core.Bool.{true, false}
+use mathlib.Core.Option.{Option, none, some}
+use Prim.Native.Nat.{ℕ, _+_, _<_}
 use native.Mathlib.Omega.{arith}
-use lib.ListN.{length}
 use lib.IntN.{ℤ}
+use lib.ListN.{length}
 use mir.Syntax.{w32}
 use mir.Val.{SFits}
-use mir.Facts.{toZ-ofZ}
-use Rattle.rules.specs.declared.Point.{Point}
-use Rattle.rules.specs.Grid.{Voxel, voxel, index, distanceAt}
-use Rattle.rules.specs.Answer.{done, crossingAnswer}
-use Rattle.rules.specs.Machine.{State, state}
-use Rattle.rules.specs.Surface.{next, crossingOf, crossingAt, noNext, BoundedAt}
-use Rattle.rules.proofs.Bound.{Word, crossingAt-bounded}
-use Rattle.surface.proofs.Indices.{next-index-lt}
-use Rattle.surface.proofs.Sizes.{held}
+use Rattle.rules.specs.Grid.{Voxel, voxel, size, distanceAt}
+use Rattle.rules.specs.Answer.{done}
+use Rattle.surface.specs.declared.Point.{Point}
+use Rattle.surface.specs.Surface.{next, crossingOf, nextIndex, crossingAt, BoundedAt}
+use Rattle.surface.specs.Coordinates.{voxelOf}
+use Rattle.surface.proofs.Bound.{Word, crossingAt-bounded}
+use Rattle.surface.proofs.Indices.{next-below, next-index, voxel-next}
+use Rattle.surface.proofs.Between.{neither, from-here, from-next}
 use Rattle.surface.proofs.crossing_at.Statement.{statement}
 use Rattle.surface.proofs.crossing_at.Tie as tie
 
 -- ---- the next voxel's index
 
-module _ (c : tie.After-index-of) where
+module _ (c : tie.After-stride) where
   abbrev s : tie.Start
-  s = c .before .before .before .before
+  s = c .before
 
-  j-is : c .index-of .result ≡ index (s .args .given .sides) (next (s .args .axis) (voxel (s .args .given .sides) (s .args .i)))
+  abbrev j : ℕ
+  j = s .args .i + c .stride .result
+
+  j-is : j ≡ nextIndex (s .args .sides) (s .args .i) (s .args .axis)
   j-is =
-      c .index-of .ensures
-      ∙ ap (λ (v : Voxel). index (s .args .given .sides) v) (c .before .next .ensures .0 ∙ ap (λ (v : Voxel). next (s .args .axis) v) (c .before .before .coordinates-of .ensures .0))
+      ap (λ (n : ℕ). s .args .i + n) (c .stride .ensures .0)
+      ∙ sym (next-index (s .args .sides) (s .pre .0 .fit) (s .args .i) (s .args .axis))
 
-  j-lt : c .index-of .result < length (s .args .dist .now)
-  j-lt = omega (arith, j-is, next-index-lt (s .args .given .sides) (s .pre .0 .fit) (s .args .i) (s .args .axis) (s .pre .0 .here) (s .pre .0 .there), s .pre .1)
+  j-below : j < size (s .args .sides)
+  j-below = omega (arith, j-is, next-below (s .args .sides) (s .args .i) (s .args .axis) (s .pre .0))
+
+  j-lt : j < length (s .args .dist .now)
+  j-lt = omega (arith, j-below, s .pre .1)
+
+  -- the voxel of that index
+  j-next : voxel (s .args .sides) j ≡ next (s .args .axis) (voxel (s .args .sides) (s .args .i))
+  j-next = ap (voxel (s .args .sides)) j-is ∙ voxel-next (s .args .sides) (s .args .i) (s .args .axis) (s .pre .0)
 
 -- ---- the answer
 
-module _ (c : tie.After-crossing-between) (status : List ℕ) where
-  abbrev k : tie.After-index-of
-  k = c .before .before .before
+module _ (c : tie.After-there) where
+  abbrev k : tie.After-stride
+  k = c .before .before
 
   abbrev t : tie.Start
   t = s k
 
-  abbrev g : State
-  g = state (t .args .given) (t .args .dist .now) status
+  abbrev v : Voxel
+  v = voxel (t .args .sides) (t .args .i)
 
   abbrev here : ℤ
   here = distanceAt (t .args .dist .now) (t .args .i)
 
   abbrev there : ℤ
-  there = distanceAt (t .args .dist .now) (k .index-of .result)
+  there = distanceAt (t .args .dist .now) (j k)
 
   here-fits : SFits w32 here
-  here-fits = record { sfits = c .before .before .here .given }
+  here-fits = record { sfits = c .before .here .given }
 
   there-fits : SFits w32 there
-  there-fits = record { sfits = c .before .there .given }
+  there-fits = record { sfits = c .there .given }
 
-  answers : crossingAnswer (c .crossing-between .result) ≡ done (crossingAt (t .args .i) (t .args .axis) g)
+  abbrev Bound : Option Point → Type 0
+  Bound o = BoundedAt (t .args .sides) (t .args .dist .now) (t .args .i) (t .args .axis) o
+
+  abbrev answer : Option Point
+  answer = crossingAt (t .args .sides) (t .args .dist .now) (t .args .i) (t .args .axis)
+
+  meets :
+      (o : Option Point)
+      → o ≡ crossingOf (t .args .axis) v here there
+      → (done o ≡ done answer) × ((q : Option Point) → done o ≡ done q → Bound q)
   unfolding crossingAt
-  answers =
-      c .crossing-between .ensures
-      ∙ ap (λ (v : Voxel). done (crossingOf (t .args .axis) v (held here) (held there))) (k .before .before .coordinates-of .ensures .0)
-      ∙ ap₂ (λ (x y : ℤ). done (crossingOf (t .args .axis) (voxel (t .args .given .sides) (t .args .i)) x y)) (toZ-ofZ here-fits)
-      (toZ-ofZ there-fits ∙ ap (λ (n : ℕ). distanceAt (t .args .dist .now) n) (j-is k))
-
-  has-next : noNext (t .args .i) (t .args .axis) g ≡ false
-  unfolding noNext
-  has-next = lt-leb _ _ (t .pre .0 .there)
-
-  bounded : (o : Option Point) → crossingAnswer (c .crossing-between .result) ≡ done o → BoundedAt (t .args .i) (t .args .axis) g o
-  bounded o e =
-      subst (λ (o : Option Point). BoundedAt (t .args .i) (t .args .axis) g o) (same (crossingAt (t .args .i) (t .args .axis) g) o (sym answers ∙ e))
-      (crossingAt-bounded (t .args .i) (t .args .axis) g (t .pre .0 .fit) has-next (here-fits .sfits)
-      (subst (λ (n : ℕ). Word (distanceAt (t .args .dist .now) n)) (j-is k) (there-fits .sfits)))
+  meets o e =
+      let a : o ≡ answer = e ∙ ap (λ (n : ℕ). crossingOf (t .args .axis) v here (distanceAt (t .args .dist .now) n)) (j-is k) in
+      (ap done a, λ q f. subst (λ (o : Option Point). Bound o) (same answer o q a f) bounded)
     where
-      same : (o q : Option Point) → done o ≡ done q → o ≡ q
-      same o q e = cc
+      same : (a o q : Option Point) → o ≡ a → done o ≡ done q → a ≡ q
+      same a o q e f = cc
+
+      bounded : Bound answer
+      bounded =
+          crossingAt-bounded (t .args .sides) (t .args .dist .now) (t .args .i) (t .args .axis) (t .pre .0) (here-fits .sfits)
+          (subst (λ (n : ℕ). Word (distanceAt (t .args .dist .now) n)) (j-is k) (there-fits .sfits))
 
 -- ---- the needs
 
-coordinates-of-requires : tie.Need-coordinates-of-requires
-coordinates-of-requires c κs = search needs
+stride-requires : tie.Need-stride-requires
+stride-requires c κs = search needs
 
-next-requires : tie.Need-next-requires
-next-requires c κs = search needs
-
-index-of-requires : tie.Need-index-of-requires
-index-of-requires c κs = search needs
+add-j : tie.Need-add-j
+add-j c = search needs
 
 mul-here : tie.Need-mul-here
 mul-here c = search needs
@@ -100,27 +106,86 @@ shared-slice-copy-out-here : tie.Need-shared-slice-copy-out-here
 shared-slice-copy-out-here c = search needs
 
 mul-there : tie.Need-mul-there
-mul-there c = omega (arith, j-lt (c .before))
+mul-there c = search needs
 
 shared-slice-copy-out-there : tie.Need-shared-slice-copy-out-there
 shared-slice-copy-out-there c = j-lt (c .before)
 
-crossing-between-requires : tie.Need-crossing-between-requires
-crossing-between-requires c κs = search needs
-
 returns : tie.Need-returns
-returns c = (λ status. answers c status, λ status o e. bounded c status o e)
+returns c =
+    let r = c .before .before in
+    meets r none (neither (t r .args .axis) (v r) (here r) (there r) (here-fits r) (there-fits r) true (c .before .if1 .taken) (c .if2 .taken))
+
+coordinates-of-requires : tie.Need-coordinates-of-requires
+coordinates-of-requires c κs = search needs
+
+magnitude-requires : tie.Need-magnitude-requires
+magnitude-requires c κs = search needs
+
+magnitude-requires-2 : tie.Need-magnitude-requires-2
+magnitude-requires-2 c κs = search needs
+
+point-from-requires : tie.Need-point-from-requires
+point-from-requires c κs = search needs
+
+returns-2 : tie.Need-returns-2
+returns-2 c =
+    let m = c .before in
+    let w = m .before .before in
+    let e = w .before in
+    let r = e .before .before in
+    meets r (some (c .point-from .result))
+    (from-here (t r .args .axis) (v r) (here r) (there r) (here-fits r) (there-fits r) (voxelOf (w .coordinates-of .result)) (m .before .magnitude .result)
+    (m .magnitude2 .result) (c .point-from .result) (w .coordinates-of .ensures .0) (e .before .if1 .taken) (e .if2 .left) (m .before .magnitude .ensures .0)
+    (m .magnitude2 .ensures .0) (c .point-from .ensures))
+
+coordinates-of-requires-2 : tie.Need-coordinates-of-requires-2
+coordinates-of-requires-2 c κs = let r = c .before .before in (t r .pre .0 .fit, j-below (k r))
+
+magnitude-requires-3 : tie.Need-magnitude-requires-3
+magnitude-requires-3 c κs = search needs
+
+magnitude-requires-4 : tie.Need-magnitude-requires-4
+magnitude-requires-4 c κs = search needs
+
+point-from-requires-2 : tie.Need-point-from-requires-2
+point-from-requires-2 c κs = search needs
+
+returns-3 : tie.Need-returns-3
+returns-3 c =
+    let m = c .before in
+    let w = m .before .before in
+    let e = w .before in
+    let r = e .before .before in
+    meets r (some (c .point-from2 .result))
+    (from-next (t r .args .axis) (v r) (here r) (there r) (here-fits r) (there-fits r) (voxelOf (w .coordinates-of2 .result)) (m .before .magnitude3 .result)
+    (m .magnitude4 .result) (c .point-from2 .result) (w .coordinates-of2 .ensures .0 ∙ j-next (k r)) (e .before .if1 .left) (e .if3 .taken)
+    (m .before .magnitude3 .ensures .0) (m .magnitude4 .ensures .0) (c .point-from2 .ensures))
+
+returns-4 : tie.Need-returns-4
+returns-4 c =
+    let r = c .before .before in
+    meets r none (neither (t r .args .axis) (v r) (here r) (there r) (here-fits r) (there-fits r) false (c .before .if1 .left) (c .if3 .left))
 
 pub crossing-at-spec : {M : Type 1} → statement M
 crossing-at-spec =
     tie.close
     (tie.spec
-    coordinates-of-requires
-    next-requires
-    index-of-requires
+    stride-requires
+    add-j
     mul-here
     shared-slice-copy-out-here
     mul-there
     shared-slice-copy-out-there
-    crossing-between-requires
-    returns)
+    returns
+    coordinates-of-requires
+    magnitude-requires
+    magnitude-requires-2
+    point-from-requires
+    returns-2
+    coordinates-of-requires-2
+    magnitude-requires-3
+    magnitude-requires-4
+    point-from-requires-2
+    returns-3
+    returns-4)

@@ -1,4 +1,4 @@
--- `surface::point_from` meets its contract. Assumes nothing.
+-- `surface::point_from` meets its contract.
 use borrow.Author.Needs.{needs}
 use Rattle.surface.proofs.Axis.{point-x, point-y, point-z}
 use Rattle.surface.specs.Coordinates.{voxelOf}
@@ -21,7 +21,8 @@ returns : tie.Need-returns
 returns c =
     let w = c .before .before in
     let a = w .before .before .before .args in
-    point-x (a .axis) (a .higher) (voxelOf (a .v)) (a .p) (a .q) _ (c .before .if1 .taken) (c .moved .ensures) (w .before .whole2 .ensures) (w .whole3 .ensures)
+    point-x (a .axis) (a .higher) (voxelOf (a .v)) (a .p) (a .q) _ (c .before .if1 .taken)
+    (c .moved .ensures) (w .before .whole2 .ensures) (w .whole3 .ensures)
 
 moved-requires-2 : tie.Need-moved-requires-2
 moved-requires-2 c κs = search needs
@@ -30,7 +31,8 @@ returns-2 : tie.Need-returns-2
 returns-2 c =
     let w = c .before .before .before in
     let a = w .before .before .before .args in
-    point-y (a .axis) (a .higher) (voxelOf (a .v)) (a .p) (a .q) _ (c .before .if2 .taken) (w .before .before .whole .ensures) (c .moved2 .ensures) (w .whole3 .ensures)
+    point-y (a .axis) (a .higher) (voxelOf (a .v)) (a .p) (a .q) _ (c .before .if2 .taken)
+    (w .before .before .whole .ensures) (c .moved2 .ensures) (w .whole3 .ensures)
 
 moved-requires-3 : tie.Need-moved-requires-3
 moved-requires-3 c κs = search needs

@@ -1,4 +1,4 @@
--- `surface::whole` meets its contract: a number of 64 at most is exact as a double. Assumes nothing.
+-- `surface::whole` meets its contract: a number of 64 at most is exact as a double.
 use borrow.Author.Needs.{needs}
 use native.Mathlib.Nat.{le-trans}
 use lib.Dec.{le→leb, lit≤}

@@ -1,8 +1,8 @@
--- `surface_case::is_point` meets its contract. Assumes nothing.
+-- `surface_case::is_point` meets its contract.
 use borrow.Author.Needs.{needs}
 use mathlib.Core.Path.{sym, ap}
-use Rattle.rules.specs.declared.Crossing.{Crossing}
-use Rattle.rules.specs.Answer.{crossingAnswer}
+use Rattle.surface.specs.declared.Crossed.{Crossed}
+use Rattle.surface.specs.Surface.{crossedAnswer}
 use Rattle.surface_case.specs.Points.{isPoint}
 use Rattle.surface_case.proofs.is_point.Statement.{statement}
 use Rattle.surface_case.proofs.is_point.Tie as tie
@@ -20,7 +20,7 @@ returns : tie.Need-returns
 returns c =
     let k = c .before .before .before .before in
     let a = k .before .before .args in
-    ap (λ (o : Crossing). isPoint (a .x) (a .y) (a .z) (crossingAnswer o)) (sym (k .c .given .1))
+    ap (λ (o : Crossed). isPoint (a .x) (a .y) (a .z) (crossedAnswer o)) (sym (k .c .given .1))
 
 returns-2 : tie.Need-returns-2
 returns-2 c = search needs

@@ -1,26 +1,18 @@
--- `surface_case::main` meets its contract: each point follows from the rule by computation. Assumes nothing.
+-- `surface_case::main` meets its contract: each point follows from the rule by computation.
 use borrow.Author.Needs.{needs}
 use mathlib.Core.Path.{ap, _∙_}
 use mathlib.Core.Option.{Option}
 use Prim.Native.Nat.{ℕ}
-use lib.Ieee.{Float, binary64, add, sub, div, ofInt, ofBits, eq}
-use Rattle.cells.specs.Groups.{any}
-use Rattle.rules.specs.declared.Point.{Point}
-use Rattle.rules.specs.Grid.{fitSides, size, index, voxel, from, voxels, onBorder}
-use Rattle.rules.specs.Answer.{Outcome, unless}
-use Rattle.rules.specs.Machine.{isKept, isInside, unfitCounts, unfitStatus, unfit, wrongLength}
-use Rattle.rules.specs.Surface.{share, moved, pointFrom, crossingOf, crossingAt, noNext, crossing}
+use lib.Ieee.{Float, binary64, ofBits, eq}
+use Rattle.rules.specs.Answer.{Outcome, Buffers}
+use Rattle.surface.specs.declared.Point.{Point}
+use Rattle.surface.proofs.Worked.{rule}
 use Rattle.surface_case.specs.Points.{isPoint}
 use Rattle.surface_case.proofs.main.Statement.{statement}
 use Rattle.surface_case.proofs.main.Tie as tie
 
 abbrev double : ℕ → Float
 double bits = ofBits binary64 bits
-
--- what the rule computes with
-unfoldable rule : Unit {0}
-unfolding any fitSides size index voxel from voxels onBorder unless isKept isInside unfitCounts unfitStatus unfit wrongLength share moved pointFrom crossingOf crossingAt noNext crossing add sub div ofInt ofBits eq
-rule = tt
 
 array-set-of-dist : tie.Need-array-set-of-dist
 array-set-of-dist c = search needs
@@ -41,8 +33,11 @@ is-point-requires : tie.Need-is-point-requires
 is-point-requires c κs = search needs
 
 expect-requires : tie.Need-expect-requires
-unfolding rule
-expect-requires c κs = c .is-point .ensures ∙ ap (λ (o : Outcome (Option Point)). isPoint (double 4609434218613702656) (double 4607182418800017408) (double 4607182418800017408) (o .answer)) (c .before .crossing .ensures .0)
+unfolding rule ofBits eq
+expect-requires c κs =
+    c .is-point .ensures
+    ∙ ap (λ (o : Outcome Buffers (Option Point)). isPoint (double 4609434218613702656) (double 4607182418800017408) (double 4607182418800017408) (o .answer))
+    (c .before .crossing .ensures .0)
 
 slice-aggregate-crossing-3 : tie.Need-slice-aggregate-crossing-3
 slice-aggregate-crossing-3 c = search needs
@@ -57,8 +52,11 @@ is-point-requires-2 : tie.Need-is-point-requires-2
 is-point-requires-2 c κs = search needs
 
 expect-requires-2 : tie.Need-expect-requires-2
-unfolding rule
-expect-requires-2 c κs = c .is-point2 .ensures ∙ ap (λ (o : Outcome (Option Point)). isPoint (double 4607182418800017408) (double 4602678819172646912) (double 4607182418800017408) (o .answer)) (c .before .crossing2 .ensures .0)
+unfolding rule ofBits eq
+expect-requires-2 c κs =
+    c .is-point2 .ensures
+    ∙ ap (λ (o : Outcome Buffers (Option Point)). isPoint (double 4607182418800017408) (double 4602678819172646912) (double 4607182418800017408) (o .answer))
+    (c .before .crossing2 .ensures .0)
 
 array-set-of-dist-2 : tie.Need-array-set-of-dist-2
 array-set-of-dist-2 c = search needs
@@ -79,8 +77,11 @@ is-point-requires-3 : tie.Need-is-point-requires-3
 is-point-requires-3 c κs = search needs
 
 expect-requires-3 : tie.Need-expect-requires-3
-unfolding rule
-expect-requires-3 c κs = c .is-point3 .ensures ∙ ap (λ (o : Outcome (Option Point)). isPoint (double 4607182418800017408) (double 4607182418800017408) (double 4609434218614226944) (o .answer)) (c .before .crossing3 .ensures .0)
+unfolding rule ofBits eq
+expect-requires-3 c κs =
+    c .is-point3 .ensures
+    ∙ ap (λ (o : Outcome Buffers (Option Point)). isPoint (double 4607182418800017408) (double 4607182418800017408) (double 4609434218614226944) (o .answer))
+    (c .before .crossing3 .ensures .0)
 
 returns : tie.Need-returns
 returns c = search needs

@@ -1,0 +1,101 @@
+-- `widened`: a row without a voxel of S leaves the box, and any other takes its first and its last in.
+use mathlib.Core.Path.{_≡_, refl, sym, ap, subst}
+use Prim.Native.Nat.{ℕ, _+_, _*_, _≤_, _<_}
+use lib.ListN.{getD}
+use native.Mathlib.Omega.{arith}
+use Rattle.bounding_box.specs.Bounds.{clear, taken}
+use borrow.Author.Needs.{needs}
+use Rattle.bounding_box.proofs.widened.Statement.{statement}
+use Rattle.bounding_box.proofs.widened.Tie as tie
+
+mul-first : tie.Need-mul-first
+mul-first c = search needs
+
+add-end : tie.Need-add-end
+add-end c = search needs
+
+first-of-requires : tie.Need-first-of-requires
+first-of-requires c κs = search needs
+
+returns : tie.Need-returns
+returns c =
+    let z = c .before in
+    let a = z .before .before .before .before .args in
+    let none = z .first-of .ensures .none-before in
+    clear (λ k l h e. none k l (omega (arith, c .if1 .taken)) e) refl
+
+last-zero-requires : tie.Need-last-zero-requires
+last-zero-requires c κs = search needs
+
+rem-y : tie.Need-rem-y
+rem-y c = search needs
+
+div-z : tie.Need-div-z
+div-z c = search needs
+
+sub-lower : tie.Need-sub-lower
+sub-lower c = search needs
+
+lower-requires : tie.Need-lower-requires
+lower-requires c κs = search needs
+
+sub-higher : tie.Need-sub-higher
+sub-higher c = search needs
+
+higher-requires : tie.Need-higher-requires
+higher-requires c κs = search needs
+
+lower-requires-2 : tie.Need-lower-requires-2
+lower-requires-2 c κs = search needs
+
+higher-requires-2 : tie.Need-higher-requires-2
+higher-requires-2 c κs = search needs
+
+lower-requires-3 : tie.Need-lower-requires-3
+lower-requires-3 c κs = search needs
+
+higher-requires-3 : tie.Need-higher-requires-3
+higher-requires-3 c κs = search needs
+
+-- where the row's voxels of S have been found
+abbrev ends : tie.After-lower → tie.After-last-zero
+ends c = c .before .before .before
+
+returns-2 : tie.Need-returns-2
+returns-2 c =
+    let z1 = c .higher3 .ensures in
+    let y = c .before .before in
+    let x = y .before .before in
+    let q = ends (x .before) in
+    let p = q .before .before in
+    taken (p .first-of .result) (q .last-zero .result) (p .first-of .ensures) (omega (arith, p .first-of .ensures .high, q .before .if1 .left))
+    (q .last-zero .ensures)
+    (λ i. record {
+      x0 = x .before .lower .ensures i;
+      x1 = x .higher .ensures i;
+      y0 = y .before .lower2 .ensures i;
+      y1 = y .higher2 .ensures i;
+      z0 = c .before .lower3 .ensures i;
+      z1 = z1 i;
+    })
+
+pub widened-spec : {M : Type 1} → statement M
+widened-spec =
+    tie.close
+    (tie.spec
+    mul-first
+    add-end
+    first-of-requires
+    returns
+    last-zero-requires
+    rem-y
+    div-z
+    sub-lower
+    lower-requires
+    sub-higher
+    higher-requires
+    lower-requires-2
+    higher-requires-2
+    lower-requires-3
+    higher-requires-3
+    returns-2)

@@ -1,4 +1,0 @@
-pub mod Replies
-pub mod Numbers
-pub mod Structs
-pub mod Rows

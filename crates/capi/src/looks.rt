@@ -1,0 +1,92 @@
+// crossing, all points, read, reading a layer and the local test for C: none of them changes a grid.
+ghost use mathlib.Core.Path.{_≡_};
+ghost use mathlib.Core.Option.{Option};
+ghost use Rattle.cells.specs.Cells.{test};
+ghost use Rattle.bits.specs.Bits.{has};
+ghost use Rattle.rules.specs.Answer.{done, buffers};
+ghost use Rattle.rules.specs.Machine.{state};
+ghost use Rattle.surface.specs.declared.Point.{Point};
+ghost use Rattle.surface.specs.Surface.{crossing, BoundedAt};
+ghost use Rattle.points.specs.Listing.{points};
+ghost use Rattle.gridfile.specs.File.{read};
+ghost use Rattle.layers.specs.Layer.{readLayer};
+ghost use Rattle.replies.specs.Reply.{returned, writtenOut};
+ghost use Rattle.replies.specs.Structs.{recordIn};
+ghost use Rattle.look_replies.specs.Looks.{crossingStruct, pointsStruct, readStruct, layerStruct};
+ghost use Rattle.capi.specs.Local.{localTest};
+use look_replies::CrossingAnswer;
+use look_replies::LayerReply;
+use look_replies::PointsAnswer;
+use look_replies::ReadReply;
+use replies::CRecord;
+use rules::Sides;
+
+#[no_mangle]
+pub extern "C" fn wattlerugby_crossing(
+    given: CRecord,
+    dist: &[i32],
+    status: &[u8],
+    index: usize,
+    axis: u32,
+) -> CrossingAnswer
+    ensures answer { λ r. ⌜ returned r (buffers (now (dist .entry)) (now (status .entry)))
+        ≡ writtenOut crossingStruct (crossing index axis (state (recordIn given) (now (dist .entry)) (now (status .entry)))) ⌝ }
+    ensures near { λ r. ⌜ ((o : Option Point) → crossing index axis (state (recordIn given) (now (dist .entry)) (now (status .entry))) .answer ≡ done o
+        → BoundedAt (given .sides) (now (dist .entry)) index axis o) ⌝ }
+{
+    let r = replies::record_in(given);
+    look_replies::crossing_answer(surface::crossing(r, dist, status, index, axis))
+}
+
+#[no_mangle]
+pub extern "C" fn wattlerugby_points(
+    given: CRecord,
+    dist: &[i32],
+    status: &[u8],
+    position: usize,
+    out: &mut [f64],
+) -> PointsAnswer
+    ensures { λ r. ⌜ returned r (now (out .exit))
+        ≡ writtenOut pointsStruct (points position (state (recordIn given) (now (dist .entry)) (now (status .entry))) (now (out .entry))) ⌝ }
+{
+    let r = replies::record_in(given);
+    look_replies::points_answer(points::points(r, dist, status, position, out))
+}
+
+#[no_mangle]
+pub extern "C" fn wattlerugby_read(file: &[u8], values: &mut [i16]) -> ReadReply
+    ensures { λ r. ⌜ returned r (now (values .exit)) ≡ writtenOut readStruct (read (now (file .entry)) (now (values .entry))) ⌝ }
+{
+    look_replies::read_answer(gridfile::read(file, values))
+}
+
+#[no_mangle]
+pub extern "C" fn wattlerugby_read_layer(sides: Sides, file: &[u8], start: usize) -> LayerReply
+    ensures { λ r. ⌜ r ≡ layerStruct (readLayer sides (now (file .entry)) start) ⌝ }
+{
+    look_replies::layer_answer(layers::layer(sides, file, start))
+}
+
+#[repr(C)]
+pub struct LocalAnswer {
+    pub k: u32,
+    pub m: u32,
+    pub corners: u32,
+    pub edges: u32,
+    pub faces: u32,
+}
+
+// The kept voxels are the bits of one number.
+#[no_mangle]
+pub extern "C" fn wattlerugby_local_test(kept: u32) -> LocalAnswer
+    ensures { λ r. ⌜ localTest r ≡ test (has kept) ⌝ }
+{
+    let t = local_test::local_test_of(kept);
+    LocalAnswer {
+        k: t.k,
+        m: t.m,
+        corners: t.corners,
+        edges: t.edges,
+        faces: t.faces,
+    }
+}

@@ -1,0 +1,28 @@
+-- `carving::finish_fit` meets its contract.
+use borrow.Author.Needs.{needs}
+use mir.Facts.{toZ-ofZ}
+use mir.Syntax.{w32}
+use mir.Val.{SFits}
+use Rattle.rules.specs.Machine.{State, state}
+use Rattle.carving.proofs.Calls.{finished-is, same-record}
+use Rattle.carving.proofs.finish_fit.Statement.{statement}
+use Rattle.carving.proofs.finish_fit.Tie as tie
+
+abbrev lent-to : tie.Start → State
+lent-to c = state (c .args .given) (c .args .dist .now) (c .args .status .now)
+
+close-requires : tie.Need-close-requires
+close-requires c κs = search needs
+
+same-length : tie.Need-same-length
+same-length c = search needs
+
+returns : tie.Need-returns
+returns c =
+    let k = c .before .before .before in
+    let s = k .before .before .before in
+    let f : SFits w32 (s .args .given .euler) = record { sfits = c .struct-told .given .1 .1 .1 .1 .1 .0 .1 } in
+    finished-is (lent-to s) _ _ (s .pre .statuses) (k .close .ensures) (same-record (s .args .given) _ (toZ-ofZ f))
+
+pub finish-fit-spec : {M : Type 1} → statement M
+finish-fit-spec = tie.close (tie.spec close-requires same-length returns)

@@ -1,0 +1,4 @@
+pub mod Closed
+pub mod ClosedTally
+pub mod ClosedEnd
+pub mod EveryBlock

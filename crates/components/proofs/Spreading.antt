@@ -1,0 +1,46 @@
+-- A flood whose neighbours are given by offsets.
+use mathlib.Core.Path.{_≡_, ap, _∙_, subst}
+use mathlib.Core.Bool.{false}
+use mathlib.Core.List.{List}
+use Prim.Native.Nat.{ℕ, _+_, _-_, _≤_, _<_}
+use native.Mathlib.Omega.{arith}
+use lib.IntN.{pos}
+use lib.ListN.{length, getD}
+use Rattle.rules.specs.Grid.{isNegative}
+use Rattle.components.specs.Flood.{Fill, push, pushAll, shifted, nearBy, Pushable, Floodable, Flooded}
+use Rattle.components.proofs.Offsets.{near-mem, mem-near}
+use Rattle.components.proofs.Flooding.{State, start-state, turn-taken, turn-state, ended}
+
+module _ (offsets : List ℕ) (back : ℕ) (B : Fill) (seed : ℕ) where
+  -- from B, with the entries before `at` done
+  abbrev pub Spread : Fill → ℕ → Type 0
+  Spread f at = State (nearBy offsets back) (λ v. shifted (v - back) offsets) (near-mem offsets back) (mem-near offsets back) B seed f at
+
+  pub spread-start : Floodable offsets back B seed → Spread (push seed B) (B .end)
+  spread-start F = start-state _ _ _ _ B seed (F .ready) (F .seeded)
+
+  -- ---- a turn
+
+  module _ (F : Floodable offsets back B seed) (f : Fill) (at : ℕ) (T : Spread f at) (more : at < f .end) where
+    pub turn-in : at < length (f .work)
+    turn-in = let r = T .good .ready .room in omega arith
+
+    pub turn-entry : isNegative (getD (f .work) at (pos 0)) ≡ false
+    turn-entry = ap isNegative (T .good .listed at (T .from-start) more .1)
+
+    module _ (u : ℕ) (turn : getD (f .work) at (pos 0) ≡ pos u) where
+      pub turn-low : back ≤ u
+      turn-low = F .low u (turn-taken _ _ _ _ B seed f at T u more turn .was)
+
+      pub turn-pushable : Pushable offsets (u - back) f
+      turn-pushable =
+          record {
+            ready = T .good .ready;
+            inside = λ k h. let l = F .high u (turn-taken _ _ _ _ B seed f at T u more turn .was) k h in let n = T .good .len in omega arith;
+          }
+
+      pub spread-turn : Spread (pushAll (shifted (u - back) offsets) f) (at + 1)
+      spread-turn = turn-state _ _ _ _ B seed f at T u more turn
+
+  pub spread-ended : (f : Fill) (at : ℕ) → f .end ≤ at → Spread f at → Flooded (nearBy offsets back) B f seed
+  spread-ended f at h T = ended _ _ _ _ B seed f at h T

@@ -1,0 +1,120 @@
+-- `find`: labels, the search for the largest component, and its stretch of the work list.
+use mathlib.Core.Path.{_≡_, sym, _∙_, subst}
+use mathlib.Core.List.{List}
+use Prim.Native.Nat.{ℕ, _+_, _*_}
+use native.Mathlib.Omega.{arith}
+use native.Mathlib.Nat.{mul-le-mul}
+use lib.ListN.{length}
+use Rattle.rules.specs.Grid.{size}
+use Rattle.rules.proofs.Places.{fit}
+use Rattle.components.specs.Flood.{nearBy, touching, Searchable, Longest}
+use Rattle.components.proofs.Finding.{searchable, relabelled, relabels-found}
+use borrow.Author.Needs.{needs}
+use Rattle.components.proofs.find.Statement.{statement}
+use Rattle.components.proofs.find.Tie as tie
+
+labels-requires : tie.Need-labels-requires
+labels-requires c κs = search needs
+
+abbrev begun : tie.After-labels → tie.Start
+begun c = c .before .before .before
+
+abbrev labelled : tie.After-struct-known → tie.After-labels
+labelled c = c .before .before .before
+
+mul-ab : tie.Need-mul-ab
+mul-ab c = let s = begun (labelled c) in let F = fit (s .args .sides) (s .pre .fit) in omega (arith, mul-le-mul (F .a-high) (F .b-high))
+
+touching-requires : tie.Need-touching-requires
+touching-requires c κs = let s = begun (labelled c) in let F = fit (s .args .sides) (s .pre .fit) in (F .a-high, mul-le-mul (F .a-high) (F .b-high))
+
+add-back : tie.Need-add-back
+add-back c = let s = begun (labelled (c .before .before)) in let F = fit (s .args .sides) (s .pre .fit) in omega (arith, F .a-high)
+
+add-back-2 : tie.Need-add-back-2
+add-back-2 c =
+    let s = begun (labelled (c .before .before)) in let F = fit (s .args .sides) (s .pre .fit) in omega (arith, F .a-high, mul-le-mul (F .a-high) (F .b-high))
+
+slice-aggregate-largest : tie.Need-slice-aggregate-largest
+slice-aggregate-largest c = search needs
+
+abbrev offered : tie.After-offsets → tie.After-touching
+offered c = c .before .before .before .before
+
+largest-requires : tie.Need-largest-requires
+largest-requires c κs =
+    let t = offered c in
+    let e = labelled (t .before) in
+    let s = begun e in
+    let a = s .args in
+    subst (λ (o : List ℕ). Searchable o (1 + a .sides .a + a .sides .a * a .sides .b) (e .labels .last .0) (length (a .dist .now)))
+    (sym (t .touching .ensures))
+    (searchable (a .sides) (a .values .now) _ _ (s .pre) (e .labels .last .0) (e .labels .ensures) _ (s .pre .dist-len))
+
+clear-requires : tie.Need-clear-requires
+clear-requires c κs = search needs
+
+-- after the search
+longest : (c : tie.After-largest) → let t = offered (c .before) in let e = labelled (t .before) in let a = begun e .args in
+    Longest (nearBy (touching (a .sides .a) (a .sides .a * a .sides .b)) (1 + a .sides .a + a .sides .a * a .sides .b)) (e .labels .last .0)
+    (c .largest .last .1 .0)
+    (c .largest .result .first) (c .largest .result .end)
+longest c =
+    let t = offered (c .before) in
+    let e = labelled (t .before) in
+    let a = begun e .args in
+    subst (λ (o : List ℕ). Longest (nearBy o (1 + a .sides .a + a .sides .a * a .sides .b)) (e .labels .last .0) (c .largest .last .1 .0)
+    (c .largest .result .first) (c .largest .result .end)) (t .touching .ensures) (c .largest .ensures)
+
+abbrev searched : tie.After-clear → tie.After-largest
+searched c = c .before .before .before .before .before
+
+abbrev cleared : tie.After-relabel-arg2 → tie.After-clear
+cleared c = c .before .before .before .before
+
+-- the labels are as many as ever
+whole : (c : tie.After-largest) → let s = begun (labelled (offered (c .before) .before)) in length (c .largest .last .0) ≡ size (s .args .sides)
+whole c = let e = labelled (offered (c .before) .before) in c .largest .kept .0 ∙ e .labels .kept .0 ∙ begun e .pre .status-len
+
+relabel-requires : tie.Need-relabel-requires
+relabel-requires c κs =
+    let d = cleared c in
+    let r = searched d in
+    let e = labelled (offered (r .before) .before) in
+    let s = begun e in
+    relabelled (s .args .sides) (s .args .values .now) _ _ (s .pre) (e .labels .last .0) (e .labels .ensures) (r .largest .last .1 .0)
+    (r .largest .result .first) (r .largest .result .end) (longest r) _ (d .clear .ensures .len ∙ whole r)
+
+same-length : tie.Need-same-length
+same-length c = search needs
+
+same-length-2 : tie.Need-same-length-2
+same-length-2 c = search needs
+
+returns : tie.Need-returns
+returns c =
+    let n = c .before .before in
+    let d = cleared (n .before) in
+    let r = searched d in
+    let e = labelled (offered (r .before) .before) in
+    let s = begun e in
+    relabels-found (s .args .sides) (s .args .values .now) _ _ (s .pre) (e .labels .last .0) (e .labels .ensures) (r .largest .last .1 .0)
+    (r .largest .result .first) (r .largest .result .end) (longest r) (s .args .far) (r .largest .last .0) (d .clear .last .0) (n .relabel .last .0)
+    (whole r) (d .clear .ensures) (n .relabel .ensures)
+
+pub find-spec : {M : Type 1} → statement M
+find-spec =
+    tie.close
+    (tie.spec
+    labels-requires
+    mul-ab
+    touching-requires
+    add-back
+    add-back-2
+    slice-aggregate-largest
+    largest-requires
+    clear-requires
+    relabel-requires
+    same-length
+    same-length-2
+    returns)

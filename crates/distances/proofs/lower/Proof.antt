@@ -1,0 +1,98 @@
+-- `lower`: the first k voxels of the run are lowered.
+use Prim.Native.Nat.{ℕ, _+_, _-_, _≤_}
+use mathlib.Core.Path.{_≡_, subst}
+use native.Mathlib.Omega.{arith}
+use Rattle.distances.specs.Sweep.{Lowered}
+use Rattle.distances.proofs.Sweeping.{lowered-none, lowered-far, lowered-more}
+use borrow.Author.Needs.{needs}
+use Rattle.distances.proofs.lower.Statement.{statement}
+use Rattle.distances.proofs.lower.Tie as tie
+
+abbrev Inv-loop : tie.InvT-loop
+Inv-loop d₀ at from n k₀ d k = (k ≤ n) × Lowered at from k d₀ d
+
+abbrev μ-loop : tie.MeasureT-loop
+μ-loop d₀ at from n k₀ d k = n - k
+
+loop-holds : tie.Need-loop-holds Inv-loop μ-loop
+loop-holds c = (omega arith, lowered-none _ _ _)
+
+add-least : tie.Need-add-least Inv-loop μ-loop
+add-least c = search needs
+
+slice-read-least : tie.Need-slice-read-least Inv-loop μ-loop
+slice-read-least c = let l = c .before .before in omega (arith, c .before .loop-test .taken, l .before .before .pre .at-in, l .loop .inv .1 .len)
+
+add-least-2 : tie.Need-add-least-2 Inv-loop μ-loop
+add-least-2 c = search needs
+
+slice-read-least-2 : tie.Need-slice-read-least-2 Inv-loop μ-loop
+slice-read-least-2 c =
+    let l = c .before .before .before in omega (arith, c .before .before .loop-test .taken, l .before .before .pre .from-in, l .loop .inv .1 .len)
+
+add-least-3 : tie.Need-add-least-3 Inv-loop μ-loop
+add-least-3 c =
+    let t = c .before .before in
+    let l = t .before in
+    let s = l .before .before in
+    let a = s .args in
+    let f = lowered-far (a .d .now) (a .at) (a .from) (a .n) (s .pre) (l .loop .k) (t .loop-test .taken) (l .loop .d) (l .loop .inv .1) in
+    omega (arith, f, s .pre .small (a .from + l .loop .k))
+
+least-requires : tie.Need-least-requires Inv-loop μ-loop
+least-requires c κs = search needs
+
+add-d : tie.Need-add-d Inv-loop μ-loop
+add-d c = search needs
+
+slice-write-d : tie.Need-slice-write-d Inv-loop μ-loop
+slice-write-d c =
+    let t = c .before .before .before in let l = t .before in omega (arith, t .loop-test .taken, l .before .before .pre .at-in, l .loop .inv .1 .len)
+
+add-k : tie.Need-add-k Inv-loop μ-loop
+add-k c = search needs
+
+loop-less : tie.Need-loop-less Inv-loop μ-loop
+loop-less c = search needs
+
+loop-again : tie.Need-loop-again Inv-loop μ-loop
+loop-again c =
+    let t = c .before .before .before in
+    let l = t .before in
+    let s = l .before .before in
+    let a = s .args in (
+      omega (arith, t .loop-test .taken),
+      lowered-more (a .d .now) (a .at) (a .from) (a .n) (s .pre) (l .loop .k) (t .loop-test .taken) (l .loop .d) (l .loop .inv .1) (c .least .result)
+          (omega (arith, c .least .ensures)),
+    )
+
+same-length : tie.Need-same-length Inv-loop μ-loop
+same-length c = c .before .loop .inv .1 .len
+
+returns : tie.Need-returns Inv-loop μ-loop
+returns c =
+    let l = c .before in
+    let a = l .before .before .args in
+    let e : l .loop .k ≡ a .n = omega (arith, c .loop-test .left, l .loop .inv .0) in
+    subst (λ (k : ℕ). Lowered (a .at) (a .from) k (a .d .now) (l .loop .d)) e (l .loop .inv .1)
+
+pub lower-spec : {M : Type 1} → statement M
+lower-spec =
+    tie.close
+    (tie.spec
+    Inv-loop
+    μ-loop
+    loop-holds
+    add-least
+    slice-read-least
+    add-least-2
+    slice-read-least-2
+    add-least-3
+    least-requires
+    add-d
+    slice-write-d
+    add-k
+    loop-less
+    loop-again
+    same-length
+    returns)

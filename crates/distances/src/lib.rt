@@ -1,0 +1,120 @@
+// Taxicab distances to S by sweeps, up and down along each axis. One function with a stride and a direction serves them all.
+use rules::Sides;
+ghost use mathlib.Core.Path.{_≡_};
+ghost use mathlib.Core.Bool.{Bool};
+ghost use mathlib.Core.List.{List};
+ghost use Prim.Native.Nat.{ℕ, min};
+ghost use Rattle.distances.specs.Sweep.{positionOf, Lowered, Apart, Slab, Swept, Both, Whole, Axis, Positioned};
+ghost use Rattle.distances.specs.Work.{Seeded, Measured};
+
+// The lesser of two distances. The store that follows it has no branch, so that a run is done many voxels at a time.
+fn least(v: u8, w: u8) -> u8
+    ensures { λ r. ⌜ r ≡ min v w ⌝ }
+{
+    if w < v {
+        return w;
+    }
+    v
+}
+
+// A run of n voxels: each distance is at most 1 more than the one as far along the run at `from`.
+fn lower(d: &mut [u8], at: usize, from: usize, n: usize)
+    requires { ⌜ Apart (now d) at from n ⌝ }
+    ensures { λ _. ⌜ Lowered at from n (now (d .entry)) (now (d .exit)) ⌝ }
+{
+    let mut k = 0;
+    while k < n {
+        let v = least(d[at + k], d[from + k] + 1);
+        d[at + k] = v;
+        k += 1;
+    }
+}
+
+// The first voxel of the position that has turn t, of m positions from `at` on.
+fn position(at: usize, st: usize, m: usize, down: bool, t: usize) -> usize
+    requires { ⌜ Positioned at st m t ⌝ }
+    ensures { λ r. ⌜ r ≡ positionOf at st m down t ⌝ }
+{
+    if down {
+        return at + (m - 1 - t) * st;
+    }
+    at + t * st
+}
+
+// A row. The distance before is at hand: along a row each waits for the one before it.
+fn sweep_row(d: &mut [u8], at: usize, m: usize, down: bool)
+    requires { ⌜ Slab (now d) 1 m at ⌝ }
+    ensures { λ _. ⌜ Swept 1 m at down (now (d .entry)) (now (d .exit)) ⌝ }
+{
+    let first = position(at, 1, m, down, 0);
+    let mut last = d[first];
+    let mut t = 1;
+    while t < m {
+        let i = position(at, 1, m, down, t);
+        last = least(d[i], last + 1);
+        d[i] = last;
+        t += 1;
+    }
+}
+
+// A slab of m positions with st voxels at each, run by run.
+fn sweep_runs(d: &mut [u8], at: usize, st: usize, m: usize, down: bool)
+    requires { ⌜ Slab (now d) st m at ⌝ }
+    ensures { λ _. ⌜ Swept st m at down (now (d .entry)) (now (d .exit)) ⌝ }
+{
+    let mut from = position(at, st, m, down, 0);
+    let mut t = 1;
+    while t < m {
+        let i = position(at, st, m, down, t);
+        lower(d, i, from, st);
+        from = i;
+        t += 1;
+    }
+}
+
+// One way through a slab.
+fn sweep(d: &mut [u8], at: usize, st: usize, m: usize, down: bool)
+    requires { ⌜ Slab (now d) st m at ⌝ }
+    ensures { λ _. ⌜ Swept st m at down (now (d .entry)) (now (d .exit)) ⌝ }
+{
+    if st == 1 {
+        sweep_row(d, at, m, down);
+        return;
+    }
+    sweep_runs(d, at, st, m, down);
+}
+
+// Both ways through a slab.
+fn both(d: &mut [u8], at: usize, st: usize, m: usize)
+    requires { ⌜ Slab (now d) st m at ⌝ }
+    ensures { λ _. ⌜ Both st m at (now (d .entry)) (now (d .exit)) ⌝ }
+{
+    sweep(d, at, st, m, false);
+    sweep(d, at, st, m, true);
+}
+
+// Both ways along an axis.
+fn axis(d: &mut [u8], st: usize, m: usize)
+    requires { ⌜ Whole (now d) st m ⌝ }
+    ensures { λ _. ⌜ Axis st m (now (d .entry)) (now (d .exit)) ⌝ }
+{
+    let step = m * st;
+    let mut at = 0;
+    while at < d.len() {
+        both(d, at, st, m);
+        at += step;
+    }
+}
+
+// Puts the taxicab distance to S in place of 0 at S and a number beyond all distances elsewhere.
+pub fn measure(d: &mut [u8], sides: Sides)
+    requires { ⌜ ((S : List ℕ) × Seeded sides S (now d)) ⌝ }
+    ensures { λ _. ⌜ ((S : List ℕ) → Seeded sides S (now (d .entry)) → Measured sides S (now (d .exit))) ⌝ }
+{
+    let a = sides.a;
+    let b = sides.b;
+    let c = sides.c;
+    axis(d, 1, a);
+    axis(d, a, b);
+    axis(d, a * b, c);
+}

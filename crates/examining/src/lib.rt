@@ -1,0 +1,173 @@
+// Examinations over the index of pending voxels: one that passes is removed, and wakes those around it; one that fails rests.
+ghost use mathlib.Core.Path.{_≡_};
+ghost use mathlib.Core.Bool.{true};
+ghost use Prim.Native.Nat.{_<_};
+ghost use lib.ListN.{length};
+ghost use Rattle.cells.specs.Groups.{any};
+ghost use Rattle.rules.specs.Grid.{from};
+ghost use Rattle.rules.specs.Status.{statusOf, isPending, rested};
+ghost use Rattle.rules.specs.Machine.{outside};
+ghost use Rattle.waking.specs.Waking.{Only, AtBits, fromVoxel};
+ghost use Rattle.pending.specs.Index.{Index, Written};
+ghost use Rattle.examining.specs.Examining.{Workable, Callables, Roused, Gathered, Removed, Examinable, Examined, Run, Lending, Tallied};
+use pending::Choice;
+use rules::Sides;
+
+fn wake_one(dist: &[i32], status: &mut [u8], offsets: &mut [u8], tree: &mut [u64], j: usize)
+    requires { ⌜ Index (now dist) (now status) (now offsets) (now tree) × (j < length (now status)) ⌝ }
+    ensures { λ _. ⌜ Roused (Only (outside (now (dist .entry))) j) (now (dist .entry)) (now (status .entry)) (now (status .exit)) (now (offsets .exit)) (now (tree .exit)) ⌝ }
+{
+    let d = dist[j];
+    if d < 0 {
+        return;
+    }
+    pending::raise(dist, status, offsets, tree, j);
+}
+
+// Wakes the voxels at the positions of the set bits, from voxel at on.
+fn wake(
+    dist: &[i32],
+    status: &mut [u8],
+    offsets: &mut [u8],
+    tree: &mut [u64],
+    a: usize,
+    l: usize,
+    at: usize,
+    idle: u64,
+)
+    requires { ⌜ Callables (now dist) (now status) (now offsets) (now tree) a l at idle ⌝ }
+    ensures { λ _. ⌜ Roused (AtBits (outside (now (dist .entry))) idle (fromVoxel a l at)) (now (dist .entry)) (now (status .entry)) (now (status .exit)) (now (offsets .exit)) (now (tree .exit)) ⌝ }
+{
+    let mut m = idle;
+    while 0 < m {
+        let p = bits::lowest(m) / 2;
+        wake_one(dist, status, offsets, tree, at + waking::offset(a, l, p));
+        m = m & (m - 1);
+    }
+}
+
+// Voxel i is gone, and every kept voxel that touches it and may go is pending; code is its neighbourhood.
+fn remove(
+    s: Sides,
+    dist: &[i32],
+    status: &mut [u8],
+    offsets: &mut [u8],
+    tree: &mut [u64],
+    i: usize,
+    code: u64,
+)
+    requires { ⌜ Gathered s (now dist) (now status) (now offsets) (now tree) i code ⌝ }
+    ensures { λ _. ⌜ Removed s (now (dist .entry)) (now (status .entry)) (now (status .exit)) (now (offsets .exit)) (now (tree .exit)) i ⌝ }
+{
+    let at = neighbourhood::first_around(s, i);
+    let idle = waking::idle_bits(code);
+    pending::clear(dist, status, offsets, tree, i, 0);
+    wake(dist, status, offsets, tree, s.a, s.a * s.b, at, idle);
+}
+
+// Pending voxel i is pending no more.
+fn rest(dist: &[i32], status: &mut [u8], offsets: &mut [u8], tree: &mut [u64], i: usize)
+    requires { ⌜ Index (now dist) (now status) (now offsets) (now tree) × (isPending (now status) i ≡ true) ⌝ }
+    ensures { λ _. ⌜ Written (now (dist .entry)) (now (status .entry)) (now (status .exit)) (now (offsets .exit)) (now (tree .exit)) i (rested (statusOf (now (status .entry)) i)) ⌝ }
+{
+    let x = status[i];
+    pending::clear(dist, status, offsets, tree, i, x - 2);
+}
+
+// Examines pending voxel i: 1 where it was removed, 0 where it stays. One gathering serves the test and the waking.
+fn examine(
+    s: Sides,
+    dist: &[i32],
+    status: &mut [u8],
+    offsets: &mut [u8],
+    tree: &mut [u64],
+    i: usize,
+) -> u32
+    requires { ⌜ Examinable s (now dist) (now status) (now offsets) (now tree) i ⌝ }
+    ensures { λ r. ⌜ Examined s (now (dist .entry)) (now (status .entry)) (now (status .exit)) (now (offsets .exit)) (now (tree .exit)) i r ⌝ }
+{
+    let code = neighbourhood::gather(s, status, i);
+    if local_test::passes(neighbourhood::kept_bits(code)) {
+        remove(s, dist, status, offsets, tree, i, code);
+        return 1;
+    }
+    rest(dist, status, offsets, tree, i);
+    0
+}
+
+// How many voxels were examined, and how many of them removed.
+pub struct Count {
+    pub examined: u32,
+    pub removed: u32,
+}
+
+// Examines pending voxels, the farthest first, up to limit times.
+fn run(
+    s: Sides,
+    dist: &[i32],
+    status: &mut [u8],
+    offsets: &mut [u8],
+    tree: &mut [u64],
+    limit: u32,
+) -> Count
+    requires { ⌜ Index (now dist) (now status) (now offsets) (now tree) × Workable s (now status) ⌝ }
+    ensures { λ r. ⌜ Run s (now (dist .entry)) limit (now (status .entry)) (now (status .exit)) (now (offsets .exit)) (now (tree .exit)) r ⌝ }
+{
+    let mut examined: u32 = 0;
+    let mut removed: u32 = 0;
+    while examined < limit {
+        let next = pending::best(dist, status, offsets, tree);
+        let Choice::At(i) = next else {
+            return Count {
+                examined: examined,
+                removed: removed,
+            };
+        };
+        removed += examine(s, dist, status, offsets, tree, i);
+        examined += 1;
+    }
+    Count {
+        examined: examined,
+        removed: removed,
+    }
+}
+
+fn any_pending(dist: &[i32], status: &[u8], offsets: &[u8], tree: &[u64]) -> bool
+    requires { ⌜ Index (now dist) (now status) (now offsets) (now tree) ⌝ }
+    ensures { λ r. ⌜ r ≡ any (isPending (now (status .entry))) (from 0 (length (now (status .entry)))) ⌝ }
+{
+    let next = pending::best(dist, status, offsets, tree);
+    match next {
+        Choice::Nothing => false,
+        Choice::At(_) => true,
+    }
+}
+
+// The same, and whether any voxel is still pending.
+pub struct Tally {
+    pub examined: u32,
+    pub removed: u32,
+    pub pending: bool,
+}
+
+// Examines up to limit times, over an index that is made for it in the lent offsets and tree.
+pub fn carve(
+    s: Sides,
+    dist: &[i32],
+    status: &mut [u8],
+    offsets: &mut [u8],
+    tree: &mut [u64],
+    limit: u32,
+) -> Tally
+    requires { ⌜ Lending s (now dist) (now status) (now offsets) (now tree) ⌝ }
+    ensures { λ r. ⌜ Tallied s (now (dist .entry)) limit (now (status .entry)) (now (status .exit)) r ⌝ }
+{
+    pending::build(dist, status, offsets, tree);
+    let c = run(s, dist, status, offsets, tree, limit);
+    let left = any_pending(dist, status, offsets, tree);
+    Tally {
+        examined: c.examined,
+        removed: c.removed,
+        pending: left,
+    }
+}

@@ -1,0 +1,42 @@
+-- The worked files, by computation.
+use mathlib.Core.Path.{refl}
+use Rattle.prelude.specs.Lists.{any, from}
+use Rattle.rules.specs.Grid.{fitSides, size}
+use Rattle.rules.specs.Checks.{unless}
+use Rattle.rules.specs.Begin.{isIn}
+use Rattle.words.specs.Words.{signed, valueOf, valuesOf}
+use Rattle.layers.specs.Layer.{withLayer}
+use Rattle.gridfile.specs.File.{fitUpTo, layersChecks, layersFilled, readUpTo, read}
+use Rattle.gridfile.specs.Examples.{Examples}
+
+pub examples : Examples
+unfolding any from fitSides size unless isIn signed valueOf valuesOf withLayer fitUpTo layersChecks layersFilled readUpTo read
+examples =
+    record {
+      grid = refl;
+      turned = refl;
+      case-d = refl;
+      short-header = refl;
+      wrong-header = refl;
+      small-side = refl;
+      large-side = refl;
+      wrong-buffer = refl;
+      short-record = refl;
+      no-record = refl;
+      wrong-record = refl;
+      no-such-layer = refl;
+      came-before = refl;
+      bytes-after = refl;
+      over-in-a = refl;
+      over-in-b = refl;
+      over-in-c = refl;
+      not-over = refl;
+      up-to-64 = refl;
+      short-before-tag = refl;
+      tag-before-sides = refl;
+      sides-before-buffer = refl;
+      buffer-before-records = refl;
+      layer-before-next = refl;
+      repeat-before-next = refl;
+      repeat-before-end = refl;
+    }

@@ -1,0 +1,49 @@
+-- `gridfile::refusal` meets its contract.
+use mathlib.Core.Path.{refl, ap, sym, _∙_}
+use mathlib.Core.List.{[]}
+use borrow.Author.Needs.{needs}
+use borrow.Author.Tests.{ltb-false}
+use Rattle.rules.specs.declared.Sides.{Sides}
+use Rattle.rules.specs.Grid.{fitSides}
+use Rattle.rules.specs.Checks.{firstFailing, AllHold}
+use Rattle.rules.proofs.Checks.{all-hold, refused-first, held-first}
+use Rattle.gridfile.specs.File.{headerLength, headerChecks, layersChecks}
+use Rattle.gridfile.proofs.Headers.{header-fits}
+use Rattle.gridfile.proofs.refusal.Statement.{statement}
+use Rattle.gridfile.proofs.refusal.Tie as tie
+
+-- behind the branch
+held : (c : tie.Else1) → let a = c .before .before .before .args in AllHold (headerChecks (a .greatest) (a .file .now) (a .lent))
+held c = all-hold _ refl (sym (c .before .header-refusal .ensures) ∙ c .if1 .left)
+
+header-refusal-requires : tie.Need-header-refusal-requires
+header-refusal-requires c κs = search needs
+
+returns : tie.Need-returns
+returns c = refused-first _ _ _ (c .before .header-refusal .ensures) (c .if1 .taken)
+
+sides-in-requires : tie.Need-sides-in-requires
+sides-in-requires c κs = ltb-false _ _ (held c .0)
+
+layers-refusal-requires : tie.Need-layers-refusal-requires
+layers-refusal-requires c κs =
+    let a = c .before .before .before .before .args in
+    ap fitSides (c .sides-in .ensures) ∙ header-fits (a .greatest) (a .file .now) (a .lent) (held (c .before))
+
+returns-2 : tie.Need-returns-2
+returns-2 c =
+    let e = c .before .before in
+    let h = e .before in
+    let a = h .before .before .args in
+    held-first (headerChecks (a .greatest) (a .file .now) (a .lent)) _ _ (h .header-refusal .ensures) refl (e .if1 .left) _
+    (c .layers-refusal .ensures ∙ ap (λ (s : Sides). firstFailing (layersChecks s (a .file .now) (s .c) headerLength [])) (c .before .sides-in .ensures))
+
+pub refusal-spec : {M : Type 1} → statement M
+refusal-spec =
+    tie.close
+    (tie.spec
+    header-refusal-requires
+    returns
+    sides-in-requires
+    layers-refusal-requires
+    returns-2)

@@ -1,0 +1,99 @@
+-- Document 01, "The grid file": the header, the layer records one after the other, and read.
+use mathlib.Core.Path.{_≡_}
+use mathlib.Core.Bool.{Bool, true, not, _&&_}
+use mathlib.Core.List.{List, [], _∷_, _++_}
+use Prim.Native.Nat.{ℕ, zero, suc, _+_, _≤_}
+use lib.Dec.{leb, ltb, eqb}
+use lib.ListN.{length}
+use lib.IntN.{ℤ}
+use Rattle.rules.specs.declared.Sides.{Sides}
+use Rattle.rules.specs.Grid.{fitSides, size}
+use Rattle.rules.specs.Checks.{Check, _when_, unless, AllHold}
+use Rattle.rules.specs.Answer.{Reply, refused, done, Outcome, outcome, untouched}
+use Rattle.rules.specs.Begin.{isIn}
+use Rattle.words.specs.Words.{byteAt, word, tagged}
+use Rattle.layers.specs.Layer.{layerLength, zAt, layerChecks, layerAt, withLayer}
+use Rattle.gridfile.specs.declared.ReadAnswer.{ReadAnswer}
+
+-- ---- the header: hex 56 48, three side bytes, T in two bytes
+
+abbrev pub headerLength : ℕ
+headerLength = 7
+
+abbrev pub sidesIn : List ℕ → Sides
+sidesIn file = record { a = byteAt file 2; b = byteAt file 3; c = byteAt file 4 }
+
+abbrev pub allowedIn : List ℕ → ℕ
+allowedIn file = word 2 file 5
+
+-- no side over the greatest that the reader takes
+unfoldable pub fitUpTo : ℕ → Sides → Bool
+fitUpTo greatest s = fitSides s && (leb (s .a) greatest && (leb (s .b) greatest && leb (s .c) greatest))
+
+-- the lent buffer is of so many values
+abbrev pub headerChecks : ℕ → List ℕ → ℕ → List Check
+headerChecks greatest file lent =
+    21 when ltb (length file) headerLength
+    ∷ 22 when not (tagged 0x48 file 0)
+    ∷ 1 when not (fitUpTo greatest (sidesIn file))
+    ∷ 2 when not (eqb lent (size (sidesIn file)))
+    ∷ []
+
+-- ---- the layer records: each has its own checks before the next is looked at
+
+-- seen are the z that came before
+abbrev pub orderChecks : List ℕ → ℕ → List ℕ → List Check
+orderChecks file start seen = 24 when isIn seen (zAt file start) ∷ []
+
+abbrev pub recordChecks : Sides → List ℕ → ℕ → List ℕ → List Check
+recordChecks s file start seen = layerChecks s file start ++ orderChecks file start seen
+
+-- what follows the last record
+abbrev pub endChecks : List ℕ → ℕ → List Check
+endChecks file start = 25 when ltb start (length file) ∷ []
+
+-- as many records as are left, from a byte of the file on
+unfoldable pub layersChecks : Sides → List ℕ → ℕ → ℕ → List ℕ → List Check
+layersChecks s file zero start seen = endChecks file start
+layersChecks s file (suc left) start seen =
+    recordChecks s file start seen ++ layersChecks s file left (start + layerLength s) (zAt file start ∷ seen)
+
+-- the values after them
+unfoldable pub layersFilled : Sides → List ℕ → ℕ → ℕ → List ℤ → List ℤ
+layersFilled s file zero start values = values
+layersFilled s file (suc left) start values =
+    layersFilled s file left (start + layerLength s) (withLayer s file values (layerAt s file start))
+
+-- ---- read
+
+abbrev pub readChecks : ℕ → List ℕ → ℕ → List Check
+readChecks greatest file lent =
+    let s = sidesIn file in headerChecks greatest file lent ++ layersChecks s file (s .c) headerLength []
+
+-- what holds where none of them fails
+pub record Accepted (s : Sides) (file : List ℕ) (lent : ℕ) : Type 0 where
+  pub whole : headerLength ≤ length file
+  pub fits : fitSides s ≡ true
+  pub long : lent ≡ size s
+  pub layers : AllHold (layersChecks s file (s .c) headerLength [])
+
+-- read answers sides and T, and fills the value buffer
+pub record Header : Type 0 where
+  pub sides : Sides
+  pub allowed : ℕ
+
+abbrev pub readAnswer : ReadAnswer → Reply Header
+readAnswer (ReadAnswer.Grid s T) = done (record { sides = s; allowed = T })
+readAnswer (ReadAnswer.Refused n) = refused n
+
+abbrev pub accepted : List ℕ → List ℤ → Outcome (List ℤ) Header
+accepted file lent =
+    let s = sidesIn file in
+    outcome (done (record { sides = s; allowed = allowedIn file })) (layersFilled s file (s .c) headerLength lent)
+
+-- read, for sides up to the greatest that the reader takes
+unfoldable pub readUpTo : ℕ → List ℕ → List ℤ → Outcome (List ℤ) Header
+readUpTo greatest file lent = unless (readChecks greatest file (length lent)) (untouched lent) (accepted file lent)
+
+unfoldable pub read : List ℕ → List ℤ → Outcome (List ℤ) Header
+read file lent = readUpTo 64 file lent

@@ -1,0 +1,5 @@
+pub mod Greatest
+pub mod Loading
+pub mod Crossing
+pub mod Ranks
+pub mod Scanning

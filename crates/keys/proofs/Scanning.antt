@@ -1,0 +1,182 @@
+-- The greatest key of a stretch, found bit by bit in the order of index: among equal ranks the first met is kept.
+use mathlib.Core.Path.{_≡_, refl, sym, ap, _∙_, subst}
+use mathlib.Core.Bool.{Bool, true, false, cond}
+use mathlib.Core.List.{List}
+use Prim.Native.Nat.{ℕ, _+_, _-_, _*_, _/_, _%_, _^_, _≤_, _<_, max}
+use native.Mathlib.Nat.{zero-div}
+use native.Mathlib.Omega.{arith}
+use native.Mathlib.Decide.{ℕ-discrete, decLt}
+use borrow.Author.Tests.{lt-ltb, le-ltb}
+use borrow.Rule.Slice.PartAt.{part-to-end}
+use lib.Dec.{eqb, ltb}
+use lib.IntN.{ℤ, pos}
+use lib.ListN.{length, take, drop, length-drop}
+use lib.Seq.{getD-drop}
+use lib.Bits.{bitAnd}
+use Rattle.prelude.proofs.Bools.{not-both}
+use Rattle.bits.specs.Bits.{has, bits}
+use Rattle.bits.proofs.Bits.{bits-lt, has-bits}
+use Rattle.rules.specs.Grid.{distanceAt}
+use Rattle.rules.specs.Status.{isPending}
+use Rattle.bits.specs.Lowest.{Lowest}
+use Rattle.keys.specs.Key.{most, Lent, rankOf, keyOf, keyAt, greatest, width, stretchKey, bitKey, Readable}
+use Rattle.keys.proofs.Greatest.{greatest-none, greatest-lift, greatest-moved}
+use Rattle.keys.proofs.Loading.{has-past}
+use Rattle.keys.proofs.Ranks.{rank-some, past-pending, key-by}
+
+has-none : (t : ℕ) → has 0 t ≡ false
+unfolding has
+has-none t = ap (λ (x : ℕ). eqb (x % 2) 1) (zero-div (2 ^ t))
+
+-- of two keys the greater is that of the greater rank, and of equal ranks that of the index met first
+leading-key :
+    (g b r t at h i : ℕ) → at + t < most → 0 < r → (0 < g → b < t) → h ≡ max g r → i ≡ cond (ltb g r) t b
+    → max (keyOf g (at + b)) (keyOf r (at + t)) ≡ keyOf h (at + i)
+leading-key g b r t at h i u p l e q = go (decLt g r)
+  where
+    go : Dec (g < r) → max (keyOf g (at + b)) (keyOf r (at + t)) ≡ keyOf h (at + i)
+    go (yes s) =
+        let j : i ≡ t = q ∙ ap (λ (x : Bool). cond x t b) (lt-ltb g r s) in
+        let k : h ≡ r = omega arith in
+        let m : max (keyOf g (at + b)) (keyOf r (at + t)) ≡ keyOf r (at + t) = omega arith in
+        m ∙ ap (λ (x : ℕ). keyOf x (at + t)) (sym k) ∙ ap (λ (x : ℕ). keyOf h (at + x)) (sym j)
+    go (no s) =
+        let j : i ≡ b = q ∙ ap (λ (x : Bool). cond x t b) (le-ltb g r (omega arith)) in
+        let k : h ≡ g = omega arith in
+        let f : b < t = l (omega arith) in
+        let m : max (keyOf g (at + b)) (keyOf r (at + t)) ≡ keyOf g (at + b) = omega arith in
+        m ∙ ap (λ (x : ℕ). keyOf x (at + b)) (sym k) ∙ ap (λ (x : ℕ). keyOf h (at + x)) (sym j)
+
+-- a key is taken from those that are left
+taken-over : (k r n x y t : ℕ) → max k x ≡ t → x ≡ max y r → max k r ≡ n → max n y ≡ t
+taken-over k r n x y t e f g = omega arith
+
+greater-small : (g r h : ℕ) → g ≤ 4294967296 → r ≤ 4294967296 → h ≡ max g r → h ≤ 4294967296
+greater-small g r h a b e = omega arith
+
+module _ (dist : List ℤ) (at set : ℕ) where
+  -- the greatest rank so far and its bit, and the bits that are left, all above it
+  pub record Scanning (g b m : ℕ) : Type 0 where
+    pub few : at + length dist ≤ most
+    pub small : g ≤ 4294967296
+    pub inside : b < length dist
+    pub left : (t : ℕ) → t < width → has m t ≡ true → t < length dist
+    pub above : (t : ℕ) → has m t ≡ true → 0 < g → b < t
+    pub total : max (keyOf g (at + b)) (greatest (bitKey dist at m) 0 width) ≡ greatest (bitKey dist at set) 0 width
+
+  pub scanning-start : Readable dist at set → Scanning 0 0 set
+  scanning-start R =
+      record {
+        few = R .few;
+        small = omega arith;
+        inside = R .some;
+        left = R .each;
+        above = λ t e l. let z : ⊥ = omega arith in absurd z;
+        total = omega arith;
+      }
+
+  bit-key : (m t : ℕ) (b : Bool) → has m t ≡ b → bitKey dist at m t ≡ cond b (keyOf (rankOf (distanceAt dist t)) (at + t)) 0
+  bit-key m t b e = ap (λ (b : Bool). cond b (keyOf (rankOf (distanceAt dist t)) (at + t)) 0) e
+
+  -- a bit that is left was there before, and is not the one that was taken
+  module _ (g b m t r h i : ℕ) (S : Scanning g b m) (L : Lowest m t) where
+    was : (c : ℕ) → has (bitAnd m (m - 1)) c ≡ true → (has m c ≡ true) × (t < c)
+    was c e = go (decLt t c)
+      where
+        old : (c ≡ t → ⊥) → has m c ≡ true
+        old n = sym (L .others c n) ∙ e
+
+        go : Dec (t < c) → (has m c ≡ true) × (t < c)
+        go (yes l) = (old (λ q. omega arith), l)
+        go (no l) =
+            elim (ℕ-discrete c t) [
+              | yes q ↦ not-both (has (bitAnd m (m - 1)) c) e (ap (has (bitAnd m (m - 1))) q ∙ L .gone)
+              | no q ↦ (let z = L .least c (old q) in let b : ⊥ = omega arith in absurd b)
+            ]
+
+    pub scanning-step :
+        r ≡ rankOf (distanceAt dist t) → r ≤ 4294967296 → i ≡ cond (ltb g r) t b → h ≡ max g r → Scanning h i (bitAnd m (m - 1))
+    scanning-step e f q k =
+        let few = S .few in
+        let here = S .left t (L .below) (L .here) in
+        let p : 0 < r = subst (λ (x : ℕ). 0 < x) (sym e) (rank-some (distanceAt dist t)) in
+        let own : bitKey dist at m t ≡ keyOf r (at + t) = bit-key m t true (L .here) ∙ ap (λ (x : ℕ). keyOf x (at + t)) (sym e) in
+        let one = leading-key g b r t at h i (omega arith) p (S .above t (L .here)) k q in
+        let x = greatest-lift (bitKey dist at (bitAnd m (m - 1))) (bitKey dist at m) 0 width t (omega arith) (omega (arith, L .below))
+        (bit-key (bitAnd m (m - 1)) t false (L .gone)) (λ c n. bit-key (bitAnd m (m - 1)) c (has m c) (L .others c n)) in
+        record {
+          few = few;
+          small = greater-small g r h (S .small) f k;
+          inside = chosen (decLt g r);
+          left = λ c v u. S .left c v (was c u .0);
+          above = λ c u l. later c (was c u .1) (decLt g r);
+          total = taken-over (keyOf g (at + b)) (keyOf r (at + t)) _ _ _ _ (S .total) (x ∙ ap (max _) own) one;
+        }
+      where
+        chosen : Dec (g < r) → i < length dist
+        chosen (yes s) = let j : i ≡ t = q ∙ ap (λ (x : Bool). cond x t b) (lt-ltb g r s) in omega (arith, S .left t (L .below) (L .here))
+        chosen (no s) = let j : i ≡ b = q ∙ ap (λ (x : Bool). cond x t b) (le-ltb g r (omega arith)) in omega (arith, S .inside)
+
+        later : (c : ℕ) → t < c → Dec (g < r) → i < c
+        later c l (yes s) = let j : i ≡ t = q ∙ ap (λ (x : Bool). cond x t b) (lt-ltb g r s) in omega arith
+        later c l (no s) =
+            let j : i ≡ b = q ∙ ap (λ (x : Bool). cond x t b) (le-ltb g r (omega arith)) in
+            let p : 0 < r = subst (λ (x : ℕ). 0 < x) (sym e) (rank-some (distanceAt dist t)) in
+            omega (arith, S .above t (L .here) (omega arith))
+
+  pub scanning-done : (g b m k : ℕ) → m ≡ 0 → k ≡ keyOf g (at + b) → Scanning g b m → k ≡ greatest (bitKey dist at set) 0 width
+  scanning-done g b m k e q S =
+      let z = greatest-none (bitKey dist at m) 0 width (λ t l. bit-key m t false (ap (λ (x : ℕ). has x t) e ∙ has-none t)) in
+      omega (arith, S .total)
+
+-- ---- the bits of a stretch
+
+-- those up to the last voxel are all that a shorter stretch has
+pub shown-rest :
+    (status : List ℕ) (at set : ℕ) → at ≤ length status → length status < at + width
+    → set ≡ bits (length status - at) (λ c. isPending status (at + c)) → (t : ℕ) → has set t ≡ isPending status (at + t)
+shown-rest status at set l u e t = ap (λ (x : ℕ). has x t) e ∙ go (decLt t (length status - at))
+  where
+    go : Dec (t < length status - at) → has (bits (length status - at) (λ c. isPending status (at + c))) t ≡ isPending status (at + t)
+    go (yes h) = has-bits (length status - at) (λ c. isPending status (at + c)) t h
+    go (no h) =
+        has-past _ _ t (bits-lt (length status - at) (λ c. isPending status (at + c))) (omega arith)
+        ∙ sym (past-pending status (at + t) (omega arith))
+
+-- the distances from voxel at on
+abbrev onward : ℕ → List ℤ → List ℤ
+onward at dist = take (length dist - at) (drop at dist)
+
+module _ (dist : List ℤ) (status : List ℕ) (at set : ℕ) (lent : Lent dist status)
+    (shown : (t : ℕ) → t < width → has set t ≡ isPending status (at + t))
+  where
+    pub shown-readable : at < length status → Readable (onward at dist) at set
+    shown-readable h =
+        let same = lent .same in
+        let few = lent .few in
+        let left : length (onward at dist) ≡ length dist - at = ap length (part-to-end dist at) ∙ length-drop at dist in
+        record {
+          few = omega arith;
+          some = omega arith;
+          each = λ t l e. (
+              elim (decLt (at + t) (length status)) [
+                | yes u ↦ omega arith
+                | no u ↦ not-both (isPending status (at + t)) (sym (shown t l) ∙ e) (past-pending status (at + t) (omega arith))
+              ]
+              );
+        }
+
+    shown-key : (t : ℕ) → t < width → bitKey (onward at dist) at set t ≡ keyAt dist status (at + t)
+    shown-key t l =
+        ap (λ (b : Bool). cond b (keyOf (rankOf (distanceAt (onward at dist) t)) (at + t)) 0) (shown t l)
+        ∙ ap (λ (d : ℤ). cond (isPending status (at + t)) (keyOf (rankOf d) (at + t)) 0)
+        (ap (λ (ds : List ℤ). distanceAt ds t) (part-to-end dist at) ∙ getD-drop at dist t (pos 0))
+        ∙ sym (key-by dist status (at + t) (isPending status (at + t)) refl)
+
+    -- give its greatest key
+    pub shown-greatest : (k : ℕ) → at ≡ width * k → greatest (bitKey (onward at dist) at set) 0 width ≡ stretchKey (keyAt dist status) k
+    unfolding stretchKey
+    shown-greatest k e =
+        let z : at + 0 ≡ width * k = omega arith in
+        greatest-moved (bitKey (onward at dist) at set) (keyAt dist status) at 0 width (λ t l u. shown-key t (omega arith))
+        ∙ ap (λ (x : ℕ). greatest (keyAt dist status) x width) z

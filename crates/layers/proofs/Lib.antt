@@ -1,0 +1,4 @@
+pub mod Sizes
+pub mod Reading
+pub mod Filling
+pub mod Examples

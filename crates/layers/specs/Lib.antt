@@ -1,0 +1,3 @@
+pub mod Layer
+pub mod Part
+pub mod Examples

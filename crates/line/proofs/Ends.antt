@@ -1,0 +1,185 @@
+-- Every carve of the program empties the pending set, no call of it is refused as unfit, and the rounds go on until open has nothing left.
+use mathlib.Core.Path.{_≡_, refl, ap, sym, _∙_, subst}
+use mathlib.Core.Logic.{_⊎_, inl, inr}
+use mathlib.Core.Bool.{Bool, true, false, not, cond, true≢false}
+use mathlib.Core.List.{List, [], _∷_, _++_}
+use Prim.Native.Nat.{ℕ, zero, suc, _+_, _*_, _≤_}
+use native.Mathlib.Omega.{arith}
+use lib.Dec.{eqb}
+use lib.IntN.{ℤ}
+use Rattle.prelude.proofs.Bools.{not-false}
+use Rattle.rules.specs.declared.Sides.{Sides}
+use Rattle.rules.specs.declared.Record.{Record}
+use Rattle.rules.specs.Grid.{fitSides, size}
+use Rattle.rules.specs.Checks.{Check, _when_, unless, AllHold}
+use Rattle.rules.specs.Answer.{refused, done, Outcome, untouched, Buffers, buffers, Opening}
+use Rattle.rules.specs.Begin.{beginChecks, newRecord, begun, begin}
+use Rattle.rules.specs.Status.{anyPending}
+use Rattle.rules.specs.Machine.{State, state, lentTo, stateChecks, workingChecks, quietChecks, openingChecks, finishChecks}
+use Rattle.rules.specs.Machine.{carved, carve, toOpen, isNone, theVoxel, opened, openNext, asFinished, finishedOf, finish}
+use Rattle.rules.specs.Demand.{Call, carveUpTo, openOne, call, run}
+use Rattle.rules.proofs.Checks.{by-checks, append-hold, unless-held}
+use Rattle.rules.proofs.NeverUnfit.{never-unfit, carve-ends}
+use Rattle.layers.proofs.Sizes.{size-small}
+use Rattle.line.specs.Program.{noLimit, isRefused, afterCarve, afterOpen, opens, carveAndOpen, roundsLeft}
+use Rattle.line.specs.Ends.{rounds, CarvesToEmpty, Through, EveryCarveEmpties, RoundsGoThrough}
+use Rattle.line.proofs.Rounds.{carve-same, open-refused, open-done, round, round-used}
+
+-- a list of calls after another
+run-append : (cs ds : List Call) (g : State) → run (cs ++ ds) g .end ≡ run ds (run cs g .end) .end
+unfolding run
+run-append [] ds g = refl
+run-append (c ∷ cs) ds g = run-append cs ds (call c g .end)
+
+-- checks that hold do not matter
+unless-after : {R : Type 0} (refuse : ℕ → R) (work : R) (cs ds : List Check) → AllHold cs → unless (cs ++ ds) refuse work ≡ unless ds refuse work
+unfolding unless
+unless-after refuse work [] ds h = refl
+unless-after refuse work (c ∷ cs) ds h =
+    ap (λ (u : Bool). cond u (refuse (c .number)) (unless (cs ++ ds) refuse work)) (h .0) ∙ unless-after refuse work cs ds (h .1)
+
+-- what begin hands out is not finished, and has the sides that it was given
+module _ (s : Sides) (T : ℕ) (values dist : List ℤ) (status : List ℕ) (r : Record) (e : begin s T values dist status .answer ≡ done r) where
+  is-new : newRecord s T ≡ r
+  unfolding begin begun
+  is-new =
+      by-checks (untouched (buffers dist status)) (begun s T values) (λ o. o .answer ≡ done r → newRecord s T ≡ r) (beginChecks s values dist status)
+      (λ n f. let z : _≡_ {A = ℕ} 0 1 = cc in let y : ⊥ = omega arith in absurd y) (λ p f. cc) e
+
+  abbrev start : State
+  start = let b = begin s T values dist status in state r (b .lent .dist) (b .lent .status)
+
+  -- a state that calls lead to from there, unfinished
+  record Reached (g : State) : Type 0 where
+    calls : List Call
+    leads : run calls start .end ≡ g
+    sides : g .rec .sides ≡ s
+    unfinished : g .rec .finished ≡ false
+
+  reached-start : Reached start
+  reached-start =
+      record {
+        calls = [];
+        leads = unfold run in refl;
+        sides = ap (λ (r : Record). r .sides) (sym is-new);
+        unfinished = ap (λ (r : Record). r .finished) (sym is-new);
+      }
+
+  one-more : (c : Call) (g : State) → (x : Reached g) → run (x .calls ++ (c ∷ [])) start .end ≡ call c g .end
+  unfolding run
+  one-more c g x = run-append (x .calls) (c ∷ []) start ∙ ap (λ (h : State). call c h .end) (x .leads)
+
+  module _ (g : State) (x : Reached g) where
+    fit : AllHold (stateChecks g)
+    fit = subst (λ (h : State). AllHold (stateChecks h)) (x .leads) (never-unfit s T values dist status r e (x .calls))
+
+    working : AllHold (workingChecks g)
+    working = append-hold (stateChecks g) (8 when g .rec .finished ∷ []) fit (x .unfinished, tt)
+
+    reached-carve : Reached (afterCarve g)
+    reached-carve =
+        let c = carve-same g in
+        record {
+          calls = x .calls ++ (carveUpTo noLimit ∷ []);
+          leads = unfold afterCarve in unfold call in one-more (carveUpTo noLimit) g x;
+          sides = c .sides ∙ x .sides;
+          unfinished = c .finished ∙ x .unfinished;
+        }
+
+    reached-open : opens g ≡ true → Reached (afterOpen g)
+    reached-open f =
+        let o = open-done g f in
+        record {
+          calls = x .calls ++ (openOne ∷ []);
+          leads = unfold afterOpen in unfold call in one-more openOne g x;
+          sides = o .sides ∙ x .sides;
+          unfinished = o .finished ∙ x .unfinished;
+        }
+
+    -- more examinations are allowed than the grid can take
+    enough : 27 * size s ≤ noLimit
+    enough = omega (arith, size-small s (sym (ap fitSides (x .sides)) ∙ not-false _ (fit .0)))
+
+    abbrev Empties : State → Type 0
+    Empties h = (carve noLimit h ≡ carved noLimit h) × (anyPending s (carve noLimit h .lent .status) ≡ false)
+
+    empties : Empties g
+    empties =
+        subst (λ (h : State). h .rec .finished ≡ false → Empties h) (x .leads) (carve-ends s T values dist status r e (x .calls) noLimit enough)
+        (x .unfinished)
+
+    carves-to-empty : CarvesToEmpty g
+    unfolding afterCarve
+    carves-to-empty =
+        record { works = empties .0; empties = ap (λ (s : Sides). anyPending s (carve noLimit g .lent .status)) (x .sides) ∙ empties .1 }
+
+  -- ---- the end
+
+  module _ (g : State) (x : Reached g) (quiet : anyPending (g .rec .sides) (g .status) ≡ false) where
+    -- of open's checks, 14 and 15 are left
+    last-checks : openNext g ≡ unless (openingChecks g) (untouched (lentTo g)) (opened (theVoxel (toOpen g)) g)
+    unfolding openNext
+    last-checks =
+        unless-after (untouched (lentTo g)) (opened (theVoxel (toOpen g)) g) (workingChecks g) (quietChecks g ++ openingChecks g) (working g x)
+        ∙ unless-after (untouched (lentTo g)) (opened (theVoxel (toOpen g)) g) (quietChecks g) (openingChecks g) (quiet, tt)
+
+    refuses : opens g ≡ false → (openNext g .answer ≡ refused 14) ⊎ (openNext g .answer ≡ refused 15)
+    unfolding opens unless opened
+    refuses f =
+        subst (λ (o : Outcome Buffers Opening). not (isRefused (o .answer)) ≡ false → (o .answer ≡ refused 14) ⊎ (o .answer ≡ refused 15)) (sym last-checks)
+        (go (eqb (g .rec .openings) (g .rec .allowed)) (isNone (toOpen g))) f
+      where
+        go : (t u : Bool) →
+            let o = cond t (untouched (lentTo g) 14) (cond u (untouched (lentTo g) 15) (opened (theVoxel (toOpen g)) g)) in
+            not (isRefused (o .answer)) ≡ false → (o .answer ≡ refused 14) ⊎ (o .answer ≡ refused 15)
+        go true u f = inl refl
+        go false true f = inr refl
+        go false false f = absurd (true≢false f)
+
+    finishes : finish g .answer ≡ done (asFinished (g .rec))
+    unfolding finish finishedOf
+    finishes =
+        ap (λ (o : Outcome Buffers Record). o .answer)
+        (unless-held (untouched (lentTo g)) (finishedOf g) (finishChecks g) (append-hold (workingChecks g) (quietChecks g) (working g x) (quiet, tt)))
+
+  goes-through : (n : ℕ) (g : State) → Reached g → roundsLeft (g .rec) ≡ n → Through (carveAndOpen n g)
+  goes-through zero g x q = let z : ⊥ = omega arith in absurd z
+  goes-through (suc n) g x q = go (opens h) refl (goes-through n (afterOpen h))
+    where
+      h : State
+      h = afterCarve g
+
+      go :
+          (t : Bool)
+          → opens h ≡ t
+          → (Reached (afterOpen h) → roundsLeft (afterOpen h .rec) ≡ n → Through (carveAndOpen n (afterOpen h)))
+          → Through (carveAndOpen (suc n) g)
+      go true f rest =
+          subst Through (sym (round n g true f)) (rest (reached-open h (reached-carve g x) f) (omega (arith, round-used g f)))
+      go false f rest =
+          let y = reached-carve g x in
+          let empty = ap (λ (s : Sides). anyPending s (h .status)) (carve-same g .sides) ∙ carves-to-empty g x .empties in
+          subst Through (sym (round n g false f)) (record { empty = empty; refuses = refuses h y empty f; finishes = finishes h y empty })
+
+  -- after so many rounds of calls, refused or not
+  one-round : (n : ℕ) (g : State) → run (rounds (suc n)) g .end ≡ run (rounds n) (afterOpen (afterCarve g)) .end
+  unfolding run rounds call afterCarve afterOpen
+  one-round n g = refl
+
+  reached-rounds : (n : ℕ) (g : State) → Reached g → Reached (run (rounds n) g .end)
+  unfolding run rounds
+  reached-rounds zero g x = x
+  reached-rounds (suc n) g x = subst Reached (sym (one-round n g)) (reached-rounds n (afterOpen (afterCarve g)) (go (opens (afterCarve g)) refl))
+    where
+      go : (t : Bool) → opens (afterCarve g) ≡ t → Reached (afterOpen (afterCarve g))
+      go true f = reached-open (afterCarve g) (reached-carve g x) f
+      go false f = subst Reached (sym (open-refused (afterCarve g) f)) (reached-carve g x)
+
+pub every-carve-empties : EveryCarveEmpties
+every-carve-empties n s T values dist status r e =
+    let x = reached-rounds s T values dist status r e n _ (reached-start s T values dist status r e) in
+    carves-to-empty s T values dist status r e _ x
+
+pub rounds-go-through : RoundsGoThrough
+rounds-go-through s T values dist status r e =
+    goes-through s T values dist status r e _ _ (reached-start s T values dist status r e) refl

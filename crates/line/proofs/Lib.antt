@@ -1,0 +1,5 @@
+pub mod Counting
+pub mod Rounds
+pub mod Reading
+pub mod Ends
+pub mod Examples

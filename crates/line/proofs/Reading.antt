@@ -1,0 +1,203 @@
+-- The line of a file, by what read and begin answer; and the buffers that the program lends, which matter only where the header is right.
+use mathlib.Core.Path.{_≡_, refl, ap, sym, _∙_}
+use mathlib.Core.Bool.{Bool, true, false, not, cond}
+use mathlib.Core.List.{List, [], _∷_}
+use Prim.Native.Nat.{ℕ, zero, suc, _*_, _≤_, _<_}
+use native.Mathlib.Nat.{mul-le-mul}
+use native.Mathlib.Omega.{arith}
+use borrow.Author.Tests.{leb-true, lt-ltb, le-ltb}
+use lib.Dec.{leb, ltb, eqb}
+use lib.ListN.{length, take, replicate, length-replicate}
+use lib.IntN.{ℤ, pos}
+use Rattle.prelude.proofs.Bools.{and-true}
+use Rattle.prelude.proofs.Ranges.{length-map-from}
+use Rattle.rules.specs.declared.Sides.{Sides}
+use Rattle.rules.specs.declared.Record.{Record}
+use Rattle.rules.specs.declared.Begun.{Begun}
+use Rattle.rules.specs.Grid.{fitSides, size, voxels}
+use Rattle.rules.specs.Checks.{_when_, unless}
+use Rattle.rules.specs.Answer.{Reply, refused, done, Outcome, outcome, untouched, Buffers, buffers, begunAnswer}
+use Rattle.rules.specs.Begin.{inside, inBox, statusAt, startStatus, newRecord, beginChecks, begun, begin}
+use Rattle.rules.specs.Meaning.{found}
+use Rattle.rules.specs.Status.{isKept}
+use Rattle.rules.specs.Machine.{State, state}
+use Rattle.rules.proofs.Checks.{by-checks}
+use Rattle.words.specs.Words.{tagged}
+use Rattle.gridfile.specs.declared.ReadAnswer.{ReadAnswer}
+use Rattle.gridfile.specs.File.{headerLength, sidesIn, fitUpTo, layersChecks, readChecks, Header, readAnswer, accepted, readUpTo}
+use Rattle.gridfile.proofs.Headers.{is-accepted}
+use Rattle.text.specs.declared.Text.{Text}
+use Rattle.text.specs.Line.{refusedLine, carvedLine}
+use Rattle.text.specs.Written.{printed}
+use Rattle.line.specs.Program.{afterFinish, roundsLeft, allRounds, lineOf, carvedToEnd, lineFrom, zeros, lineAfterRead}
+use Rattle.line.specs.Program.{greatestSide, programLine, lentFor}
+use Rattle.line.proofs.Counting.{counted}
+use Rattle.line.proofs.Rounds.{finish-unmoved, rounds-sides}
+
+-- a refusal is no answer
+no-answer : {A P : Type 0} (n : ℕ) (a : A) → _≡_ {A = Reply A} (refused n) (done a) → P
+no-answer n a e = let z : _≡_ {A = ℕ} 0 1 = cc in let y : ⊥ = omega arith in absurd y
+
+-- ---- what begin leaves: as many status bytes as voxels
+
+module _ (s : Sides) (T : ℕ) (values dist : List ℤ) (status : List ℕ) where
+  pub begin-long :
+      (next : Record) (d : List ℤ) (b : List ℕ) → outcome (done next) (buffers d b) ≡ begin s T values dist status → length b ≡ size (next .sides)
+  unfolding begin begun startStatus voxels
+  begin-long next d b e =
+      ap (λ (o : Outcome Buffers Record). length (o .lent .status)) e
+      ∙ by-checks (untouched (buffers dist status)) (begun s T values) (λ o. o .answer ≡ done next → length (o .lent .status) ≡ size (next .sides))
+      (beginChecks s values dist status) (λ n f. no-answer n next f)
+      (λ p f.
+      let q : newRecord s T ≡ next = cc in
+      let S = inside s values in
+      length-map-from (statusAt s S (inBox s S)) (size s) ∙ ap (λ (r : Record). size (r .sides)) q)
+      (sym (ap (λ (o : Outcome Buffers Record). o .answer) e))
+
+  -- the line, by begin's answer
+  module _ (a : Begun) (d : List ℤ) (b : List ℕ) (e : outcome (begunAnswer a) (buffers d b) ≡ begin s T values dist status) where
+    pub ready : (next : Record) → a ≡ Begun.Ready next → outcome (done next) (buffers d b) ≡ begin s T values dist status
+    ready next f = sym (ap (λ (x : Begun). outcome (begunAnswer x) (buffers d b)) f) ∙ e
+
+    pub line-begun : (next : Record) → a ≡ Begun.Ready next → carvedToEnd (state next d b) ≡ lineFrom (begin s T values dist status)
+    unfolding lineFrom
+    line-begun next f = ap lineFrom (ready next f)
+
+    pub line-begin-refused : (n : ℕ) → a ≡ Begun.Refused n → refusedLine n ≡ lineFrom (begin s T values dist status)
+    unfolding lineFrom
+    line-begin-refused n f = ap lineFrom (sym (ap (λ (x : Begun). outcome (begunAnswer x) (buffers d b)) f) ∙ e)
+
+-- ---- the line at the end
+
+module _ (given : Record) (dist : List ℤ) (status : List ℕ) where
+  pub line-ended :
+      (carved ended : Record) (d : List ℤ) (b : List ℕ) (kept : ℕ) (euler : ℤ)
+      → length b ≡ size (given .sides)
+      → state carved dist b ≡ allRounds (state given dist status)
+      → state ended d b ≡ afterFinish (state carved dist b)
+      → kept ≡ counted (isKept b) (length b)
+      → euler ≡ ended .euler
+      → carvedLine kept (ended .removals) (ended .openings) (ended .examinations) euler ≡ carvedToEnd (state given dist status)
+  unfolding carvedToEnd lineOf voxels
+  line-ended carved ended d b kept euler l e f k z =
+      let rounds = roundsLeft given in
+      let g = state given dist status in
+      let sides : ended .sides ≡ given .sides =
+      ap (λ (h : State). h .rec .sides) f ∙ finish-unmoved (state carved dist b) .sides ∙ ap (λ (h : State). h .rec .sides) e ∙ rounds-sides rounds g in
+      let kept-found : kept ≡ found (ended .sides) (isKept b) = k ∙ ap (counted (isKept b)) (l ∙ ap size (sym sides)) in
+      rw (kept-found, z) (ap lineOf (f ∙ ap afterFinish e))
+
+-- ---- how many voxels' buffers are lent
+
+pub take-replicate : {A : Type 0} (k n : ℕ) (x : A) → k ≤ n → take k (replicate n x) ≡ replicate k x
+take-replicate zero n x h = refl
+take-replicate (suc k) zero x h = let z : ⊥ = omega arith in absurd z
+take-replicate (suc k) (suc n) x h = ap (λ (l : List _). x ∷ l) (take-replicate k n x (omega arith))
+
+pub lent-length : {A : Type 0} (k n : ℕ) (x : A) → k ≤ n → k ≡ length (take k (replicate n x))
+lent-length k n x h = sym (ap length (take-replicate k n x h) ∙ length-replicate k x)
+
+pub lentFor-short : (file : List ℕ) → length file < 7 → 0 ≡ lentFor file
+unfolding lentFor
+lentFor-short file h = rw (lt-ltb (length file) 7 h)
+
+module _ (file : List ℕ) (h : 7 ≤ length file) where
+  pub lentFor-unfit : fitUpTo greatestSide (sidesIn file) ≡ false → 0 ≡ lentFor file
+  unfolding lentFor
+  lentFor-unfit e = rw (le-ltb (length file) 7 h, e)
+
+  pub lentFor-fit : fitUpTo greatestSide (sidesIn file) ≡ true → size (sidesIn file) ≡ lentFor file
+  unfolding lentFor
+  lentFor-fit e = rw (le-ltb (length file) 7 h, e)
+
+pub size-fits : (s : Sides) → fitUpTo greatestSide s ≡ true → size s ≤ 13824
+unfolding fitUpTo size
+size-fits s e =
+    let p = and-true (fitSides s) _ e in
+    let q = and-true (leb (s .a) greatestSide) _ (p .1) in
+    let r = and-true (leb (s .b) greatestSide) (leb (s .c) greatestSide) (q .1) in
+    let area : s .a * s .b ≤ 24 * 24 = mul-le-mul (leb-true (s .a) 24 (q .0)) (leb-true (s .b) 24 (r .0)) in
+    mul-le-mul area (leb-true (s .c) 24 (r .1))
+
+-- ---- the lent buffers do not matter where the header is refused
+
+module _ (file : List ℕ) where
+  abbrev s : Sides
+  s = sidesIn file
+
+  -- short, tagged and fit decide before the lent buffer is looked at
+  abbrev byTests : Bool → Bool → Bool → List ℤ → Outcome (List ℤ) Header
+  byTests short tag fit lent =
+      cond short (untouched lent 21) (cond (not tag) (untouched lent 22) (cond (not fit) (untouched lent 1) (
+      unless (2 when not (eqb (length lent) (size s)) ∷ layersChecks s file (s .c) headerLength []) (untouched lent) (accepted file lent))))
+
+  read-tests : (lent : List ℤ) → readUpTo greatestSide file lent ≡ byTests (ltb (length file) 7) (tagged 0x48 file 0) (fitUpTo greatestSide s) lent
+  unfolding readUpTo unless
+  read-tests lent = refl
+
+  same :
+      (short tag fit : Bool) (lent other : List ℤ)
+      → (short ≡ false → fit ≡ true → lent ≡ other)
+      → lineAfterRead (byTests short tag fit lent) ≡ lineAfterRead (byTests short tag fit other)
+  unfolding lineAfterRead
+  same true tag fit lent other e = refl
+  same false false fit lent other e = refl
+  same false true false lent other e = refl
+  same false true true lent other e = ap (λ (l : List ℤ). lineAfterRead (byTests false true true l)) (e refl refl)
+
+  lentFor-size : ltb (length file) 7 ≡ false → fitUpTo greatestSide s ≡ true → size s ≡ lentFor file
+  unfolding lentFor
+  lentFor-size h e = rw (h, e)
+
+  pub line-lent : programLine file ≡ lineAfterRead (readUpTo greatestSide file (zeros (lentFor file)))
+  unfolding programLine
+  line-lent =
+      ap lineAfterRead (read-tests (zeros (size s)))
+      ∙ same (ltb (length file) 7) (tagged 0x48 file 0) (fitUpTo greatestSide s) (zeros (size s)) (zeros (lentFor file)) (λ h e. ap zeros (lentFor-size h e))
+      ∙ sym (ap lineAfterRead (read-tests (zeros (lentFor file))))
+
+  read-done : (lent : List ℤ) (h : Header) → readUpTo greatestSide file lent .answer ≡ done h → size (h .sides) ≡ length lent
+  unfolding readUpTo
+  read-done lent h =
+      by-checks (untouched lent) (accepted file lent) (λ o. o .answer ≡ done h → size (h .sides) ≡ length lent) (readChecks greatestSide file (length lent))
+      (λ n e. no-answer n h e)
+      (λ p e. ap size (sides-of e) ∙ sym (is-accepted greatestSide file (length lent) p .long))
+    where
+      sides-of : accepted file lent .answer ≡ done h → h .sides ≡ s
+      sides-of e = sym (ap given e)
+        where
+          given : Reply Header → Sides
+          given (refused n) = s
+          given (done h) = h .sides
+
+  -- ---- the line by what read answered
+
+  module _ (answer : ReadAnswer) (values lent : List ℤ) (r : outcome (readAnswer answer) values ≡ readUpTo greatestSide file lent)
+      (z : lent ≡ zeros (lentFor file)) where
+    by-answer : lineAfterRead (outcome (readAnswer answer) values) ≡ programLine file
+    by-answer = ap lineAfterRead (r ∙ ap (readUpTo greatestSide file) z) ∙ sym line-lent
+
+    pub line-refused : (n : ℕ) → readAnswer answer ≡ refused n → refusedLine n ≡ programLine file
+    unfolding lineAfterRead
+    line-refused n e = sym (ap (λ (a : Reply Header). lineAfterRead (outcome a values)) e) ∙ by-answer
+
+    pub line-grid :
+        (s : Sides) (T : ℕ) (dist : List ℤ) (status : List ℕ)
+        → answer ≡ ReadAnswer.Grid s T
+        → dist ≡ zeros (lentFor file)
+        → status ≡ replicate (lentFor file) 0
+        → lineFrom (begin s T values dist status) ≡ programLine file
+    unfolding lineAfterRead
+    line-grid s T dist status e d b =
+        let h : Header = record { sides = s; allowed = T } in
+        let n : size s ≡ lentFor file =
+        read-done lent h (sym (ap (λ (o : Outcome (List ℤ) Header). o .answer) r) ∙ ap readAnswer e) ∙ ap length z ∙ length-replicate (lentFor file) (pos 0) in
+        ap (λ (l : List ℤ). lineFrom (begin s T values l status)) (d ∙ ap zeros (sym n))
+        ∙ ap (λ (l : List ℕ). lineFrom (begin s T values (zeros (size s)) l)) (b ∙ ap (λ (k : ℕ). replicate k 0) (sym n))
+        ∙ sym (ap (λ (a : ReadAnswer). lineAfterRead (outcome (readAnswer a) values)) e)
+        ∙ by-answer
+
+    -- and as it is printed
+    pub printed-grid : (text : Text) (s : Sides) (T : ℕ) (dist : List ℤ) (status : List ℕ) → text ≡ printed (lineFrom (begin s T values dist status))
+        → answer ≡ ReadAnswer.Grid s T → dist ≡ zeros (lentFor file) → status ≡ replicate (lentFor file) 0 → text ≡ printed (programLine file)
+    printed-grid text s T dist status p e d b = p ∙ ap printed (line-grid s T dist status e d b)

@@ -1,0 +1,66 @@
+-- `line::begun_line` meets its contract.
+use mathlib.Core.Path.{ap, _∙_}
+use Rattle.line.proofs.Reading.{begin-long, ready, line-begun, line-begin-refused}
+use Rattle.text.specs.Written.{printed}
+use borrow.Author.Needs.{needs}
+use Rattle.line.proofs.begun_line.Statement.{statement}
+use Rattle.line.proofs.begun_line.Tie as tie
+
+begin-requires : tie.Need-begin-requires
+begin-requires c κs = search needs
+
+enum-known-next : tie.Need-enum-known-next
+enum-known-next c = search needs
+
+carved-to-end-requires : tie.Need-carved-to-end-requires
+carved-to-end-requires c κs =
+    let k = c .before .before in
+    let b = k .before .before .before .before .before .before in
+    begin-long _ _ _ _ _ _ _ _ (ready _ _ _ _ _ _ _ _ (b .begin .ensures) _ (k .before .next .given .1))
+
+enum-known-n : tie.Need-enum-known-n
+enum-known-n c = search needs
+
+refused-line-requires : tie.Need-refused-line-requires
+refused-line-requires c κs = search needs
+
+same-length : tie.Need-same-length
+same-length c = search needs
+
+same-length-2 : tie.Need-same-length-2
+same-length-2 c = search needs
+
+returns : tie.Need-returns
+returns c =
+    let e = c .before .before .before in
+    let k = e .before .before .before in
+    let b = k .before .before .before .before .before .before in
+    e .carved-to-end .ensures ∙ ap printed (line-begun _ _ _ _ _ _ _ _ (b .begin .ensures) _ (k .before .next .given .1))
+
+same-length-3 : tie.Need-same-length-3
+same-length-3 c = search needs
+
+same-length-4 : tie.Need-same-length-4
+same-length-4 c = search needs
+
+returns-2 : tie.Need-returns-2
+returns-2 c =
+    let k = c .before in
+    let b = k .before .before .before .before .before .before in
+    c .refused-line .ensures ∙ ap printed (line-begin-refused _ _ _ _ _ _ _ _ (b .begin .ensures) _ (k .before .n .given .1))
+
+pub begun-line-spec : {M : Type 1} → statement M
+begun-line-spec =
+    tie.close
+    (tie.spec
+    begin-requires
+    enum-known-next
+    carved-to-end-requires
+    enum-known-n
+    refused-line-requires
+    same-length
+    same-length-2
+    returns
+    same-length-3
+    same-length-4
+    returns-2)

@@ -1,0 +1,55 @@
+-- `line::carved_to_end` meets its contract.
+use mathlib.Core.Path.{ap, _∙_}
+use mir.Syntax.{w32}
+use mir.Val.{SFits}
+use mir.Facts.{toZ-ofZ}
+use Rattle.line.proofs.Reading.{line-ended}
+use Rattle.text.specs.Written.{printed}
+use borrow.Author.Needs.{needs}
+use Rattle.line.proofs.carved_to_end.Statement.{statement}
+use Rattle.line.proofs.carved_to_end.Tie as tie
+
+carve-and-open-requires : tie.Need-carve-and-open-requires
+carve-and-open-requires c κs = search needs
+
+finish-on-requires : tie.Need-finish-on-requires
+finish-on-requires c κs = search needs
+
+kept-voxels-requires : tie.Need-kept-voxels-requires
+kept-voxels-requires c κs = search needs
+
+cast-t17 : tie.Need-cast-t17
+cast-t17 c = search needs
+
+carved-line-requires : tie.Need-carved-line-requires
+carved-line-requires c κs = search needs
+
+same-length : tie.Need-same-length
+same-length c = search needs
+
+same-length-2 : tie.Need-same-length-2
+same-length-2 c = search needs
+
+returns : tie.Need-returns
+returns c =
+    let k = c .before .before .before in
+    let f = k .before .before .before in
+    let v = f .before .before .before .before .before in
+    let a = v .before .before .before .before in
+    let z : SFits w32 (f .finish-on .result .euler) = record { sfits = c .before .struct-told .given .1 .1 .1 .1 .1 .0 .1 } in
+    c .carved-line .ensures
+    ∙ ap printed (line-ended _ _ _ _ _ _ _ _ _ (v .carve-and-open .kept .1 .1 .0 ∙ a .pre) (v .carve-and-open .ensures) (f .finish-on .ensures)
+    (k .kept-voxels .ensures) (toZ-ofZ z))
+
+pub carved-to-end-spec : {M : Type 1} → statement M
+carved-to-end-spec =
+    tie.close
+    (tie.spec
+    carve-and-open-requires
+    finish-on-requires
+    kept-voxels-requires
+    cast-t17
+    carved-line-requires
+    same-length
+    same-length-2
+    returns)

@@ -1,0 +1,42 @@
+-- Worked files of the program, as theorems by computation (proofs/Examples.antt): cases C and D, and refusals of read and of begin.
+use mathlib.Core.Path.{_≡_}
+use mathlib.Core.List.{List, [], _∷_, _++_}
+use Prim.Native.Nat.{ℕ}
+use lib.IntN.{pos}
+use Rattle.gridfile.specs.Examples.{header, file, fileD}
+use Rattle.text.specs.Line.{refusedLine, carvedLine}
+use Rattle.line.specs.Program.{programLine}
+
+-- case C: 5, 5, 3, all 4; at z = 1 the eight voxels touching (2, 2) are -4
+abbrev pub flat : List ℕ
+flat = 4 ∷ 0 ∷ 4 ∷ 0 ∷ 4 ∷ 0 ∷ 4 ∷ 0 ∷ 4 ∷ 0 ∷ []
+
+abbrev pub across : List ℕ
+across = 4 ∷ 0 ∷ 0xFC ∷ 0xFF ∷ 0xFC ∷ 0xFF ∷ 0xFC ∷ 0xFF ∷ 4 ∷ 0 ∷ []
+
+abbrev pub beside : List ℕ
+beside = 4 ∷ 0 ∷ 0xFC ∷ 0xFF ∷ 4 ∷ 0 ∷ 0xFC ∷ 0xFF ∷ 4 ∷ 0 ∷ []
+
+abbrev pub plane : List ℕ
+plane = flat ++ (flat ++ (flat ++ (flat ++ flat)))
+
+abbrev pub fileC : ℕ → List ℕ
+fileC T =
+    (0x56 ∷ 0x48 ∷ 5 ∷ 5 ∷ 3 ∷ T ∷ 0 ∷ [])
+    ++ ((0x56 ∷ 0x4C ∷ 0 ∷ plane)
+    ++ ((0x56 ∷ 0x4C ∷ 1 ∷ flat ++ (across ++ (beside ++ (across ++ flat))))
+    ++ (0x56 ∷ 0x4C ∷ 2 ∷ plane)))
+
+pub record Examples : Type 0 where
+  -- kept 2 removed 2 opened 0 examined 2 euler 1
+  pub case-d : programLine fileD ≡ carvedLine 2 2 0 2 (pos 1)
+  -- T = 0: one examination, no removal. T = 1: the middle is opened, Euler 0
+  pub case-c : programLine (fileC 0) ≡ carvedLine 9 0 0 1 (pos 1)
+  pub case-c-opened : programLine (fileC 1) ≡ carvedLine 8 1 1 1 (pos 0)
+  -- read's numbers; a side over 24 is refused as 1
+  pub no-header : programLine [] ≡ refusedLine 21
+  pub side-25 : programLine (header 0x48 25 3 3) ≡ refusedLine 1
+  pub side-24 : programLine (header 0x48 24 3 3) ≡ refusedLine 21
+  pub layer-repeated : programLine (file 0 1 1) ≡ refusedLine 24
+  -- begin's: a border voxel is negative
+  pub border : programLine (file 0 1 2) ≡ refusedLine 3

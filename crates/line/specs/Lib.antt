@@ -1,0 +1,3 @@
+pub mod Program
+pub mod Ends
+pub mod Examples

@@ -1,0 +1,93 @@
+-- Document 01, "The grid file": the program carve, from the bytes of a file to its line.
+use mathlib.Core.Path.{_≡_}
+use mathlib.Core.Bool.{Bool, true, false, not, cond}
+use mathlib.Core.List.{List}
+use Prim.Native.Nat.{ℕ, zero, suc, _+_, _-_}
+use lib.Dec.{ltb}
+use lib.ListN.{length, replicate}
+use lib.IntN.{ℤ, pos}
+use Rattle.rules.specs.declared.Record.{Record}
+use Rattle.rules.specs.Grid.{size}
+use Rattle.rules.specs.Answer.{Reply, refused, done, Outcome, Buffers}
+use Rattle.rules.specs.Begin.{begin}
+use Rattle.rules.specs.Meaning.{found}
+use Rattle.rules.specs.Status.{isKept}
+use Rattle.rules.specs.Machine.{State, state, after, carve, openNext, finish}
+use Rattle.gridfile.specs.File.{headerLength, sidesIn, fitUpTo, Header, readUpTo}
+use Rattle.text.specs.Line.{Line, refusedLine, carvedLine}
+
+-- ---- after begin: carve to empty and open in turn until open refuses, then finish
+
+-- more examinations than any grid takes, so that a carve goes on until nothing is pending (Ends.antt)
+abbrev pub noLimit : ℕ
+noLimit = 4294967295
+
+unfoldable pub afterCarve : State → State
+afterCarve g = after (λ r. r .next) g (carve noLimit g)
+
+unfoldable pub afterOpen : State → State
+afterOpen g = after (λ r. r .next) g (openNext g)
+
+unfoldable pub afterFinish : State → State
+afterFinish g = after (λ r. r) g (finish g)
+
+abbrev pub isRefused : {A : Type 0} → Reply A → Bool
+isRefused (refused n) = true
+isRefused (done a) = false
+
+unfoldable pub opens : State → Bool
+opens g = not (isRefused (openNext g .answer))
+
+-- so many rounds at most
+unfoldable pub carveAndOpen : ℕ → State → State
+carveAndOpen zero g = g
+carveAndOpen (suc rounds) g = let h = afterCarve g in elim (opens h) [ true ↦ carveAndOpen rounds (afterOpen h) | false ↦ h ]
+
+-- the openings that are left, and the round whose open is refused
+abbrev pub roundsLeft : Record → ℕ
+roundsLeft r = r .allowed - r .openings + 1
+
+abbrev pub allRounds : State → State
+allRounds g = carveAndOpen (roundsLeft (g .rec)) g
+
+-- kept voxels at the end, then the record's removals, openings, examinations and Euler number
+unfoldable pub lineOf : State → Line
+lineOf g =
+    let r = g .rec in
+    carvedLine (found (r .sides) (isKept (g .status))) (r .removals) (r .openings) (r .examinations) (r .euler)
+
+unfoldable pub carvedToEnd : State → Line
+carvedToEnd g = lineOf (afterFinish (allRounds g))
+
+-- ---- a refused file prints the number that read or begin gave
+
+unfoldable pub lineFrom : Outcome Buffers Record → Line
+lineFrom o = elim (o .answer) [ refused n ↦ refusedLine n | done next ↦ carvedToEnd (state next (o .lent .dist) (o .lent .status)) ]
+
+-- the program's own buffers hold zeros
+abbrev pub zeros : ℕ → List ℤ
+zeros n = replicate n (pos 0)
+
+unfoldable pub lineAfterRead : Outcome (List ℤ) Header → Line
+lineAfterRead o =
+    elim (o .answer) [
+      | refused n ↦ refusedLine n
+      | done h ↦ let n = size (h .sides) in lineFrom (begin (h .sides) (h .allowed) (o .lent) (zeros n) (replicate n 0))
+    ]
+
+-- a side over 24 is refused as 1
+abbrev pub greatestSide : ℕ
+greatestSide = 24
+
+unfoldable pub programLine : List ℕ → Line
+programLine file = lineAfterRead (readUpTo greatestSide file (zeros (size (sidesIn file))))
+
+-- ---- how many voxels' buffers the program lends for a file: none where the header is refused before it says how many
+
+unfoldable pub lentFor : List ℕ → ℕ
+lentFor file = cond (ltb (length file) headerLength) 0 (cond (fitUpTo greatestSide (sidesIn file)) (size (sidesIn file)) 0)
+
+pub record Lent (n : ℕ) (v d : List ℤ) (b : List ℕ) : Type 0 where
+  pub values : v ≡ zeros n
+  pub distances : d ≡ zeros n
+  pub statuses : b ≡ replicate n 0

@@ -1,0 +1,183 @@
+// From the bytes of a grid file to the line of the program carve: read, begin, carve and open in turn, finish.
+ghost use mathlib.Core.Path.{_≡_};
+ghost use mathlib.Core.Bool.{true};
+ghost use Prim.Native.Nat.{_≤_};
+ghost use lib.ListN.{length};
+ghost use Rattle.prelude.specs.Lists.{those, from};
+ghost use Rattle.rules.specs.Grid.{size};
+ghost use Rattle.rules.specs.Answer.{refused};
+ghost use Rattle.rules.specs.Status.{isKept};
+ghost use Rattle.rules.specs.Machine.{state};
+ghost use Rattle.rules.specs.Begin.{begin};
+ghost use Rattle.gridfile.specs.File.{readAnswer};
+ghost use Rattle.text.specs.Written.{printed};
+ghost use Rattle.line.specs.Program.{afterCarve, afterOpen, afterFinish, isRefused, opens, allRounds, carvedToEnd};
+ghost use Rattle.line.specs.Program.{lineFrom, programLine, lentFor, Lent};
+use gridfile::ReadAnswer;
+use rules::Begun;
+use rules::Carved;
+use rules::Finished;
+use rules::Opened;
+use rules::Record;
+use rules::Sides;
+use text::Summary;
+use text::Text;
+
+// ---- after begin
+
+fn kept_voxels(status: &[u8]) -> u64
+    ensures { λ r. ⌜ r ≡ length (those (isKept (now (status .entry))) (from 0 (length (now (status .entry))))) ⌝ }
+{
+    let mut kept = 0;
+    let mut i = 0;
+    while i < status.len() {
+        kept += (status[i] % 2) as u64;
+        i += 1;
+    }
+    kept
+}
+
+// Carves until nothing is pending: no grid has as many examinations as the limit.
+fn carve_on(given: Record, dist: &[i32], status: &mut [u8]) -> Record
+    ensures { λ r. ⌜ state r (now (dist .entry)) (now (status .exit)) ≡ afterCarve (state given (now (dist .entry)) (now (status .entry))) ⌝ }
+{
+    match carving::carve(given, dist, status, 4294967295) {
+        Carved::Done {
+            examined: _,
+            removed: _,
+            pending: _,
+            next,
+        } => next,
+        Carved::Refused(_) => given,
+    }
+}
+
+struct Opening {
+    opened: bool,
+    next: Record,
+}
+
+fn open_on(given: Record, dist: &[i32], status: &mut [u8]) -> Opening
+    ensures state { λ r. ⌜ state (r .next) (now (dist .entry)) (now (status .exit)) ≡ afterOpen (state given (now (dist .entry)) (now (status .entry))) ⌝ }
+    ensures opened { λ r. ⌜ r .opened ≡ opens (state given (now (dist .entry)) (now (status .entry))) ⌝ }
+{
+    match carving::open_next(given, dist, status) {
+        Opened::Through {
+            index: _,
+            k: _,
+            m: _,
+            next,
+        } => Opening { opened: true, next },
+        Opened::Refused(_) => Opening {
+            opened: false,
+            next: given,
+        },
+    }
+}
+
+// Carves and opens in turn until open refuses.
+fn carve_and_open(given: Record, dist: &[i32], status: &mut [u8]) -> Record
+    ensures { λ r. ⌜ state r (now (dist .entry)) (now (status .exit)) ≡ allRounds (state given (now (dist .entry)) (now (status .entry))) ⌝ }
+{
+    let mut current = given;
+    let mut opened = true;
+    while opened {
+        let carved = carve_on(current, dist, status);
+        let o = open_on(carved, dist, status);
+        opened = o.opened;
+        current = o.next;
+    }
+    current
+}
+
+fn finish_on(given: Record, dist: &mut [i32], status: &[u8]) -> Record
+    ensures { λ r. ⌜ state r (now (dist .exit)) (now (status .entry)) ≡ afterFinish (state given (now (dist .entry)) (now (status .entry))) ⌝ }
+{
+    match carving::finish(given, dist, status) {
+        Finished::Closed(next) => next,
+        Finished::Refused(_) => given,
+    }
+}
+
+// The line of a grid that was begun.
+fn carved_to_end(given: Record, dist: &mut [i32], status: &mut [u8]) -> Text
+    requires { ⌜ length (now status) ≡ size (given .sides) ⌝ }
+    ensures { λ r. ⌜ r ≡ printed (carvedToEnd (state given (now (dist .entry)) (now (status .entry)))) ⌝ }
+{
+    let carved = carve_and_open(given, dist, status);
+    let ended = finish_on(carved, dist, status);
+    let kept = kept_voxels(status);
+    text::carved_line(Summary {
+        kept,
+        removed: ended.removals,
+        opened: ended.openings as u64,
+        examined: ended.examinations,
+        euler: ended.euler,
+    })
+}
+
+// ---- read and begin
+
+fn begun_line(
+    sides: Sides,
+    allowed: u16,
+    values: &[i16],
+    dist: &mut [i32],
+    status: &mut [u8],
+) -> Text
+    ensures { λ r. ⌜ r ≡ printed (lineFrom (begin sides allowed (now (values .entry)) (now (dist .entry)) (now (status .entry)))) ⌝ }
+{
+    match beginning::begin(sides, allowed, values, dist, status) {
+        Begun::Ready(next) => carved_to_end(next, dist, status),
+        Begun::Refused(n) => text::refused_line(n),
+    }
+}
+
+// The number of an answer that is a refusal.
+fn number_of(answer: ReadAnswer) -> u8
+    requires { ⌜ isRefused (readAnswer answer) ≡ true ⌝ }
+    ensures { λ r. ⌜ readAnswer answer ≡ refused r ⌝ }
+{
+    if let ReadAnswer::Refused(n) = answer {
+        n
+    } else {
+        0
+    }
+}
+
+// The line of a file, with buffers of zeros that are long enough where the header is right.
+fn line_in(file: &[u8], values: &mut [i16], dist: &mut [i32], status: &mut [u8]) -> Text
+    requires { ⌜ Lent (lentFor (now file)) (now values) (now dist) (now status) ⌝ }
+    ensures { λ r. ⌜ r ≡ printed (programLine (now (file .entry))) ⌝ }
+{
+    let answer = gridfile::read_up_to(file, values, 24);
+    let ReadAnswer::Grid { sides, allowed } = answer else {
+        return text::refused_line(number_of(answer));
+    };
+    begun_line(sides, allowed, values, dist, status)
+}
+
+// The voxels of the grid that a header names, 0 where it is refused for its sides.
+fn voxels_in(file: &[u8]) -> usize
+    ensures { λ r. ⌜ (r ≡ lentFor (now (file .entry))) × (r ≤ 13824) ⌝ }
+{
+    if file.len() < 7 {
+        return 0;
+    }
+    let sides = gridfile::sides_in(file);
+    if gridfile::fit_up_to(sides, 24) {
+        return sizes::voxel_count(sides);
+    }
+    0
+}
+
+// The line that the program prints for a file.
+pub fn line(file: &[u8]) -> Text
+    ensures { λ r. ⌜ r ≡ printed (programLine (now (file .entry))) ⌝ }
+{
+    let n = voxels_in(file);
+    let mut values = [0i16; 13824];
+    let mut dist = [0i32; 13824];
+    let mut status = [0u8; 13824];
+    line_in(file, &mut values[..n], &mut dist[..n], &mut status[..n])
+}

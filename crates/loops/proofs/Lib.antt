@@ -1,0 +1,5 @@
+pub mod Orders
+pub mod Below
+pub mod InPlace
+pub mod Coordinates
+pub mod Rows

@@ -1,0 +1,36 @@
+-- Numbers in order, and a loop that stores one element after the other.
+use mathlib.Core.Path.{_≡_, refl, _∙_, subst}
+use mathlib.Core.Logic.{_⊎_, inl, inr, ⊎-elim}
+use mathlib.Core.List.{List, [], _∷_}
+use Prim.Native.Nat.{ℕ, zero, suc, _+_, _≤_, _<_}
+use native.Mathlib.Omega.{arith}
+use native.Mathlib.Nat.{eq-or-lt-of-le}
+use borrow.Author.Count.{below-more}
+use borrow.Author.Tests.{leb-true, leb-false}
+use lib.Dec.{leb}
+use lib.ListN.{length, getD, set}
+use lib.Seq.{getD-set-same, getD-set-other}
+use Rattle.prelude.proofs.Bools.{two}
+
+pub split : (x y : ℕ) → (x ≤ y) ⊎ (y < x)
+split x y = ⊎-elim (λ e. inl (leb-true x y e)) (λ e. inr (leb-false x y e)) (two (leb x y))
+
+-- a loop that stores f i at i, for i from 0 up
+pub store-more : {A : Type 0} (f : ℕ → A) (l : List A) (i : ℕ) (v d : A) → i < length l → v ≡ f i → ((k : ℕ) → k < i → getD l k d ≡ f k)
+    → (k : ℕ) → k < i + 1 → getD (set l i v) k d ≡ f k
+store-more f l i v d h e all =
+    below-more (λ k. getD (set l i v) k d ≡ f k) i
+    (λ k lt. getD-set-other l i k v d (λ q. let z : ⊥ = omega arith in z) ∙ all k lt)
+    (getD-set-same l i v d h ∙ e)
+
+-- within a list the default does not matter
+pub getD-within : {A : Type 0} (l : List A) (i : ℕ) (d e : A) → i < length l → getD l i d ≡ getD l i e
+getD-within [] i d e h = let z : ⊥ = omega arith in absurd z
+getD-within (x ∷ l) zero d e h = refl
+getD-within (x ∷ l) (suc i) d e h = getD-within l i d e (omega arith)
+
+-- one index more in a search upwards
+pub none-more : (l : List ℕ) (i v : ℕ) {first : ℕ} → ((k : ℕ) → first ≤ k → k < i → getD l k 0 ≡ v → ⊥) → (getD l i 0 ≡ v → ⊥)
+    → (k : ℕ) → first ≤ k → k < i + 1 → getD l k 0 ≡ v → ⊥
+none-more l i v none here k f h e =
+    ⊎-elim (λ q. here (subst (λ (j : ℕ). getD l j 0 ≡ v) q e)) (λ q. none k f q e) (eq-or-lt-of-le (let t : k ≤ i = omega arith in t))

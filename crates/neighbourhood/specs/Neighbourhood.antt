@@ -1,0 +1,63 @@
+-- The neighbourhood of an inner voxel: 27 voxels, by position p = x + 3 y + 9 z, and what is kept and pending there as the bits of one number.
+use mathlib.Core.Path.{_≡_}
+use mathlib.Core.Bool.{Bool, true, false}
+use mathlib.Core.List.{List}
+use Prim.Native.Nat.{ℕ, _+_, _-_, _*_, _/_, _%_, _≤_, _<_}
+use lib.ListN.{length}
+use Rattle.rules.specs.declared.Sides.{Sides}
+use Rattle.rules.specs.Grid.{fitSides, size, onBorder}
+use Rattle.rules.specs.Status.{statusOf, isKept}
+use Rattle.bits.specs.Bits.{has, bits}
+
+-- a voxel off the border of a grid
+pub record Inner (s : Sides) (i : ℕ) : Type 0 where
+  pub sides : fitSides s ≡ true
+  pub below : i < size s
+  pub inner : onBorder s i ≡ false
+
+-- the statuses of a grid, of which no border voxel is kept
+pub record Body (s : Sides) (status : List ℕ) : Type 0 where
+  pub sides : fitSides s ≡ true
+  pub statuses : length status ≡ size s
+  pub border : (i : ℕ) → i < size s → onBorder s i ≡ true → isKept status i ≡ false
+
+-- ---- positions
+
+-- how far a position lies from the first one: rows are a long, layers l
+abbrev pub offset : ℕ → ℕ → ℕ → ℕ
+offset a l p = p % 3 + a * (p / 3 % 3) + l * (p / 9)
+
+-- the voxel at position 0, and at position p
+abbrev pub firstAround : Sides → ℕ → ℕ
+firstAround s i = i - (1 + s .a + s .a * s .b)
+
+unfoldable pub around : Sides → ℕ → ℕ → ℕ
+around s i p = firstAround s i + offset (s .a) (s .a * s .b) p
+
+-- the neighbourhood from voxel at on lies in a buffer of n
+pub record Room (a l at n : ℕ) : Type 0 where
+  pub row : a ≤ 64
+  pub layer : l ≤ 4096
+  pub ends : at + offset a l 26 < n
+
+-- ---- two bits a voxel, bits 0 and 1 of its status: bit c is of position c / 2
+
+unfoldable pub rowBit : List ℕ → ℕ → ℕ → Bool
+rowBit status at c = has (statusOf status (at + c / 2)) (c % 2)
+
+unfoldable pub layerBit : List ℕ → ℕ → ℕ → ℕ → Bool
+layerBit status a at c = rowBit status (at + a * (c / 6)) (c % 6)
+
+unfoldable pub cubeBit : List ℕ → ℕ → ℕ → ℕ → ℕ → Bool
+cubeBit status a l at c = layerBit status a (at + l * (c / 18)) (c % 18)
+
+unfoldable pub statusBit : Sides → List ℕ → ℕ → ℕ → Bool
+statusBit s status i c = has (statusOf status (around s i (c / 2))) (c % 2)
+
+-- the neighbourhood of voxel i
+abbrev pub codeOf : Sides → List ℕ → ℕ → ℕ
+codeOf s status i = bits 54 (statusBit s status i)
+
+-- the kept positions of a code
+abbrev pub keptOf : ℕ → ℕ → Bool
+keptOf code p = has code (2 * p)

@@ -1,0 +1,112 @@
+-- What a change of one status byte does to the keys, and so to the index.
+use mathlib.Core.Path.{_≡_, refl, sym, ap, _∙_, subst}
+use mathlib.Core.Bool.{Bool, true, false, cond}
+use mathlib.Core.List.{List}
+use Prim.Native.Nat.{ℕ, _+_, _-_, _*_, _/_, _%_, _≤_, _<_, max}
+use native.Mathlib.Omega.{arith}
+use borrow.Author.Tests.{eqb-true}
+use lib.Dec.{eqb}
+use lib.Bits.{bitOr}
+use lib.IntN.{ℤ}
+use lib.ListN.{length, getD, set, length-set}
+use lib.Seq.{getD-set-same, getD-set-other}
+use Rattle.bits.proofs.Bits.{below}
+use Rattle.rules.specs.Grid.{distanceAt}
+use Rattle.rules.specs.Status.{statusOf, pendingByte, woken, isPending}
+use Rattle.keys.specs.Key.{Lent, rankOf, rankAt, keyOf, keyAt, voxelKey, width, stretches, stretchKey}
+use Rattle.keys.proofs.Ranks.{key-by}
+use Rattle.winners.specs.Tree.{Nodes, Changed}
+use Rattle.pending.specs.Index.{offsetOf, Offset, Offsets, group, groups, groupKey, Indexed, Index}
+use Rattle.pending.proofs.Offsets.{offset-made}
+use Rattle.pending.proofs.Indexing.{offsets-of, indexed-nodes, offsets-set, indexed-set, indexed-kept, indexed-raised}
+use Rattle.pending.proofs.Held.{key-named}
+
+-- bit 1 set
+pub wake-byte : (x y : ℕ) → x < 256 → y ≡ bitOr x 2 → y ≡ woken x
+unfolding woken pendingByte
+wake-byte x y h e = e ∙ eqb-true _ _ (below 256 (λ x. eqb (bitOr x 2) (woken x)) refl x h)
+
+module _ (dist : List ℤ) (status : List ℕ) (j s : ℕ) where
+  key-other : (i : ℕ) → (i ≡ j → ⊥) → keyAt dist (set status j s) i ≡ keyAt dist status i
+  unfolding keyAt rankAt isPending
+  key-other i n = ap (λ (x : ℕ). keyOf (cond (pendingByte x) (rankOf (distanceAt dist i)) 0) i) (getD-set-other status j i s 0 n)
+
+  pub lent-set : Lent dist status → Lent dist (set status j s)
+  lent-set v =
+      let e = length-set status j s in
+      let a = v .same in
+      let b = v .some in
+      let c = v .few in
+      record { same = omega arith; some = omega arith; few = omega arith }
+
+  module _ (offsets tree : List ℕ) (I : Index dist status offsets tree) (inside : j < length status) where
+    -- the voxel's stretch has its offset made anew
+    pub offsets-clear :
+        (w v : ℕ) → w ≡ stretchKey (keyAt dist (set status j s)) (j / width) → v ≡ offsetOf w
+        → Offsets (keyAt dist (set status j s)) (stretches (length (set status j s))) (set offsets (j / width) v)
+    offsets-clear w v e q =
+        offsets-of (ap stretches (sym (length-set status j s))) (
+        offsets-set (keyAt dist status) (keyAt dist (set status j s)) j key-other (stretches (length status)) offsets v (omega arith)
+        (offset-made (keyAt dist (set status j s)) (j / width) (key-named dist (set status j s) (lent-set (I .lent))) w v e q) (I .index .offset)
+        )
+
+    count-now : (h : ℕ) → h ≡ groups (stretches (length dist)) → h ≡ groups (stretches (length status))
+    count-now h e = e ∙ ap (λ (n : ℕ). groups (stretches n)) (I .lent .same)
+
+    pub nodes-now : (h : ℕ) → h ≡ groups (stretches (length dist)) → Nodes h tree
+    nodes-now h e = indexed-nodes (keyAt dist status) (length status) offsets tree (I .index) h (count-now h e)
+
+    same-size : {offsets tree : List ℕ} → Indexed (keyAt dist (set status j s)) (length status) offsets tree → Index dist (set status j s) offsets tree
+    same-size {offsets} {tree} J =
+        record {
+          lent = lent-set (I .lent);
+          index = subst (λ (n : ℕ). Indexed (keyAt dist (set status j s)) n offsets tree) (sym (length-set status j s)) J;
+        }
+
+    pub index-clear :
+        (h v : ℕ) (after grown : List ℕ) → h ≡ groups (stretches (length dist))
+        → Offsets (keyAt dist (set status j s)) (stretches (length (set status j s))) after
+        → v ≡ groupKey (keyAt dist (set status j s)) (j / width / group) → Changed h (j / width / group) v tree grown
+        → Index dist (set status j s) after grown
+    index-clear h v after grown count O e C =
+        same-size (
+        indexed-set (keyAt dist status) (keyAt dist (set status j s)) j key-other (length status) offsets tree (I .index) h (count-now h count)
+        after grown v (offsets-of (ap stretches (length-set status j s)) O) e C
+        )
+
+    -- ---- the byte is pending: the voxel's key is w, and was w or nothing
+
+    module _ (on : pendingByte s ≡ true) (w : ℕ) (own : w ≡ voxelKey dist j) where
+      key-own : keyAt dist (set status j s) j ≡ w
+      key-own = key-by dist (set status j s) j true (pending-here on) ∙ sym own
+        where
+          pending-here : pendingByte s ≡ true → isPending (set status j s) j ≡ true
+          pending-here e = unfold isPending in ap pendingByte (getD-set-same status j s 0 inside) ∙ e
+
+      key-was : (b : Bool) → isPending status j ≡ b → keyAt dist status j ≡ cond b w 0
+      key-was b e = key-by dist status j b e ∙ ap (λ (x : ℕ). cond b x 0) (sym own)
+
+      key-grows : (b : Bool) → isPending status j ≡ b → keyAt dist (set status j s) j ≡ max (keyAt dist status j) w
+      key-grows true e = let z = key-was true e in omega (arith, key-own)
+      key-grows false e = let z = key-was false e in omega (arith, key-own)
+
+      key-kept : (b : Bool) → isPending status j ≡ b → 0 < keyAt dist status j → keyAt dist (set status j s) j ≡ keyAt dist status j
+      key-kept true e h = key-own ∙ sym (key-was true e)
+      key-kept false e h = let z = key-was false e in let b : ⊥ = omega arith in absurd b
+
+      pub index-kept : w ≤ stretchKey (keyAt dist status) (j / width) → Index dist (set status j s) offsets tree
+      index-kept h =
+          same-size (
+          indexed-kept (keyAt dist status) (keyAt dist (set status j s)) j key-other w key-own (key-grows (isPending status j) refl)
+          (length status) offsets tree (I .index) (key-kept (isPending status j) refl) h
+          )
+
+      pub index-raised :
+          (v h : ℕ) (grown : List ℕ) → stretchKey (keyAt dist status) (j / width) < w → v ≡ j % width → h ≡ groups (stretches (length dist))
+          → Changed h (j / width / group) (max (getD tree (h + j / width / group) 0) w) tree grown
+          → Index dist (set status j s) (set offsets (j / width) v) grown
+      index-raised v h grown less e count C =
+          same-size (
+          indexed-raised (keyAt dist status) (keyAt dist (set status j s)) j key-other w key-own (key-grows (isPending status j) refl)
+          (length status) offsets tree (I .index) v h less e inside (count-now h count) grown C
+          )

@@ -1,4 +1,0 @@
-pub mod Lent
-pub mod Rounds
-pub mod Kept
-pub mod Ended

@@ -1,0 +1,7 @@
+pub mod Stores
+pub mod Position
+pub mod Found
+pub mod Walking
+pub mod Listable
+pub mod Worked
+pub mod EachPoint

@@ -1,0 +1,5 @@
+pub mod Bools
+pub mod Lists
+pub mod Ranges
+pub mod Signs
+pub mod Integers

@@ -1,0 +1,74 @@
+-- What each struct holds for each reply. After a refusal the numbers are 0, and `next` is the record given.
+use mathlib.Core.Bool.{Bool, false, not}
+use lib.Dec.{eqb}
+use lib.IntN.{pos}
+use Rattle.cells.specs.Cells.{bit}
+use Rattle.rules.specs.declared.Record.{Record}
+use Rattle.rules.specs.Answer.{Reply, refused, done, Carving, Removal, Opening}
+use Rattle.replies.specs.declared.CRecord.{CRecord}
+use Rattle.replies.specs.declared.BeginAnswer.{BeginAnswer}
+use Rattle.replies.specs.declared.CarveAnswer.{CarveAnswer}
+use Rattle.replies.specs.declared.TakeAnswer.{TakeAnswer}
+use Rattle.replies.specs.declared.OpenAnswer.{OpenAnswer}
+use Rattle.replies.specs.declared.FinishAnswer.{FinishAnswer}
+
+-- ---- the record: any byte but 0 is finished
+
+abbrev pub recordIn : CRecord → Record
+recordIn c =
+    record {
+      sides = c .sides;
+      allowed = c .allowed;
+      openings = c .openings;
+      removals = c .removals;
+      examinations = c .examinations;
+      euler = c .euler;
+      finished = not (eqb (c .finished) 0);
+    }
+
+abbrev pub recordOut : Record → CRecord
+recordOut r =
+    record {
+      sides = r .sides;
+      allowed = r .allowed;
+      openings = r .openings;
+      removals = r .removals;
+      examinations = r .examinations;
+      euler = r .euler;
+      finished = bit (r .finished);
+    }
+
+-- a record that every call refuses, as its sides are 0
+abbrev pub noRecord : CRecord
+noRecord =
+    record {
+      sides = record { a = 0; b = 0; c = 0 };
+      allowed = 0;
+      openings = 0;
+      removals = 0;
+      examinations = 0;
+      euler = pos 0;
+      finished = 0;
+    }
+
+-- ---- the answers
+
+abbrev pub beginStruct : Reply Record → BeginAnswer
+beginStruct (refused n) = record { refusal = n; next = noRecord }
+beginStruct (done next) = record { refusal = 0; next = recordOut next }
+
+abbrev pub carveStruct : CRecord → Reply Carving → CarveAnswer
+carveStruct given (refused n) = record { refusal = n; examined = 0; removed = 0; pending = false; next = given }
+carveStruct given (done a) = record { refusal = 0; examined = a .examined; removed = a .removed; pending = a .pending; next = recordOut (a .next) }
+
+abbrev pub takeStruct : CRecord → Reply Removal → TakeAnswer
+takeStruct given (refused n) = record { refusal = n; k = 0; m = 0; next = given }
+takeStruct given (done a) = record { refusal = 0; k = a .k; m = a .m; next = recordOut (a .next) }
+
+abbrev pub openStruct : CRecord → Reply Opening → OpenAnswer
+openStruct given (refused n) = record { refusal = n; index = 0; k = 0; m = 0; next = given }
+openStruct given (done a) = record { refusal = 0; index = a .index; k = a .k; m = a .m; next = recordOut (a .next) }
+
+abbrev pub finishStruct : CRecord → Reply Record → FinishAnswer
+finishStruct given (refused n) = record { refusal = n; next = given }
+finishStruct given (done next) = record { refusal = 0; next = recordOut next }

@@ -1,0 +1,171 @@
+-- What the checks of each call give where none fails, by name.
+use mathlib.Core.Path.{_≡_, refl, sym, ap, ap₂, _∙_}
+use mathlib.Core.Logic.{inl, inr, ⊎-elim}
+use mathlib.Core.Bool.{Bool, true, false, not, _&&_, _||_}
+use mathlib.Core.List.{List, [], _∷_, _++_}
+use Prim.Native.Nat.{ℕ, _*_, _≤_, _<_}
+use native.Mathlib.Omega.{arith}
+use borrow.Author.Tests.{ltb-true, ltb-false, le-ltb, leb-false, eqb-true, eqb-false, eq-eqb}
+use lib.Dec.{eqb, ltb, leb}
+use lib.IntN.{ℤ, pos, natAbs}
+use lib.ListN.{length, List·getD-eq-default}
+use Rattle.cells.specs.Groups.{any}
+use Rattle.cells.specs.Cells.{passes}
+use Rattle.prelude.proofs.Bools.{and-true, or-true, or-false, not-false, not-both, two}
+use Rattle.rules.specs.declared.Sides.{Sides}
+use Rattle.rules.specs.declared.Record.{Record}
+use Rattle.rules.specs.Grid.{fitSides, size, from, voxels, onBorder, isNegative, distanceAt}
+use Rattle.rules.specs.Checks.{_when_, AllHold}
+use Rattle.rules.specs.Status.{statusOf, isKept, anyPending, testAt}
+use Rattle.rules.specs.Machine.{State, isInside, unfitCounts, unfitVoxel, unfit, wrongLength, stateChecks, workingChecks, finishedChecks, voxelChecks, takeChecks, quietChecks, openingChecks, openChecks, finishChecks}
+use Rattle.rules.specs.Fit.{Lent, Known, FitVoxels, FitState, Working, Ended, Takeable, Quiet, Openable}
+use Rattle.prelude.proofs.Ranges.{none-below, below-none}
+use Rattle.rules.proofs.Checks.{hold-append}
+
+-- ---- number 7 at a voxel
+
+module _ (s : Sides) (dist : List ℤ) (status : List ℕ) where
+  module _ (i : ℕ) (e : unfitVoxel s dist status i ≡ false) where
+    abbrev x : ℕ
+    x = statusOf status i
+
+    -- the clauses
+    clauses : (not (eqb x 0 || (eqb x 1 || eqb x 3)) ≡ false)
+        × ((onBorder s i && not (eqb x 0)) ≡ false) × ((isInside dist i && not (eqb x 1)) ≡ false)
+    unfolding unfitVoxel
+    clauses =
+        let p = or-false (not (eqb x 0 || (eqb x 1 || eqb x 3))) _ e in
+        let q = or-false (onBorder s i && not (eqb x 0)) _ (p .1) in
+        (p .0, q .0, q .1)
+
+    fit-known : Known x
+    fit-known =
+        elim (or-true (eqb x 0) _ (not-false _ (clauses .0))) [
+          | inl a ↦ inl (eqb-true x 0 a)
+          | inr b ↦ inr (⊎-elim (λ a. inl (eqb-true x 1 a)) (λ a. inr (eqb-true x 3 a)) (or-true (eqb x 1) (eqb x 3) b))
+        ]
+
+    fit-border : onBorder s i ≡ true → x ≡ 0
+    fit-border b = eqb-true x 0 (not-false (eqb x 0) (ap (λ (u : Bool). u && not (eqb x 0)) (sym b) ∙ clauses .1))
+
+    fit-inner : isInside dist i ≡ true → x ≡ 1
+    fit-inner b = eqb-true x 1 (not-false (eqb x 1) (ap (λ (u : Bool). u && not (eqb x 1)) (sym b) ∙ clauses .2))
+
+  -- past the end of the buffers the status is 0, and so is the distance
+  pub fit-voxels : Lent s dist status → ((i : ℕ) → i < size s → unfitVoxel s dist status i ≡ false) → FitVoxels s dist status
+  fit-voxels lent fits =
+      record {
+        lent = lent;
+        known =
+            λ i.
+            elim (two (ltb i (size s))) [
+              | inl e ↦ fit-known i (fits i (ltb-true _ _ e))
+              | inr e ↦ inl (let h : length status ≤ i = omega (arith, lent .statuses, ltb-false i (size s) e) in List·getD-eq-default status 0 h)
+            ];
+        border = λ i h. fit-border i (fits i h);
+        inner =
+            λ i b.
+            elim (two (ltb i (size s))) [
+              | inl e ↦ fit-inner i (fits i (ltb-true _ _ e)) b
+              | inr e ↦ not-both (isInside dist i) b (beyond i (omega (arith, lent .distances, ltb-false i (size s) e)))
+            ];
+      }
+    where
+      beyond : (i : ℕ) → length dist ≤ i → isInside dist i ≡ false
+      beyond i h = unfold isInside in ap isNegative (List·getD-eq-default dist (pos 0) h)
+
+-- ---- the state
+
+module _ (g : State) where
+  abbrev r : Record
+  r = g .rec
+
+  abbrev n : ℕ
+  n = size (g .rec .sides)
+
+  lent-to : fitSides (r .sides) ≡ true → wrongLength g ≡ false → Lent (r .sides) (g .dist) (g .status)
+  unfolding wrongLength
+  lent-to e f =
+      let l = and-true (eqb (length (g .dist)) n) (eqb (length (g .status)) n) (not-false _ f) in
+      record { sides = e; distances = eqb-true _ _ (l .0); statuses = eqb-true _ _ (l .1) }
+
+  pub fit-state : AllHold (stateChecks g) → FitState g
+  unfolding unfit unfitCounts voxels
+  fit-state h =
+      let u = or-false (unfitCounts r) (any (unfitVoxel (r .sides) (g .dist) (g .status)) (from 0 n)) (h .1 .1 .0) in
+      let a = or-false (ltb (r .allowed) (r .openings)) _ (u .0) in
+      let b = or-false (ltb n (r .removals)) _ (a .1) in
+      let c = or-false (ltb (27 * n) (r .examinations)) _ (b .1) in
+      record {
+        voxels = fit-voxels (r .sides) (g .dist) (g .status) (lent-to (not-false _ (h .0)) (h .1 .0)) (none-below _ n (u .1));
+        openings = ltb-false _ _ (a .0);
+        removals = ltb-false _ _ (b .0);
+        examinations = ltb-false _ _ (c .0);
+        euler = ltb-false _ _ (c .1);
+      }
+
+  pub working : AllHold (workingChecks g) → Working g
+  working h = let p = hold-append (stateChecks g) (8 when r .finished ∷ []) h in record { fit = fit-state (p .0); unfinished = p .1 .0 }
+
+  pub ended : AllHold (finishedChecks g) → Ended g
+  ended h = let p = hold-append (stateChecks g) (9 when not (r .finished) ∷ []) h in record { fit = fit-state (p .0); finished = not-false _ (p .1 .0) }
+
+  pub takeable : (i : ℕ) → AllHold (takeChecks i g) → Takeable i g
+  takeable i h =
+      let p = hold-append (workingChecks g) (voxelChecks i g) h in
+      let v = p .1 in
+      record {
+        working = working (p .0);
+        below = leb-false n i (v .0);
+        kept = not-false _ (v .1 .0);
+        outer = v .1 .1 .0;
+        passing = not-false _ (v .1 .1 .1 .0);
+      }
+
+  pub quiet : AllHold (finishChecks g) → Quiet g
+  quiet h = let p = hold-append (workingChecks g) (quietChecks g) h in record { working = working (p .0); quiet = p .1 .0 }
+
+  pub openable : AllHold (openChecks g) → Openable g
+  openable h =
+      let p = hold-append (workingChecks g) (quietChecks g ++ openingChecks g) h in
+      record {
+        quiet = record { working = working (p .0); quiet = p .1 .0 };
+        left = eqb-false _ _ (p .1 .1 .0);
+        found = p .1 .1 .1 .0;
+      }
+
+-- ---- and a state that is fit passes checks 1, 2 and 7
+
+module _ (s : Sides) (dist : List ℤ) (status : List ℕ) (fit : FitVoxels s dist status) where
+  known-test : (x : ℕ) → Known x → not (eqb x 0 || (eqb x 1 || eqb x 3)) ≡ false
+  known-test x (inl e) = ap (λ (n : ℕ). not (eqb n 0 || (eqb n 1 || eqb n 3))) e
+  known-test x (inr (inl e)) = ap (λ (n : ℕ). not (eqb n 0 || (eqb n 1 || eqb n 3))) e
+  known-test x (inr (inr e)) = ap (λ (n : ℕ). not (eqb n 0 || (eqb n 1 || eqb n 3))) e
+
+  -- a clause of number 7 that has a condition
+  under : (p : Bool) (x n : ℕ) → (p ≡ true → x ≡ n) → (p && not (eqb x n)) ≡ false
+  under true x n h = ap not (eq-eqb x n (h refl))
+  under false x n h = refl
+
+  fit-voxel : (i : ℕ) → i < size s → unfitVoxel s dist status i ≡ false
+  unfolding unfitVoxel
+  fit-voxel i h =
+      ap₂ _||_ (known-test (statusOf status i) (fit .known i))
+      (ap₂ _||_ (under (onBorder s i) (statusOf status i) 0 (fit .border i h)) (under (isInside dist i) (statusOf status i) 1 (fit .inner i)))
+
+pub state-fits : (g : State) → FitState g → AllHold (stateChecks g)
+unfolding unfit unfitCounts wrongLength voxels
+state-fits g fit =
+    let s = g .rec .sides in
+    let lent = fit .voxels .lent in (
+      ap not (lent .sides),
+      (
+        ap₂ (λ (p q : Bool). not (p && q)) (eq-eqb _ _ (lent .distances)) (eq-eqb _ _ (lent .statuses)),
+        (
+          ap₂ _||_
+              (ap₂ _||_ (le-ltb _ _ (fit .openings)) (ap₂ _||_ (le-ltb _ _ (fit .removals)) (ap₂ _||_ (le-ltb _ _ (fit .examinations)) (le-ltb _ _ (fit .euler)))))
+              (below-none _ (size s) (fit-voxel s (g .dist) (g .status) (fit .voxels))),
+          tt,
+        ),
+      ),
+    )

@@ -1,0 +1,314 @@
+-- No list of calls makes a begun grid unfit, and a carve that is long enough leaves nothing pending.
+use mathlib.Core.Path.{_≡_, refl, ap, ap₂, sym, _∙_, subst}
+use mathlib.Core.Logic.{inl, inr}
+use mathlib.Core.Bool.{Bool, true, false, not, cond, _&&_, _||_, true≢false}
+use mathlib.Core.List.{List, [], _∷_, map}
+use mathlib.Core.Option.{Option, none, some}
+use Prim.Native.Nat.{ℕ, suc, _+_, _*_, _≤_, _<_}
+use native.Mathlib.Omega.{arith}
+use lib.IntN.{ℤ, pos, natAbs, _+ℤ_, _-ℤ_, +ℤ-idr}
+use lib.Dec.{eqb}
+use lib.ListN.{length, List·getD-eq-default}
+use native.Mathlib.Decide.{decLt}
+use borrow.Author.Tests.{ne-eqb}
+use Rattle.cells.specs.Cells.{test}
+use Rattle.closed_sets.proofs.EveryBlock.{k-few, m-few}
+use Rattle.prelude.proofs.Bools.{and-true, not-false, not-both, two}
+use Rattle.prelude.proofs.Ranges.{getD-map-from, length-map-from, none-below}
+use Rattle.prelude.proofs.Integers.{difference-size, sum-size}
+use Rattle.rules.specs.declared.Sides.{Sides}
+use Rattle.rules.specs.declared.Record.{Record}
+use Rattle.rules.specs.Grid.{fitSides, size, from, voxel, voxels, onBorder, block, isNegative, distanceAt}
+use Rattle.rules.specs.Checks.{_when_, AllHold}
+use Rattle.rules.specs.Answer.{done, Outcome, Buffers, untouched, buffers, Carving}
+use Rattle.rules.specs.Begin.{exposed, isIn, inside, inBox, greatestFacing, workedAt, worked, statusAt, startStatus, newRecord, beginChecks, begun, begin}
+use Rattle.rules.specs.Meaning.{found}
+use Rattle.rules.specs.Status.{Progress, statusOf, keptByte, pendingByte, isKept, isPending, anyPending, testAt, removable, openable, carving}
+use Rattle.rules.specs.Machine.{State, state, after, lentTo, isInside, outside, farther, count, stateChecks, workingChecks, takeChecks, openChecks, finishChecks, carved, carve, taken, take, toOpen, isNone, theVoxel, opened, openNext, closed, closedAt, asFinished, finishedOf, finish}
+use Rattle.rules.specs.Fit.{Lent, Known, FitVoxels, FitState, Working, Takeable, Quiet, Openable}
+use Rattle.rules.specs.Demand.{Call, carveUpTo, takeAt, openOne, finishIt, call, run, NeverUnfit, CarveEnds}
+use Rattle.rules.proofs.Checks.{by-checks, append-hold, unless-held}
+use Rattle.rules.proofs.Foremost.{farther-order, first-foremost}
+use Rattle.rules.proofs.Fit as checked
+use Rattle.rules.proofs.Fit.{state-fits}
+use Rattle.rules.proofs.FitKept.{known-kept, known-settled, inside-below, fit-without, fit-carving}
+use Rattle.rules.proofs.Topology.Count.{found-all, found-omit}
+use Rattle.rules.proofs.Topology.Around.{Inner}
+use Rattle.rules.proofs.Topology.Steps.{Tally, Sound}
+use Rattle.rules.proofs.Topology.Calls.{tallyOf, Good, call-keeps, run-keeps, carving-ends}
+use Rattle.rules.proofs.Demand.{begun-good, begun-inside}
+
+-- what the calls keep besides: the bytes are fit, openings are allowed and removals too, and each opening moves the Euler number by 8 at most
+record Fair (g : State) : Type 0 where
+  voxels : FitVoxels (g .rec .sides) (g .dist) (g .status)
+  openings : g .rec .openings ≤ g .rec .allowed
+  removals : g .rec .openings ≤ g .rec .removals
+  euler : natAbs (g .rec .euler) ≤ 1 + 8 * g .rec .openings
+
+-- ---- each call
+
+module _ (g : State) (fair : Fair g) where
+  abbrev s : Sides
+  s = g .rec .sides
+
+  same-euler : natAbs (g .rec .euler +ℤ pos 0) ≤ 1 + 8 * (g .rec .openings + 0)
+  same-euler = omega (arith, fair .euler, ap natAbs (+ℤ-idr (g .rec .euler)))
+
+  fair-carve : (limit : ℕ) → Fair (call (carveUpTo limit) g .end)
+  unfolding call carve carved
+  fair-carve limit =
+      by-checks (untouched (lentTo g)) (carved limit g) (λ o. Fair (after (λ r. r .next) g o)) (workingChecks g) (λ n. fair)
+      (λ h. record {
+        voxels = fit-carving s (g .dist) (farther (g .dist)) (farther-order (g .dist)) limit (g .status) (fair .voxels);
+        openings = omega (arith, fair .openings);
+        removals = omega (arith, fair .removals);
+        euler = same-euler;
+      })
+
+  without-free : (i : ℕ) → isInside (g .dist) i ≡ false → outside (g .dist) i ≡ true
+  unfolding outside
+  without-free i e = ap not e
+
+  fair-take : (i : ℕ) → Fair (call (takeAt i) g .end)
+  unfolding call take taken
+  fair-take i =
+      by-checks (untouched (lentTo g)) (taken i g) (λ o. Fair (after (λ r. r .next) g o)) (takeChecks i g) (λ n. fair)
+      (λ h. let t = checked.takeable g i h in record {
+        voxels = fit-without s (g .dist) (g .status) (fair .voxels) i (without-free i (t .outer));
+        openings = omega (arith, fair .openings);
+        removals = omega (arith, fair .removals);
+        euler = same-euler;
+      })
+
+  opened-euler : (i : ℕ) → natAbs (g .rec .euler +ℤ (pos (testAt s (g .status) i .k) -ℤ pos (testAt s (g .status) i .m))) ≤ 1 + 8 * (g .rec .openings + 1)
+  unfolding testAt
+  opened-euler i =
+      let kept = block s (isKept (g .status)) i in
+      let h = m-few kept in
+      let d = difference-size (test kept .k) (test kept .m) 8 (k-few kept) (omega arith) in
+      omega (arith, fair .euler, sum-size (g .rec .euler) (pos (test kept .k) -ℤ pos (test kept .m)))
+
+  fair-open : Fair (call openOne g .end)
+  unfolding call openNext
+  fair-open =
+      by-checks (untouched (lentTo g)) (opened (theVoxel (toOpen g)) g) (λ o. Fair (after (λ r. r .next) g o)) (openChecks g) (λ n. fair)
+      (λ h. through (checked.openable g h) (toOpen g) refl)
+    where
+      through : Openable g → (o : Option ℕ) → toOpen g ≡ o → Fair (after (λ r. r .next) g (opened (theVoxel o) g))
+      through w none e = absurd (true≢false (ap isNone (sym e) ∙ w .found))
+      through w (some i) e =
+          unfold opened in
+          let first = first-foremost s (farther (g .dist)) (farther-order (g .dist)) (openable s (outside (g .dist)) (g .status)) i (unfold toOpen in e) in
+          let o = and-true (removable (outside (g .dist)) (g .status) i) (exposed s (isKept (g .status)) i) (unfold openable in first .chosen) in
+          let r = and-true (isKept (g .status) i) (outside (g .dist) i) (unfold removable in o .0) in
+          let left = w .left in
+          record {
+            voxels = fit-without s (g .dist) (g .status) (fair .voxels) i (r .1);
+            openings = omega (arith, fair .openings);
+            removals = omega (arith, fair .removals);
+            euler = opened-euler i;
+          }
+
+  -- ---- finish: the kept voxels are just those of negative distance
+
+  abbrev finished : List ℤ
+  finished = map (closedAt (g .dist) (g .status)) (voxels s)
+
+  length-finished : length finished ≡ size s
+  unfolding voxels
+  length-finished = length-map-from (closedAt (g .dist) (g .status)) (size s)
+
+  not-waiting : anyPending s (g .status) ≡ false → (i : ℕ) → i < size s → pendingByte (statusOf (g .status) i) ≡ false
+  unfolding anyPending voxels isPending
+  not-waiting quiet i h = none-below (isPending (g .status)) (size s) quiet i h
+
+  finished-at : (i : ℕ) → i < size s → distanceAt finished i ≡ closedAt (g .dist) (g .status) i
+  unfolding voxels
+  finished-at i h = getD-map-from (closedAt (g .dist) (g .status)) (pos 0) (size s) i h
+
+  finished-inner : anyPending s (g .status) ≡ false → (i : ℕ) → isInside finished i ≡ true → statusOf (g .status) i ≡ 1
+  unfolding isInside isKept closedAt
+  finished-inner quiet i e =
+      let h : i < size s = omega (arith, inside-below finished i (unfold isInside in e), length-finished) in
+      go (keptByte (statusOf (g .status) i)) refl h (ap isNegative (sym (finished-at i h)) ∙ e)
+    where
+      go : (k : Bool) → keptByte (statusOf (g .status) i) ≡ k → i < size s → isNegative (closedAt (g .dist) (g .status) i) ≡ true → statusOf (g .status) i ≡ 1
+      go true q h n = known-settled (statusOf (g .status) i) (fair .voxels .known i) q (not-waiting quiet i h)
+      go false q h n = fair .voxels .inner i (subst (λ (k : Bool). isNegative (cond k (closed (distanceAt (g .dist) i)) (distanceAt (g .dist) i)) ≡ true) q n)
+
+  fair-finish : Fair (call finishIt g .end)
+  unfolding call finish finishedOf
+  fair-finish =
+      by-checks (untouched (lentTo g)) (finishedOf g) (λ o. Fair (after (λ r. r) g o)) (finishChecks g) (λ n. fair)
+      (λ h. let f = fair .voxels in record {
+        voxels = record {
+          lent = record { sides = f .lent .sides; distances = length-finished; statuses = f .lent .statuses };
+          known = f .known;
+          border = f .border;
+          inner = finished-inner (checked.quiet g h .quiet);
+        };
+        openings = fair .openings;
+        removals = fair .removals;
+        euler = fair .euler;
+      })
+
+fair-call : (c : Call) (g : State) → Fair g → Fair (call c g .end)
+fair-call (carveUpTo limit) g fair = fair-carve g fair limit
+fair-call (takeAt i) g fair = fair-take g fair i
+fair-call openOne g fair = fair-open g fair
+fair-call finishIt g fair = fair-finish g fair
+
+-- ---- any list of calls
+
+module _ (S held : ℕ → Bool) (total : ℕ) where
+  record Both (g : State) : Type 0 where
+    good : Good S held total g
+    fair : Fair g
+
+  run-both : (cs : List Call) (g : State) → Both g → Both (run cs g .end)
+  unfolding run
+  run-both [] g b = b
+  run-both (c ∷ cs) g b =
+      run-both cs (call c g .end) (record { good = call-keeps S held total c g (b .good) .good; fair = fair-call c g (b .fair) })
+
+  -- S has a voxel, and the body at the start no more than the grid
+  both-fit : (g : State) → Both g → total ≤ size (g .rec .sides) → (i : ℕ) → S i ≡ true → FitState g
+  both-fit g b few i e =
+      let inv = b .good .sound .inv in
+      let k = inv .inside i e in
+      let some-kept = found-omit (g .rec .sides) (isKept (g .status)) i (inv .shape .inner i k .0) k in
+      record {
+        voxels = b .fair .voxels;
+        openings = b .fair .openings;
+        removals = omega (arith, inv .spent);
+        examinations = omega (arith, inv .bounded, inv .spent);
+        euler = omega (arith, b .fair .euler, b .fair .removals, inv .spent);
+      }
+
+-- ---- a grid that begin accepts
+
+inner-border : (s : Sides) (i : ℕ) → Inner s (voxel s i) → onBorder s i ≡ false
+unfolding onBorder
+inner-border s i u = ap₂ _||_ (off (u .x-low) (u .x-high)) (ap₂ _||_ (off (u .y-low) (u .y-high)) (off (u .z-low) (u .z-high)))
+  where
+    off : {side x : ℕ} → 1 ≤ x → suc x < side → (eqb x 0 || eqb (suc x) side) ≡ false
+    off {side} {x} l h = ap₂ _||_ (ne-eqb x 0 (λ e. omega arith)) (ne-eqb (suc x) side (λ e. omega arith))
+
+-- bytes that are known, and sound, are fit
+module _ (s : Sides) (S held : ℕ → Bool) (total : ℕ) (dist : List ℤ) (status : List ℕ) (t : Tally) (sound : Sound s S held total status t)
+    (lent : Lent s dist status) (known : (i : ℕ) → Known (statusOf status i)) (signs : (i : ℕ) → isInside dist i ≡ true → S i ≡ true) where
+  gone-border : (i : ℕ) → onBorder s i ≡ true → isKept status i ≡ false
+  gone-border i b =
+      elim (two (isKept status i)) [ inl e ↦ not-both (onBorder s i) b (inner-border s i (sound .inv .shape .inner i e .1)) | inr e ↦ e ]
+
+  kept-inside : (i : ℕ) → isInside dist i ≡ true → (isKept status i ≡ true) × (isPending status i ≡ false)
+  kept-inside i e =
+      let h = signs i e in
+      (sound .inv .inside i h, elim (two (isPending status i)) [ inl p ↦ not-both (S i) h (sound .inv .waiting i p .1) | inr p ↦ p ])
+
+  fit-sound : FitVoxels s dist status
+  unfolding isKept isPending
+  fit-sound =
+      record {
+        lent = lent;
+        known = known;
+        border = λ i h b. known-kept (statusOf status i) (known i) (gone-border i b);
+        inner = λ i e. let k = kept-inside i e in known-settled (statusOf status i) (known i) (k .0) (k .1);
+      }
+
+-- the state as begin leaves it
+abbrev started : Sides → ℕ → List ℤ → State
+started s T values = state (newRecord s T) (worked s values (inside s values)) (startStatus s (inside s values) (inBox s (inside s values)))
+
+start-known : (s : Sides) (S : List ℕ) (kept : ℕ → Bool) (i : ℕ) → Known (statusOf (startStatus s S kept) i)
+unfolding startStatus voxels statusAt
+start-known s S kept i =
+    elim (decLt i (size s)) [
+      | yes h ↦ subst Known (sym (getD-map-from (statusAt s S kept) 0 (size s) i h)) (byte (kept i) (not (isIn S i) && exposed s kept i))
+      | no n ↦ inl (List·getD-eq-default (map (statusAt s S kept) (from 0 (size s))) 0 (omega (arith, length-map-from (statusAt s S kept) (size s))))
+    ]
+  where
+    byte : (t u : Bool) → Known (cond t (cond u 3 1) 0)
+    byte true true = inr (inr refl)
+    byte true false = inr (inl refl)
+    byte false u = inl refl
+
+module _ (s : Sides) (T : ℕ) (values dist : List ℤ) (status : List ℕ) (accepted : AllHold (beginChecks s values dist status)) (calls : List Call) where
+  abbrev S : List ℕ
+  S = inside s values
+
+  abbrev total : ℕ
+  total = found s (inBox s S)
+
+  abbrev start-end : State
+  start-end = run calls (started s T values) .end
+
+  good-begun : Good (isIn S) (λ j. false) total (started s T values)
+  good-begun = begun-good s values dist status accepted T
+
+  length-worked : length (worked s values S) ≡ size s
+  unfolding worked voxels
+  length-worked = length-map-from (workedAt s values S (greatestFacing s values S)) (size s)
+
+  fit-begun : FitVoxels s (worked s values S) (startStatus s S (inBox s S))
+  fit-begun =
+      fit-sound s (isIn S) (λ j. false) total (worked s values S) (startStatus s S (inBox s S)) (tallyOf (newRecord s T)) (good-begun .sound)
+      (record { sides = not-false (fitSides s) (accepted .0); distances = length-worked; statuses = good-begun .sound .lent })
+      (start-known s S (inBox s S))
+      (λ i e. sym (good-begun .signs refl i (omega (arith, inside-below (worked s values S) i e, length-worked))) ∙ e)
+
+  both-end : Both (isIn S) (λ j. false) total start-end
+  both-end =
+      run-both (isIn S) (λ j. false) total calls (started s T values)
+      (record { good = good-begun; fair = record { voxels = fit-begun; openings = omega arith; removals = omega arith; euler = omega arith } })
+
+  same-sides : start-end .rec .sides ≡ s
+  same-sides = run-keeps (isIn S) (λ j. false) total calls (started s T values) good-begun .adds .sides
+
+  end-holds : AllHold (stateChecks start-end)
+  end-holds =
+      let first = begun-inside s values dist status accepted in
+      state-fits start-end
+      (both-fit (isIn S) (λ j. false) total start-end both-end
+      (subst (λ (t : Sides). total ≤ size t) (sym same-sides) (found-all s (inBox s S))) (first .0) (first .1))
+
+  end-quiet : (limit : ℕ) → 27 * size s ≤ limit → start-end .rec .finished ≡ false → anyPending s (carved limit start-end .lent .status) ≡ false
+  unfolding carved
+  end-quiet limit h f =
+      subst (λ (t : Sides). anyPending t (carving (start-end .rec .sides) (outside (start-end .dist)) (farther (start-end .dist)) limit (start-end .status) .status) ≡ false) same-sides
+      (carving-ends (start-end .rec .sides) (isIn S) (λ j. false) (outside (start-end .dist)) (farther (start-end .dist)) (farther-order (start-end .dist)) total
+      free-is limit (start-end .status) (tallyOf (start-end .rec)) (both-end .good .sound) (omega (arith, found-all s (inBox s S))))
+    where
+      free-is : (j : ℕ) → j < size (start-end .rec .sides) → outside (start-end .dist) j ≡ not (isIn S j)
+      free-is j l = unfold outside in ap not (both-end .good .signs f j l)
+
+  end-carved : (limit : ℕ) → start-end .rec .finished ≡ false → carve limit start-end ≡ carved limit start-end
+  unfolding carve
+  end-carved limit f =
+      unless-held (untouched (lentTo start-end)) (carved limit start-end) (workingChecks start-end)
+      (append-hold (stateChecks start-end) (8 when start-end .rec .finished ∷ []) end-holds (f, tt))
+
+-- what holds of every grid that begin accepts, holds of the state that it hands out
+module _ (P : State → Type 0) where
+  begun-state : (s : Sides) (T : ℕ) (values dist : List ℤ) (status : List ℕ) → (AllHold (beginChecks s values dist status) → P (started s T values))
+      → (r : Record) → begin s T values dist status .answer ≡ done r
+      → let b = begin s T values dist status in P (state r (b .lent .dist) (b .lent .status))
+  unfolding begin begun
+  begun-state s T values dist status holds r e =
+      by-checks (untouched (buffers dist status)) (begun s T values) (λ o. o .answer ≡ done r → P (state r (o .lent .dist) (o .lent .status)))
+      (beginChecks s values dist status)
+      (λ n f. let z : _≡_ {A = ℕ} 0 1 = cc in let y : ⊥ = omega arith in absurd y)
+      (λ p f. let q : newRecord s T ≡ r = cc in
+      subst (λ (r : Record). P (state r (worked s values (inside s values)) (startStatus s (inside s values) (inBox s (inside s values))))) q (holds p)) e
+
+pub never-unfit : NeverUnfit
+never-unfit s T values dist status r e calls =
+    begun-state (λ g. AllHold (stateChecks (run calls g .end))) s T values dist status (λ p. end-holds s T values dist status p calls) r e
+
+pub carve-ends : CarveEnds
+carve-ends s T values dist status r e calls limit h =
+    begun-state (λ g. let end = run calls g .end in
+    end .rec .finished ≡ false → (carve limit end ≡ carved limit end) × (anyPending s (carve limit end .lent .status) ≡ false)) s T values dist status
+    (λ p f.
+    let c = end-carved s T values dist status p calls limit f in
+    (c, ap (λ (o : Outcome Buffers Carving). anyPending s (o .lent .status)) c ∙ end-quiet s T values dist status p calls limit h f)) r e

@@ -1,0 +1,92 @@
+-- Document 01, "What the second supplier may hold us to" and "Shortcuts that break it": machines that must be rejected, as definitions, and
+-- which clause of demand 3 rejects each on a small grid. proofs/Wrong.antt shows it by computation.
+use mathlib.Core.Path.{_≡_}
+use mathlib.Core.Bool.{Bool, true, false, _&&_}
+use mathlib.Core.List.{List, [], _∷_}
+use mathlib.Core.Option.{Option, none, some}
+use Prim.Native.Nat.{ℕ, zero, suc}
+use lib.Dec.{eqb}
+use lib.IntN.{ℤ, pos}
+use lib.ListN.{length, set}
+use Rattle.cells.specs.Groups.{those, groups}
+use Rattle.cells.specs.Cells.{places, passes}
+use Rattle.rules.specs.declared.Sides.{Sides}
+use Rattle.rules.specs.Grid.{apart, Voxel, voxel, block}
+use Rattle.rules.specs.Answer.{Reply, refused}
+use Rattle.rules.specs.Status.{isKept, isPending, firstOf, testAt, without, statusOf, rested}
+use Rattle.rules.specs.Machine.{State, state, outside, farther, count, carve, take, openNext, finish}
+use Rattle.rules.specs.Begin.{begin}
+use Rattle.rules.specs.Demand.{Sums, Demand}
+use Rattle.rules.specs.Cases.{sides, carvedTo, valuesC, caseC, caseD, valuesD, valuesArc, arc}
+
+-- ---- a carve by another rule: whether the voxel goes, and the status bytes after it went
+
+unfoldable pub carvingBy : (List ℕ → ℕ → Bool) → (List ℕ → ℕ → List ℕ) → ℕ → State → State
+carvingBy goes gone zero g = g
+carvingBy goes gone (suc limit) g =
+    elim (firstOf (g .rec .sides) (farther (g .dist)) (isPending (g .status))) [
+      | none ↦ g
+      | some i ↦ carvingBy goes gone limit (examinedBy (goes (g .status) i) i)
+    ]
+  where
+    examinedBy : Bool → ℕ → State
+    examinedBy true i = state (count (g .rec) 1 1 0 (pos 0)) (g .dist) (gone (g .status) i)
+    examinedBy false i = state (count (g .rec) 1 0 0 (pos 0)) (g .dist) (set (g .status) i (rested (statusOf (g .status) i)))
+
+-- the rule's own parts
+abbrev pub right : State → List ℕ → ℕ → Bool
+right g status i = passes (testAt (g .rec .sides) status i)
+
+abbrev pub wakes : State → List ℕ → ℕ → List ℕ
+wakes g status i = without (g .rec .sides) (outside (g .dist)) status i
+
+-- it keeps the whole box but clears pending
+unfoldable pub onlyClears : State → State
+onlyClears g = carvingBy (λ status i. false) (wakes g) 9 g
+
+-- it tests k alone: it drills C
+unfoldable pub byKAlone : State → State
+byKAlone g = carvingBy (λ status i. eqb (testAt (g .rec .sides) status i .k) 1) (wakes g) 9 g
+
+-- it drops a failed voxel for good: a removal wakes nobody
+unfoldable pub dropsFailed : State → State
+dropsFailed g = carvingBy (right g) (λ status i. set status i 0) 9 g
+
+-- it counts groups of kept neighbours that share faces, in place of groups of touched cells
+abbrev pub faceGroups : Sides → List ℕ → ℕ → ℕ
+faceGroups s status i = length (groups (λ p q. eqb (apart (at p) (at q)) 1) (those (block s (isKept status) i) places))
+  where
+    at : ℕ → Voxel
+    at p = voxel (sides 3 3 3) p
+
+unfoldable pub byFaceGroups : State → State
+byFaceGroups g = carvingBy (λ status i. eqb (faceGroups (g .rec .sides) status i) 1 && eqb (testAt (g .rec .sides) status i .m) 1) (wakes g) 9 g
+
+-- it invents an examination, or an Euler number
+unfoldable pub invents : ℕ → ℤ → State → State
+invents examined change g = state (count (g .rec) examined 0 0 change) (g .dist) (g .status)
+
+-- ---- what is proved
+
+-- demand 3 fails of the state, whatever the answers were, and whatever body it is said to have started from
+abbrev pub Rejected : Sides → List ℤ → State → Type 0
+Rejected s values g = (start : ℕ → Bool) (answers : Sums) → Demand s values start g answers → ⊥
+
+-- a call that always answers the same is not the rule
+abbrev pub NoConstant : {I A : Type 0} → (I → Reply A) → Type 0
+NoConstant {I} {A} call = (c : Reply A) → ((i : I) → call i ≡ c) → ⊥
+
+pub record WrongMachines : Type 0 where
+  pub only-clears : Rejected (sides 4 4 3) valuesD (onlyClears caseD)
+  pub k-alone : Rejected (sides 5 5 3) valuesC (byKAlone (caseC 0))
+  pub drops-failed : Rejected (sides 5 5 3) valuesArc (dropsFailed arc)
+  pub face-groups : Rejected (sides 4 4 3) valuesD (byFaceGroups caseD)
+  pub invented-euler : Rejected (sides 4 4 3) valuesD (invents 0 (pos 1) caseD)
+  -- counts that the record has and the answers have not
+  pub invented-examination : (start : ℕ → Bool) (answers : Sums) → answers .examined ≡ 0 → Demand (sides 4 4 3) valuesD start (invents 1 (pos 0) caseD) answers → ⊥
+  pub begin-varies : NoConstant (λ (T : ℕ). begin (sides 4 4 3) T valuesD (caseD .dist) (caseD .status) .answer)
+  pub begin-accepts : (n : ℕ) → begin (sides 4 4 3) 0 valuesD (caseD .dist) (caseD .status) .answer ≡ refused n → ⊥
+  pub carve-varies : NoConstant (λ (limit : ℕ). carve limit caseD .answer)
+  pub take-varies : NoConstant (λ (i : ℕ). take i caseD .answer)
+  pub open-varies : NoConstant (λ (T : ℕ). openNext (carvedTo 9 (caseC T)) .answer)
+  pub finish-varies : NoConstant (λ (limit : ℕ). finish (carvedTo limit caseD) .answer)

@@ -1,0 +1,4 @@
+pub mod Argmax
+pub mod Surface
+pub mod Opening
+pub mod Closing

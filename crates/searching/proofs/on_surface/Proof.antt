@@ -1,0 +1,76 @@
+-- `searching::on_surface` meets its contract: bit 0 of the six bytes joined.
+use mathlib.Core.Bool.{Bool, not, _&&_}
+use mathlib.Core.Path.{refl, ap}
+use Prim.Native.Nat.{ℕ, _+_, _-_}
+use borrow.Author.Needs.{needs}
+use Rattle.rules.specs.Status.{statusOf, keptByte, isKept}
+use Rattle.neighbourhood.proofs.Gathering.{kept-and}
+use Rattle.searching.specs.Argmax.{enclosed, surfaceAt}
+use Rattle.searching.proofs.on_surface.Statement.{statement}
+use Rattle.searching.proofs.on_surface.Tie as tie
+
+sub-near : tie.Need-sub-near
+sub-near c = search needs
+
+shared-slice-read-near : tie.Need-shared-slice-read-near
+shared-slice-read-near c = search needs
+
+sub-near-2 : tie.Need-sub-near-2
+sub-near-2 c = search needs
+
+shared-slice-read-near-2 : tie.Need-shared-slice-read-near-2
+shared-slice-read-near-2 c = search needs
+
+sub-near-3 : tie.Need-sub-near-3
+sub-near-3 c = search needs
+
+shared-slice-read-near-3 : tie.Need-shared-slice-read-near-3
+shared-slice-read-near-3 c = search needs
+
+add-near : tie.Need-add-near
+add-near c = search needs
+
+shared-slice-read-near-4 : tie.Need-shared-slice-read-near-4
+shared-slice-read-near-4 c = search needs
+
+add-near-2 : tie.Need-add-near-2
+add-near-2 c = search needs
+
+shared-slice-read-near-5 : tie.Need-shared-slice-read-near-5
+shared-slice-read-near-5 c = search needs
+
+add-near-3 : tie.Need-add-near-3
+add-near-3 c = search needs
+
+shared-slice-read-near-6 : tie.Need-shared-slice-read-near-6
+shared-slice-read-near-6 c = search needs
+
+shared-slice-read-result : tie.Need-shared-slice-read-result
+shared-slice-read-result c = search needs
+
+returns : tie.Need-returns
+unfolding surfaceAt enclosed isKept keptByte
+returns c =
+    let a = c .before .before .before .before .before .before .before .args in
+    let x : ℕ → ℕ = statusOf (a .status .now) in
+    ap (λ (t : Bool). keptByte (x (a .i)) && not t)
+    (kept-and (x (a .i - a .l)) _ (kept-and (x (a .i - a .a)) _ (kept-and (x (a .i - 1)) _ (kept-and (x (a .i + 1)) _ (kept-and (x (a .i + a .a)) (x (a .i + a .l)) refl)))))
+
+pub on-surface-spec : {M : Type 1} → statement M
+on-surface-spec =
+    tie.close
+    (tie.spec
+    sub-near
+    shared-slice-read-near
+    sub-near-2
+    shared-slice-read-near-2
+    sub-near-3
+    shared-slice-read-near-3
+    add-near
+    shared-slice-read-near-4
+    add-near-2
+    shared-slice-read-near-5
+    add-near-3
+    shared-slice-read-near-6
+    shared-slice-read-result
+    returns)

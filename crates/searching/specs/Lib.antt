@@ -1,0 +1,2 @@
+pub mod Argmax
+pub mod Closing

@@ -1,0 +1,200 @@
+// Scans of all voxels: whether one is pending, the voxel to open, and the distances of a finished grid.
+ghost use mathlib.Core.Path.{_≡_};
+ghost use mathlib.Core.List.{map};
+ghost use Prim.Native.Nat.{_+_, _-_, _≤_, _<_};
+ghost use lib.ListN.{length};
+ghost use Rattle.cells.specs.Groups.{any};
+ghost use Rattle.rules.specs.Grid.{from};
+ghost use Rattle.rules.specs.Status.{isPending, firstOf, openable};
+ghost use Rattle.rules.specs.Machine.{outside, farther, closedAt};
+ghost use Rattle.searching.specs.Argmax.{found, surfaceAt, heightOf, heightAt, keyAt, rank, higher, heldOf, Greatest, Holding, Leading, Span, Peak, Layers, Searchable};
+ghost use Rattle.searching.specs.Closing.{closedIf};
+use rules::Sides;
+
+// Some voxel is pending.
+pub fn any_pending(status: &[u8]) -> bool
+    ensures { λ r. ⌜ r ≡ any (isPending (now (status .entry))) (from 0 (length (now (status .entry)))) ⌝ }
+{
+    let mut found = false;
+    let mut i: usize = 0;
+    while i < status.len() {
+        found = found | (status[i] / 2 % 2 == 1);
+        i += 1;
+    }
+    found
+}
+
+// ---- the voxel to open
+
+// The voxel that comes first, if there is one.
+pub enum Found {
+    Nothing,
+    At(usize),
+}
+
+// The greatest height so far, and the first stretch of voxels that has it.
+pub struct Held {
+    pub height: i32,
+    pub first: usize,
+    pub end: usize,
+}
+
+// Whether voxel i is kept and one of the six that share a face with it is not.
+fn on_surface(status: &[u8], a: usize, l: usize, i: usize) -> bool
+    requires { ⌜ Span a l i (i + 1) (length (now status)) ⌝ }
+    ensures { λ r. ⌜ r ≡ surfaceAt (now (status .entry)) a l i ⌝ }
+{
+    let near = status[i - l]
+        & (status[i - a] & (status[i - 1] & (status[i + 1] & (status[i + a] & status[i + l]))));
+    (status[i] % 2 == 1) & !(near % 2 == 1)
+}
+
+// The distance of a voxel on the surface, -1 for any other.
+fn height(d: i32, surface: bool) -> i32
+    ensures { λ r. ⌜ r ≡ heightOf d surface ⌝ }
+{
+    if surface {
+        return d;
+    }
+    -1
+}
+
+fn higher(x: i32, y: i32) -> i32
+    ensures { λ r. ⌜ r ≡ higher x y ⌝ }
+{
+    if x < y {
+        return y;
+    }
+    x
+}
+
+fn height_at(dist: &[i32], status: &[u8], a: usize, l: usize, i: usize) -> i32
+    requires { ⌜ Span a l i (i + 1) (length (now status)) × (length (now dist) ≡ length (now status)) ⌝ }
+    ensures { λ r. ⌜ r ≡ heightAt (now (dist .entry)) (now (status .entry)) a l i ⌝ }
+{
+    let d = dist[i];
+    height(d, on_surface(status, a, l, i))
+}
+
+// The greatest height of a stretch of voxels, without its place: so that a compiler does many voxels at a time.
+fn greatest(dist: &[i32], status: &[u8], a: usize, l: usize, first: usize, end: usize) -> i32
+    requires { ⌜ Span a l first end (length (now status)) × (length (now dist) ≡ length (now status)) ⌝ }
+    ensures { λ r. ⌜ Greatest (keyAt (now (dist .entry)) (now (status .entry)) a l) first end (rank r) ⌝ }
+{
+    let mut best: i32 = -1;
+    let mut i = first;
+    while i < end {
+        best = higher(best, height_at(dist, status, a, l, i));
+        i += 1;
+    }
+    best
+}
+
+fn keep(best: Held, height: i32, first: usize, end: usize) -> Held
+    ensures { λ r. ⌜ r ≡ heldOf best height first end ⌝ }
+{
+    if best.height < height {
+        return Held {
+            height: height,
+            first: first,
+            end: end,
+        };
+    }
+    best
+}
+
+// How many voxels the next stretch has.
+fn stretch(left: usize) -> usize
+    requires { ⌜ 1 ≤ left ⌝ }
+    ensures { λ r. ⌜ (1 ≤ r) × (r ≤ left) ⌝ }
+{
+    if left < 64 {
+        return left;
+    }
+    64
+}
+
+// The first stretch of the greatest height; voxels before the first and after the last of these lie on the border.
+fn highest(dist: &[i32], status: &[u8], a: usize, l: usize) -> Held
+    requires { ⌜ Layers a l (length (now status)) × (length (now dist) ≡ length (now status)) ⌝ }
+    ensures { λ r. ⌜ Holding (keyAt (now (dist .entry)) (now (status .entry)) a l) (1 + a + l) (length (now (status .entry)) - (1 + a + l)) r ⌝ }
+{
+    let first = 1 + a + l;
+    let end = status.len() - first;
+    let mut best = Held {
+        height: -1,
+        first: first,
+        end: first,
+    };
+    let mut i = first;
+    while i < end {
+        let e = i + stretch(end - i);
+        best = keep(best, greatest(dist, status, a, l, i, e), i, e);
+        i = e;
+    }
+    best
+}
+
+// The first voxel of a stretch that has its greatest height.
+fn first_of(dist: &[i32], status: &[u8], a: usize, l: usize, held: Held) -> usize
+    requires { ⌜ Peak (keyAt (now dist) (now status) a l) a l (length (now status)) held × (length (now dist) ≡ length (now status)) ⌝ }
+    ensures { λ r. ⌜ Leading (keyAt (now (dist .entry)) (now (status .entry)) a l) (held .first) (held .end) (rank (held .height)) r ⌝ }
+{
+    let best = held.height;
+    let end = held.end;
+    let mut i = held.first;
+    while i < end {
+        let h = height_at(dist, status, a, l, i);
+        if h == best {
+            return i;
+        }
+        i += 1;
+    }
+    i
+}
+
+// The voxel to open: kept, outside S, with a face neighbour not kept, the farthest, the first among equals.
+pub fn to_open(s: Sides, dist: &[i32], status: &[u8]) -> Found
+    requires { ⌜ Searchable s (now dist) (now status) ⌝ }
+    ensures { λ r. ⌜ found r ≡ firstOf s (farther (now (dist .entry))) (openable s (outside (now (dist .entry))) (now (status .entry))) ⌝ }
+{
+    let a = s.a;
+    let l = s.a * s.b;
+    let held = highest(dist, status, a, l);
+    let height = held.height;
+    if height < 0 {
+        return Found::Nothing;
+    }
+    Found::At(first_of(dist, status, a, l, held))
+}
+
+// ---- a finished grid
+
+// A kept voxel's distance is negative.
+fn closed_value(d: i32, x: u8) -> i32
+    ensures { λ r. ⌜ r ≡ closedIf d x ⌝ }
+{
+    if x % 2 == 0 {
+        return d;
+    }
+    if d < 0 {
+        return d;
+    }
+    if d < 1 {
+        return -1;
+    }
+    0 - d
+}
+
+// Closes every voxel.
+pub fn close(dist: &mut [i32], status: &[u8])
+    requires { ⌜ length (now dist) ≡ length (now status) ⌝ }
+    ensures { λ _. ⌜ now (dist .exit) ≡ map (closedAt (now (dist .entry)) (now (status .entry))) (from 0 (length (now (status .entry)))) ⌝ }
+{
+    let mut i: usize = 0;
+    while i < status.len() {
+        let d = dist[i];
+        dist[i] = closed_value(d, status[i]);
+        i += 1;
+    }
+}

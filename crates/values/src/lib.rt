@@ -1,0 +1,104 @@
+// What a measured value means, and the scans of the values: labels, M, the worked distances. Signed numbers stop here.
+ghost use mathlib.Core.Path.{_≡_};
+ghost use mathlib.Core.Bool.{cond};
+ghost use Prim.Native.Nat.{_<_};
+ghost use lib.Dec.{eqb};
+ghost use lib.IntN.{pos};
+ghost use lib.Signed.{ltZ};
+ghost use lib.ListN.{length};
+ghost use Rattle.rules.specs.Grid.{measuredNegative};
+ghost use Rattle.values.specs.Values.{labelsOf, greatestBy, workedTo, workedBy, Fillable};
+
+// Measured and negative: -32,768 stands for a missing point.
+pub fn negative(v: i16) -> bool
+    ensures { λ r. ⌜ r ≡ measuredNegative v ⌝ }
+{
+    (v < 0) & (v != -32768)
+}
+
+// 1 where the value is measured and negative, else 0.
+fn label_of(v: i16) -> u8
+    ensures { λ r. ⌜ r ≡ cond (measuredNegative v) 1 0 ⌝ }
+{
+    if negative(v) { 1 } else { 0 }
+}
+
+// The label of each voxel, before any flood.
+pub fn labels(status: &mut [u8], values: &[i16])
+    requires { ⌜ length (now status) ≡ length (now values) ⌝ }
+    ensures { λ _. ⌜ now (status .exit) ≡ labelsOf (now (values .entry)) ⌝ }
+{
+    let mut i = 0;
+    while i < values.len() {
+        let v = values[i];
+        status[i] = label_of(v);
+        i += 1;
+    }
+}
+
+// The value of a voxel 1 step from S, and 1 of any other.
+fn beside(v: i16, d: u8) -> i16
+    ensures { λ r. ⌜ r ≡ cond (eqb d 1) v (pos 1) ⌝ }
+{
+    if d == 1 {
+        return v;
+    }
+    1
+}
+
+// The greater of two values. Two selects, and no branch around a store: so a compiler does many voxels at a time.
+fn greater(m: i16, v: i16) -> i16
+    ensures { λ r. ⌜ r ≡ cond (ltZ m v) v m ⌝ }
+{
+    if m < v {
+        return v;
+    }
+    m
+}
+
+// M: the greatest value of a voxel 1 step from S, and at least 1.
+pub fn greatest(values: &[i16], d: &[u8]) -> u32
+    requires { ⌜ length (now d) ≡ length (now values) ⌝ }
+    ensures { λ r. ⌜ (r ≡ greatestBy (now (values .entry)) (now (d .entry))) × (r < 32768) ⌝ }
+{
+    let mut m: i16 = 1;
+    let mut i = 0;
+    while i < values.len() {
+        let v = values[i];
+        let w = beside(v, d[i]);
+        m = greater(m, w);
+        i += 1;
+    }
+    m as u32
+}
+
+// The worked distance of a voxel of value v that is d steps from S.
+fn worked_at(v: i16, d: u8, m: u32) -> i32
+    requires { ⌜ m < 32768 ⌝ }
+    ensures { λ r. ⌜ r ≡ workedTo m v d ⌝ }
+{
+    if d == 0 {
+        return v as i32;
+    }
+    if d == 1 {
+        if v < 0 {
+            return m as i32;
+        }
+        return v as i32;
+    }
+    (m + d as u32) as i32
+}
+
+// The worked distances of all voxels.
+pub fn fill(values: &[i16], d: &[u8], m: u32, dist: &mut [i32])
+    requires { ⌜ Fillable (length (now values)) (length (now d)) (length (now dist)) m ⌝ }
+    ensures { λ _. ⌜ now (dist .exit) ≡ workedBy m (now (values .entry)) (now (d .entry)) ⌝ }
+{
+    let mut i = 0;
+    while i < values.len() {
+        let v = values[i];
+        let w = worked_at(v, d[i], m);
+        dist[i] = w;
+        i += 1;
+    }
+}

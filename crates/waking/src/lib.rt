@@ -1,0 +1,68 @@
+// A voxel is gone, and the kept voxels that touch it and may go become pending: by the bits of its neighbourhood.
+ghost use mathlib.Core.Path.{_≡_};
+ghost use Prim.Native.Nat.{_<_};
+ghost use lib.ListN.{length};
+ghost use Rattle.rules.specs.Status.{without};
+ghost use Rattle.rules.specs.Machine.{outside};
+ghost use Rattle.bits.specs.Bits.{bits};
+ghost use Rattle.neighbourhood.specs.Neighbourhood.{offset};
+ghost use Rattle.waking.specs.Waking.{idleBit, wokenIf, Woken, Only, AtBits, fromVoxel, Position, Callable, Removable};
+use rules::Sides;
+
+// The positions that can wake, two bits apart: kept and not pending; the middle one never does.
+pub fn idle_bits(code: u64) -> u64
+    ensures { λ r. ⌜ r ≡ bits 54 (idleBit code) ⌝ }
+{
+    let kept = code & 0x0015555551555555;
+    kept ^ (kept & code >> 1)
+}
+
+// How far position p lies from position 0.
+pub fn offset(a: usize, l: usize, p: usize) -> usize
+    requires { ⌜ Position a l p ⌝ }
+    ensures { λ r. ⌜ r ≡ offset a l p ⌝ }
+{
+    p % 3 + a * (p / 3 % 3) + l * (p / 9)
+}
+
+// Bit 1 is set where the distance is not negative.
+fn woken_status(d: i32, x: u8) -> u8
+    ensures { λ r. ⌜ r ≡ wokenIf d x ⌝ }
+{
+    if d < 0 {
+        return x;
+    }
+    x | 2
+}
+
+fn wake_one(dist: &[i32], status: &mut [u8], j: usize)
+    requires { ⌜ (j < length (now status)) × (length (now dist) ≡ length (now status)) ⌝ }
+    ensures { λ _. ⌜ Woken (Only (outside (now (dist .entry))) j) (now (status .entry)) (now (status .exit)) ⌝ }
+{
+    let d = dist[j];
+    status[j] = woken_status(d, status[j]);
+}
+
+// Wakes the voxels at the positions of the set bits, from voxel at on.
+fn wake(dist: &[i32], status: &mut [u8], a: usize, l: usize, at: usize, idle: u64)
+    requires { ⌜ Callable a l at idle (length (now status)) × (length (now dist) ≡ length (now status)) ⌝ }
+    ensures { λ _. ⌜ Woken (AtBits (outside (now (dist .entry))) idle (fromVoxel a l at)) (now (status .entry)) (now (status .exit)) ⌝ }
+{
+    let mut m = idle;
+    while 0 < m {
+        let p = bits::lowest(m) / 2;
+        wake_one(dist, status, at + offset(a, l, p));
+        m = m & (m - 1);
+    }
+}
+
+// Voxel i is gone, and every kept voxel that touches it and may go is pending.
+pub fn remove(s: Sides, dist: &[i32], status: &mut [u8], i: usize)
+    requires { ⌜ Removable s (now dist) (now status) i ⌝ }
+    ensures { λ _. ⌜ now (status .exit) ≡ without s (outside (now (dist .entry))) (now (status .entry)) i ⌝ }
+{
+    let idle = idle_bits(neighbourhood::gather(s, status, i));
+    let at = neighbourhood::first_around(s, i);
+    status[i] = 0;
+    wake(dist, status, s.a, s.a * s.b, at, idle);
+}
