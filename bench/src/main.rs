@@ -9,7 +9,7 @@ use bench::grids::{values, Shape};
 use bench::plain::Plain;
 use bench::stack;
 use bench::tuned::Tuned;
-use bench::types::Sides;
+use bench::types::{size, Sides};
 use ours::Ours;
 
 const GRIDS: [Sides; 5] = [
@@ -190,7 +190,7 @@ fn once(word: &str, shape: &str, side: &str) {
     let case = case(Sides { a: side, b: side, c: side }, shape);
     let (mut state, mut log) = (after(&case, part.before), Log::default());
     (part.run)(&ALL[0], &case, &mut state, &mut log);
-    println!("{} {}", case.sides.size(), log.examined());
+    println!("{} {}", size(case.sides), log.examined());
 }
 
 fn main() {

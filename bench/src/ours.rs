@@ -1,56 +1,9 @@
-//! The product, through its C interface as include/wattlerugby.h declares it.
+//! The product, through its C interface as the wrapper declares it.
 
 use bench::types::{Carved, Local, Machine, Opened, Record, Refused, Sides, Taken};
-
-#[repr(C)]
-struct BeginAnswer {
-    refusal: u8,
-    next: Record,
-}
-
-#[repr(C)]
-struct CarveAnswer {
-    refusal: u8,
-    examined: u32,
-    removed: u32,
-    pending: bool,
-    next: Record,
-}
-
-#[repr(C)]
-struct TakeAnswer {
-    refusal: u8,
-    k: u32,
-    m: u32,
-    next: Record,
-}
-
-#[repr(C)]
-struct OpenAnswer {
-    refusal: u8,
-    index: usize,
-    k: u32,
-    m: u32,
-    next: Record,
-}
-
-#[repr(C)]
-struct FinishAnswer {
-    refusal: u8,
-    next: Record,
-}
-
-#[link(name = "capi", kind = "static")]
-extern "C" {
-    fn wattlerugby_begin(
-        sides: Sides, allowed: u16, values: *const i16, values_len: usize, dist: *mut i32, dist_len: usize, status: *mut u8, status_len: usize,
-    ) -> BeginAnswer;
-    fn wattlerugby_carve(given: Record, dist: *const i32, dist_len: usize, status: *mut u8, status_len: usize, limit: u32) -> CarveAnswer;
-    fn wattlerugby_take(given: Record, dist: *const i32, dist_len: usize, status: *mut u8, status_len: usize, index: usize) -> TakeAnswer;
-    fn wattlerugby_open(given: Record, dist: *const i32, dist_len: usize, status: *mut u8, status_len: usize) -> OpenAnswer;
-    fn wattlerugby_finish(given: Record, dist: *mut i32, dist_len: usize, status: *const u8, status_len: usize) -> FinishAnswer;
-    fn wattlerugby_local_test(kept: u32) -> Local;
-}
+use wattlerugby::raw::{
+    wattlerugby_begin, wattlerugby_carve, wattlerugby_finish, wattlerugby_local_test, wattlerugby_open, wattlerugby_take,
+};
 
 pub fn local_test(kept: u32) -> Local {
     // SAFETY: numbers alone cross.
@@ -73,7 +26,14 @@ impl Machine for Ours {
     fn begin(sides: Sides, allowed: u16, values: &[i16], dist: &mut [i32], status: &mut [u8]) -> Result<Record, Refused> {
         let r = unsafe {
             wattlerugby_begin(
-                sides, allowed, values.as_ptr(), values.len(), dist.as_mut_ptr(), dist.len(), status.as_mut_ptr(), status.len(),
+                sides,
+                allowed,
+                values.as_ptr(),
+                values.len(),
+                dist.as_mut_ptr(),
+                dist.len(),
+                status.as_mut_ptr(),
+                status.len(),
             )
         };
         answered(r.refusal, r.next)

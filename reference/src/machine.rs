@@ -25,9 +25,7 @@ fn unfit(r: &Record, dist: &[i32], status: &[u8]) -> Option<Refused> {
     }
     let n = n as u64;
     let counts = r.openings > u64::from(r.t) || r.removals > n || r.examinations > 27 * n || r.euler.unsigned_abs() > 8 * n;
-    let voxel = |i: usize| {
-        !matches!(status[i], 0 | 1 | 3) || (r.sides.border(i) && status[i] != 0) || (dist[i] < 0 && status[i] != 1)
-    };
+    let voxel = |i: usize| !matches!(status[i], 0 | 1 | 3) || (r.sides.border(i) && status[i] != 0) || (dist[i] < 0 && status[i] != 1);
     if counts || (0..n as usize).any(voxel) {
         return Some(7);
     }
@@ -128,7 +126,7 @@ pub fn open(r: &mut Record, dist: &[i32], status: &mut [u8]) -> Result<Opening, 
     if r.openings == u64::from(r.t) {
         return Err(14);
     }
-    let bare = |i: usize| r.sides.face_neighbours(i).into_iter().any(|j| !j.is_some_and(|j| status[j] != 0));
+    let bare = |i: usize| r.sides.face_neighbours(i).into_iter().any(|j| j.is_none_or(|j| status[j] == 0));
     let Some(index) = foremost(dist, (0..status.len()).filter(|&i| status[i] != 0 && dist[i] >= 0 && bare(i))) else {
         return Err(15);
     };

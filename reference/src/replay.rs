@@ -33,12 +33,10 @@ fn number(word: Option<&str>) -> Result<i128, String> {
 
 fn hex(word: Option<&str>) -> Result<Vec<u8>, String> {
     let word = word.unwrap_or("");
-    if word.len() % 2 != 0 {
+    if !word.len().is_multiple_of(2) {
         return Err(format!("an odd number of hexadecimal digits: {word}"));
     }
-    (0..word.len() / 2)
-        .map(|i| u8::from_str_radix(&word[2 * i..2 * i + 2], 16).map_err(|_| format!("not hexadecimal: {word}")))
-        .collect()
+    (0..word.len() / 2).map(|i| u8::from_str_radix(&word[2 * i..2 * i + 2], 16).map_err(|_| format!("not hexadecimal: {word}"))).collect()
 }
 
 /// fill V, set I V, list V V .., len L
@@ -86,16 +84,7 @@ impl Replay {
     pub fn new() -> Self {
         let sides = Sides { a: 3, b: 3, c: 3 };
         let record = Record { sides, t: 0, openings: 0, removals: 0, examinations: 0, euler: 1, finished: false };
-        let mut new = Replay {
-            sides,
-            t: 0,
-            values: vec![],
-            dist: vec![],
-            status: vec![],
-            file: vec![],
-            record,
-            hash_after_each: false,
-        };
+        let mut new = Replay { sides, t: 0, values: vec![], dist: vec![], status: vec![], file: vec![], record, hash_after_each: false };
         new.make_buffers();
         new
     }
@@ -197,7 +186,8 @@ impl Replay {
             "carve" => {
                 let limit = number(words.next())? as u64;
                 let c = carve(r, dist, status, limit);
-                let text = c.map(|c| format!("examined {} removed {} pending {} | {}", c.examined, c.removed, u8::from(c.pending), shown(r)));
+                let text =
+                    c.map(|c| format!("examined {} removed {} pending {} | {}", c.examined, c.removed, u8::from(c.pending), shown(r)));
                 answer(name, text)
             }
             "take" => {
@@ -233,7 +223,8 @@ impl Replay {
                 let start = number(words.next())? as u64;
                 let found = layer(&self.sides, &self.file, start);
                 let file = &self.file;
-                let text = found.map(|l| format!("z {} from {} to {} bytes {}", l.z, l.from, l.to, fnv(file[l.from..l.to].iter().copied())));
+                let text =
+                    found.map(|l| format!("z {} from {} to {} bytes {}", l.z, l.from, l.to, fnv(file[l.from..l.to].iter().copied())));
                 answer(name, text)
             }
             "read" => {

@@ -158,7 +158,7 @@ impl Maker {
         }
     }
 
-    fn to_the_end(&mut self) {
+    fn and_finish(&mut self) {
         for _ in 0..self.r.between(1, 6) {
             self.carve(4294967295);
             self.open();
@@ -210,7 +210,7 @@ impl Maker {
         let count = self.r.between(3, 40);
         self.calls(count, weights);
         if self.r.chance(60) {
-            self.to_the_end();
+            self.and_finish();
         }
         if self.r.chance(5) {
             self.say("dump status\ndump dist");
@@ -239,7 +239,7 @@ impl Maker {
         self.record = begin(sides, 65535, &values, &mut self.dist, &mut self.status).expect("no voxel of a walk is on the border");
         let count = self.r.between(3, 12);
         self.calls(count, [50, 20, 28, 0]);
-        self.to_the_end();
+        self.and_finish();
     }
 
     // ---- files
@@ -258,7 +258,8 @@ impl Maker {
         for _ in 0..4 {
             let record = 7 + layer * self.r.below(c + 1);
             let len = bytes.len() as u64;
-            let start = self.r.pick(&[record, record, record, record + 1, len, len + 1, len.saturating_sub(layer), u64::MAX, u64::MAX - layer]);
+            let start =
+                self.r.pick(&[record, record, record, record + 1, len, len + 1, len.saturating_sub(layer), u64::MAX, u64::MAX - layer]);
             self.say(format!("readlayer {start}"));
         }
         let (unfit, fit) = (self.r.pick(&[2, 65]), self.r.pick(&[3, 64]));
@@ -271,7 +272,7 @@ impl Maker {
     fn blocks(&mut self) {
         self.say("autohash 0");
         for _ in 0..60 {
-            let (x, y, z) = (self.r.next() as u32, self.r.next() as u32, self.r.next() as u32);
+            let (x, y, z) = (self.r.word() as u32, self.r.word() as u32, self.r.word() as u32);
             let block = self.r.pick(&[x, x & y, x | y, x & y & z, x | y | z, 1 << (x % 27), !(1 << (x % 27))]);
             self.say(format!("local {:x}", block & 0x07FF_FFFF));
         }

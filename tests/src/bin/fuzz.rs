@@ -94,7 +94,8 @@ impl Tally {
 
     fn print(&self) {
         for (call, numbers) in &self.0 {
-            let parts: Vec<String> = numbers.iter().map(|(n, count)| if *n == 0 { format!("done {count}") } else { format!("{n}: {count}") }).collect();
+            let parts: Vec<String> =
+                numbers.iter().map(|(n, count)| if *n == 0 { format!("done {count}") } else { format!("{n}: {count}") }).collect();
             println!("  {call:<9} {}", parts.join(", "));
         }
     }
@@ -102,7 +103,7 @@ impl Tally {
 
 /// The script of a seed: kinds in turn, small grids mostly.
 fn numbered(seed: u64) -> (String, String) {
-    let kind = if seed % 331 == 0 { "large" } else { KINDS[(seed % KINDS.len() as u64) as usize] };
+    let kind = if seed.is_multiple_of(331) { "large" } else { KINDS[(seed % KINDS.len() as u64) as usize] };
     let greatest = match seed / 8 % 16 {
         0 => 20,
         1..=6 => 12,
@@ -158,7 +159,8 @@ fn check(replay: &str, folder: &Path) -> bool {
     for kind in KINDS {
         let read = |end: &str| std::fs::read_to_string(folder.join(format!("{kind}.{end}"))).expect("a conformance file can be read");
         let (script, answers) = (read("script"), read("answers"));
-        let wanted: Vec<(String, String)> = answers.lines().enumerate().map(|(i, line)| (format!("answer {}", i + 1), line.to_string())).collect();
+        let wanted: Vec<(String, String)> =
+            answers.lines().enumerate().map(|(i, line)| (format!("answer {}", i + 1), line.to_string())).collect();
         wanted.iter().for_each(|(_, line)| tally.count(line));
         differ += u64::from(!agree(kind, &wanted, &replayed(replay, script)));
     }
@@ -188,10 +190,13 @@ fn blocks(replay: &str, first: u64, count: u64) -> bool {
         let workers: Vec<_> = (0..threads)
             .map(|worker| {
                 let starts = (first..end).step_by(CHUNK as usize).skip(worker as usize).step_by(threads as usize);
-                scope.spawn(move || starts.map(|from| same_blocks(replay, from, end.min(from + CHUNK))).all(|same| same))
+                scope.spawn(move || {
+                    let mut starts = starts;
+                    starts.all(|from| same_blocks(replay, from, end.min(from + CHUNK)))
+                })
             })
             .collect();
-        workers.into_iter().map(|worker| worker.join().expect("a worker ends")).all(|same| same)
+        workers.into_iter().all(|worker| worker.join().expect("a worker ends"))
     });
     println!("{count} blocks, {}", if same { "all the same" } else { "not all the same" });
     same

@@ -9,7 +9,7 @@ impl Maker {
         match wide {
             0 => self.r.between(-2, 4) as i32,
             1 => self.r.between(-40, 300) as i32,
-            2 => self.r.next() as i32,
+            2 => self.r.word() as i32,
             _ => self.r.pick(&[i32::MIN, i32::MIN + 1, -1, 0, 1, 3, i32::MAX - 1, i32::MAX]),
         }
     }
@@ -52,7 +52,7 @@ impl Maker {
         let weights = self.r.pick(&[[35, 35, 20, 5], [10, 10, 70, 3], [5, 85, 5, 1]]);
         self.calls(count, weights);
         if self.r.chance(40) {
-            self.to_the_end();
+            self.and_finish();
         }
     }
 

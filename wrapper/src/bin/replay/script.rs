@@ -21,16 +21,8 @@ impl State {
     pub fn new() -> Self {
         let sides = Sides { a: 3, b: 3, c: 3 };
         let record = Record { sides, euler: 1, ..Record::default() };
-        let mut state = State {
-            sides,
-            allowed: 0,
-            values: Vec::new(),
-            dist: Vec::new(),
-            status: Vec::new(),
-            file: Vec::new(),
-            record,
-            hashes: false,
-        };
+        let mut state =
+            State { sides, allowed: 0, values: Vec::new(), dist: Vec::new(), status: Vec::new(), file: Vec::new(), record, hashes: false };
         state.make_buffers();
         state
     }
@@ -127,8 +119,7 @@ impl State {
                 format!("examined {} removed {} pending {} | {next}", c.examined, c.removed, u8::from(c.pending))
             }),
             "take" => take(given, dist, status, words.usize()?).map(|t| format!("gone k {} m {} | {}", t.k, t.m, self.goes_on(t.next))),
-            "open" => open(given, dist, status)
-                .map(|o| format!("opened {} k {} m {} | {}", o.index, o.k, o.m, self.goes_on(o.next))),
+            "open" => open(given, dist, status).map(|o| format!("opened {} k {} m {} | {}", o.index, o.k, o.m, self.goes_on(o.next))),
             "finish" => finish(given, dist, status).map(|next| self.goes_on(next)),
             "crossing" => crossing(given, dist, status, words.usize()?, words.u32()?).map(|point| match point {
                 None => "none".to_string(),
@@ -174,7 +165,9 @@ fn shown(r: &Record) -> String {
     let Record { sides, allowed, openings, removals, examinations, euler, finished } = r;
     let Sides { a, b, c } = sides;
     let finished = u8::from(*finished);
-    format!("rec {a} {b} {c} T {allowed} openings {openings} removals {removals} examinations {examinations} euler {euler} finished {finished}")
+    format!(
+        "rec {a} {b} {c} T {allowed} openings {openings} removals {removals} examinations {examinations} euler {euler} finished {finished}"
+    )
 }
 
 /// The line of the program `carve`, by calls of the library: a side over 24 is refused with 1 in its place.
