@@ -33,26 +33,32 @@ impl State {
         if command.starts_with('#') {
             return Ok(None);
         }
+        let said = self.command(command, &mut words)?;
+        words.end()?;
+        Ok(said)
+    }
+
+    fn command(&mut self, command: &str, words: &mut Words) -> Said {
         match command {
             "sides" | "rawsides" => {
-                self.sides = Sides { a: words.usize()?, b: words.usize()?, c: words.usize()? };
+                self.sides = Sides { a: words.number()?, b: words.number()?, c: words.number()? };
                 if command == "sides" {
                     self.make_buffers();
                 }
             }
-            "T" => self.allowed = words.number()? as u16,
-            "values" => edit(&mut self.values, |v| v as i16, &mut words)?,
-            "dist" => edit(&mut self.dist, |v| v as i32, &mut words)?,
-            "status" => edit(&mut self.status, |v| v as u8, &mut words)?,
-            "rec" => return self.poke(&mut words),
+            "T" => self.allowed = words.number()?,
+            "values" => edit(&mut self.values, words)?,
+            "dist" => edit(&mut self.dist, words)?,
+            "status" => edit(&mut self.status, words)?,
+            "rec" => return self.poke(words),
             "file" => self.file = words.bytes()?,
             "append" => self.file.extend(words.bytes()?),
-            "autohash" => self.hashes = words.number()? != 0,
+            "autohash" => self.hashes = words.yes_or_no()?,
             "hash" => return Ok(Some(self.buffers())),
             "dump" => return self.dump(words.word()?),
             "program" => return Ok(Some(program(&self.file))),
             _ => {
-                let said = match self.call(command, &mut words)? {
+                let said = match self.call(command, words)? {
                     Ok(text) => format!("{command} ok {text}"),
                     Err(Refusal(number)) => format!("{command} refused {number}"),
                 };
@@ -74,16 +80,19 @@ impl State {
         let field = words.word()?;
         let r = &mut self.record;
         match field {
-            "a" => r.sides.a = words.usize()?,
-            "b" => r.sides.b = words.usize()?,
-            "c" => r.sides.c = words.usize()?,
-            "T" => r.allowed = words.number()? as u16,
-            "openings" => r.openings = words.u32()?,
-            "removals" => r.removals = words.usize()? as u64,
-            "examinations" => r.examinations = words.usize()? as u64,
-            "euler" => r.euler = words.within(i32::MIN.into(), i32::MAX.into())? as i32,
-            "finished" => r.finished = words.number()? != 0,
-            "show" => return Ok(Some(shown(r))),
+            "a" => r.sides.a = words.number()?,
+            "b" => r.sides.b = words.number()?,
+            "c" => r.sides.c = words.number()?,
+            "T" => r.allowed = words.number()?,
+            "openings" => r.openings = words.number()?,
+            "removals" => r.removals = words.number()?,
+            "examinations" => r.examinations = words.number()?,
+            "euler" => r.euler = words.number()?,
+            "finished" => r.finished = words.number::<u8>()? != 0,
+            "show" => {
+                let zero = words.word()?;
+                return if zero == "0" { Ok(Some(shown(r))) } else { Err(format!("rec show 0, and not {zero}")) };
+            }
             _ => return Err(format!("the record has no {field}")),
         }
         Ok(None)
@@ -114,25 +123,22 @@ impl State {
         let (given, dist, status) = (self.record, &mut self.dist, &mut self.status);
         Ok(match name {
             "begin" => begin(self.sides, self.allowed, &self.values, dist, status).map(|next| self.goes_on(next)),
-            "carve" => carve(given, dist, status, words.u32()?).map(|c| {
+            "carve" => carve(given, dist, status, words.number()?).map(|c| {
                 let next = self.goes_on(c.next);
                 format!("examined {} removed {} pending {} | {next}", c.examined, c.removed, u8::from(c.pending))
             }),
-            "take" => take(given, dist, status, words.usize()?).map(|t| format!("gone k {} m {} | {}", t.k, t.m, self.goes_on(t.next))),
+            "take" => take(given, dist, status, words.number()?).map(|t| format!("gone k {} m {} | {}", t.k, t.m, self.goes_on(t.next))),
             "open" => open(given, dist, status).map(|o| format!("opened {} k {} m {} | {}", o.index, o.k, o.m, self.goes_on(o.next))),
             "finish" => finish(given, dist, status).map(|next| self.goes_on(next)),
-            "crossing" => crossing(given, dist, status, words.usize()?, words.u32()?).map(|point| match point {
+            "crossing" => crossing(given, dist, status, words.number()?, words.number()?).map(|point| match point {
                 None => "none".to_string(),
-                Some(p) => {
-                    let bits = [p.x, p.y, p.z].map(|v| format!("{:016x}", v.to_bits()));
-                    format!("point {} ({}, {}, {})", bits.join(" "), p.x, p.y, p.z)
-                }
+                Some(p) => format!("point {:016x} {:016x} {:016x}", p.x.to_bits(), p.y.to_bits(), p.z.to_bits()),
             }),
             "local" => {
                 let t = local_test(words.hexadecimal()?);
                 Ok(format!("k {} m {} corners {} edges {} faces {}", t.k, t.m, t.corners, t.edges, t.faces))
             }
-            "readlayer" => read_layer(self.sides, &self.file, words.usize()?).map(|l| {
+            "readlayer" => read_layer(self.sides, &self.file, words.number()?).map(|l| {
                 let to = l.from + l.bytes.len();
                 format!("z {} from {} to {to} bytes {}", l.z, l.from, hash(l.bytes.iter().copied()))
             }),
@@ -145,17 +151,23 @@ impl State {
     }
 }
 
+/// The longest buffer that `len` makes: longer than any grid's, and short enough to be made.
+const LONGEST: usize = 1 << 20;
+
 /// fill V, set I V, list V V .., len L
-fn edit<T: Copy + Default>(buffer: &mut Vec<T>, made: impl Fn(i128) -> T, words: &mut Words) -> Result<(), String> {
+fn edit<T: Copy + Default + TryFrom<i128>>(buffer: &mut Vec<T>, words: &mut Words) -> Result<(), String> {
     match words.word()? {
-        "fill" => buffer.fill(made(words.number()?)),
+        "fill" => buffer.fill(words.number()?),
         "set" => {
-            let place = words.usize()?;
-            let value = made(words.number()?);
+            let place: usize = words.number()?;
+            let value = words.number()?;
             *buffer.get_mut(place).ok_or_else(|| format!("the buffer ends before {place}"))? = value;
         }
-        "list" => *buffer = words.rest()?.into_iter().map(made).collect(),
-        "len" => buffer.resize(words.usize()?, T::default()),
+        "list" => *buffer = words.rest()?,
+        "len" => match words.number()? {
+            len if len <= LONGEST => buffer.resize(len, T::default()),
+            len => return Err(format!("longer than {LONGEST}: {len}")),
+        },
         other => return Err(format!("a buffer is not changed by {other}")),
     }
     Ok(())
