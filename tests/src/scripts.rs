@@ -1,7 +1,14 @@
-//! Call scripts from seeds (docs/CALL-SCRIPTS.md): lists of calls from begin, crafted records, unfit ones, finished grids, files, blocks.
-//! A script is made along with a run of the reference, so that it can choose voxels by what they are at that moment.
+//! Call scripts (docs/CALL-SCRIPTS.md). Those from seeds: lists of calls from begin, crafted records, unfit ones, finished grids, files, blocks;
+//! each is made along with a run of the reference, so that it can choose voxels by what they are at that moment. And those written out, in the
+//! modules below: every fault, every worked case, and what chance leaves out.
 
+pub mod cases;
 mod crafted;
+mod damage;
+pub mod language;
+mod points;
+mod refusals;
+mod shapes;
 
 use crate::files::file;
 use crate::grids::{grid, Grid};
@@ -10,10 +17,36 @@ use reference::grid::{begin, Record, Sides};
 use reference::machine::{carve, finish, open, take};
 use std::fmt::{Display, Write};
 
-/// The kinds of scripts, each with the greatest side that keeps it small.
-pub const KINDS: [&str; 8] = ["lists", "takes", "openings", "crafted", "unfit", "crossings", "files", "blocks"];
+/// The kinds of scripts from seeds.
+pub const SEEDED: [&str; 8] = ["lists", "takes", "openings", "crafted", "unfit", "crossings", "files", "blocks"];
 
-/// The script that a kind and a seed name. It sets everything that it relies on.
+/// The kinds of scripts that are written out. What takes longest stands last.
+pub const WRITTEN: [&str; 6] = ["cases", "language", "refusals", "damage", "points", "shapes"];
+
+/// How many scripts of each seeded kind a second supplier is given.
+const GIVEN: u64 = 40;
+
+/// The scripts of a kind in conformance/, in order.
+pub fn conformance(kind: &str) -> Vec<String> {
+    if SEEDED.contains(&kind) {
+        // What carves needs room for ties and tunnels; the rest stays small.
+        let greatest = if ["lists", "takes", "openings", "crafted"].contains(&kind) { 9 } else { 5 };
+        return (1..=GIVEN).map(|seed| script(kind, seed, greatest)).collect();
+    }
+    let written = match kind {
+        "cases" => cases::scripts(),
+        "language" => language::scripts(),
+        "refusals" => refusals::scripts(),
+        "damage" => damage::scripts(),
+        "points" => points::scripts(),
+        "shapes" => shapes::scripts(),
+        _ => Vec::new(),
+    };
+    let numbered = |(i, script): (usize, String)| format!("# {kind} {}\nautohash 1\nsides 3 3 3\nT 0\n{script}", i + 1);
+    written.into_iter().enumerate().map(numbered).collect()
+}
+
+/// The script that a kind and a seed name, on grids up to a greatest side. It sets everything that it relies on.
 pub fn script(kind: &str, seed: u64, greatest: i64) -> String {
     let mut m = Maker::new(seed);
     m.say(format!("# {kind} {seed}"));
