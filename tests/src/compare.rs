@@ -2,9 +2,11 @@
 //! what to run to see it.
 
 use reference::replay::Replay;
-use std::io::Write;
+use std::io::{BufRead, BufReader, Write};
 use std::path::Path;
 use std::process::{Command, Stdio};
+use std::sync::{mpsc, Mutex};
+use std::time::Duration;
 
 /// A script with the lines that it must print.
 pub struct Script {
@@ -39,31 +41,92 @@ pub fn reference_lines(script: &str) -> Result<Vec<String>, String> {
 /// A replay tool: a program with its arguments.
 pub struct Tool(Vec<String>);
 
+/// What came of a run of a tool.
+pub struct Run {
+    pub lines: Vec<String>,
+    /// How it ended; nothing where that was well.
+    pub wrong: Option<String>,
+    pub status: Option<i32>,
+}
+
+/// How long a tool may take for one run: far more than any needs.
+const PATIENCE: Duration = Duration::from_secs(60);
+
 impl Tool {
     /// From words with blanks between, such as `reference replay`.
-    pub fn of(words: &str) -> Self {
+    pub fn named(words: &str) -> Self {
         Tool(words.split_ascii_whitespace().map(str::to_string).collect())
+    }
+
+    /// A program with one argument.
+    pub fn of(program: &Path, argument: &str) -> Self {
+        Tool(vec![program.to_string_lossy().into_owned(), argument.to_string()])
     }
 
     pub fn name(&self) -> String {
         self.0.join(" ")
     }
 
-    /// What the tool prints for a script, its status, and what it says is wrong.
-    pub fn run(&self, script: &str) -> Result<(Vec<String>, Option<i32>, String), String> {
+    pub fn run(&self, script: &str) -> Result<Run, String> {
+        let mut lines = Vec::new();
+        let end = self.each_line(script, |line| {
+            lines.push(line);
+            true
+        })?;
+        Ok(Run { lines, wrong: end.wrong, status: end.status })
+    }
+
+    /// Whether the tool prints exactly what it must for all the scripts in a row. It is stopped at the first line that differs.
+    pub fn agrees(&self, scripts: &[Script]) -> Result<bool, String> {
+        let all: String = scripts.iter().map(|script| script.text.as_str()).collect();
+        let mut wanted = scripts.iter().flat_map(|script| &script.answers);
+        let end = self.each_line(&all, |line| wanted.next() == Some(&line))?;
+        Ok(end.wrong.is_none() && wanted.next().is_none())
+    }
+
+    /// Runs the tool, and hands on its lines for as long as `more` wants another.
+    fn each_line(&self, script: &str, mut more: impl FnMut(String) -> bool) -> Result<End, String> {
         let [program, arguments @ ..] = &self.0[..] else { return Err("no replay tool is named".to_string()) };
         let child = Command::new(program).args(arguments).stdin(Stdio::piped()).stdout(Stdio::piped()).stderr(Stdio::piped()).spawn();
         let mut child = child.map_err(|wrong| format!("{program} does not start: {wrong}"))?;
-        let mut input = child.stdin.take().expect("standard input is a pipe");
-        let out = std::thread::scope(|scope| {
+        let (input, said, told) = (child.stdin.take(), child.stdout.take(), child.stderr.take());
+        let child = Mutex::new(child);
+        let stop = || child.lock().map(|mut child| child.kill());
+        std::thread::scope(|scope| {
             // A tool that stops early does not read the rest.
-            scope.spawn(move || input.write_all(script.as_bytes()));
-            child.wait_with_output()
-        });
-        let out = out.map_err(|wrong| format!("{program} cannot be waited for: {wrong}"))?;
-        let text = |bytes: &[u8]| String::from_utf8_lossy(bytes).lines().map(str::to_string).collect::<Vec<_>>();
-        Ok((text(&out.stdout), out.status.code(), text(&out.stderr).join("; ")))
+            scope.spawn(move || input.map(|mut input| input.write_all(script.as_bytes())));
+            let told = scope.spawn(|| told.map(std::io::read_to_string));
+            let (done, waiting) = mpsc::channel::<()>();
+            let watch = scope.spawn(move || {
+                let late = waiting.recv_timeout(PATIENCE) == Err(mpsc::RecvTimeoutError::Timeout);
+                late.then(stop).is_some()
+            });
+            let lines = said.into_iter().flat_map(|said| BufReader::new(said).split(b'\n')).map_while(Result::ok);
+            let enough = lines.map(|line| String::from_utf8_lossy(&line).into_owned()).any(|line| !more(line));
+            drop(done);
+            let late = watch.join().expect("the watch ends");
+            let mut child = child.lock().expect("the watch has ended");
+            if enough {
+                // It may have ended by itself: then there is nothing to stop.
+                let _ = child.kill();
+            }
+            let status = child.wait().map_err(|wrong| format!("{program} cannot be waited for: {wrong}"))?;
+            let told = told.join().expect("a reader ends").and_then(Result::ok).unwrap_or_default();
+            let wrong = match (late, enough, status.success()) {
+                (true, _, _) => Some(format!("did not end within {} s", PATIENCE.as_secs())),
+                (_, true, _) => Some("was stopped".to_string()),
+                (_, _, true) => None,
+                _ => Some(format!("ended with {status}: {}", told.trim_end())),
+            };
+            Ok(End { wrong, status: status.code() })
+        })
     }
+}
+
+/// How a run ended: nothing is wrong where that was well.
+struct End {
+    wrong: Option<String>,
+    status: Option<i32>,
 }
 
 /// What a program prints for a file on its standard input.
@@ -89,9 +152,7 @@ pub struct Differences {
 impl Differences {
     /// Compares a tool on some scripts, all in one run where nothing differs.
     pub fn of(&mut self, tool: &Tool, scripts: &[Script], see: impl Fn(&Script) -> String) -> Result<(), String> {
-        let all: String = scripts.iter().map(|script| script.text.as_str()).collect();
-        let (said, status, _) = tool.run(&all)?;
-        if status == Some(0) && said.iter().eq(scripts.iter().flat_map(|script| &script.answers)) {
+        if tool.agrees(scripts)? {
             return Ok(());
         }
         let before = self.lines;
@@ -105,7 +166,7 @@ impl Differences {
     }
 
     fn script(&mut self, tool: &Tool, script: &Script, see: &str) -> Result<(), String> {
-        let (said, status, wrong) = tool.run(&script.text)?;
+        let Run { lines: said, wrong, .. } = tool.run(&script.text)?;
         let commands = script.text.lines().enumerate().filter(|(_, command)| prints(command));
         let commands: Vec<(usize, &str)> = commands.map(|(i, command)| (script.first_line + i, command)).collect();
         let mut differ = 0;
@@ -124,9 +185,8 @@ impl Differences {
                 println!("  see it: {see} | {}", tool.name());
             }
         }
-        if status != Some(0) {
-            let status = status.map_or("a signal".to_string(), |status| format!("status {status}"));
-            println!("{}: {} ended with {status}: {wrong}", script.name, tool.name());
+        if let Some(wrong) = wrong {
+            println!("{}: {} {wrong}", script.name, tool.name());
             differ += u64::from(differ == 0);
         }
         self.scripts += u64::from(differ > 0);

@@ -134,6 +134,7 @@ const ALSO: &[(&str, usize)] = &[
     ("program: a side of 24", 3),
     ("program: three different sides", 5),
     ("program: an opening", 2),
+    ("program: two openings", 1),
     ("program: a removal", 5),
     // the local test
     ("local", 2400),

@@ -6,5 +6,6 @@ pub mod demands;
 pub mod faults;
 pub mod files;
 pub mod grids;
+pub mod mutants;
 pub mod random;
 pub mod scripts;

@@ -39,21 +39,26 @@ fn main() -> ExitCode {
 fn command(words: &[&str]) -> Same {
     let number = |word: &str| word.parse::<u64>().map_err(|_| format!("not a number: {word}\n{USAGE}"));
     match words {
-        ["check", replay, folder] => check(&Tool::of(replay), Path::new(folder)),
+        ["check", replay, folder] => check(&Tool::named(replay), Path::new(folder)),
         ["show", folder, kind, which] => show(Path::new(folder), kind, which),
         ["program", program, folder] => program_lines(program, Path::new(folder)),
         ["write", folder] => Made::new()?.write(Path::new(folder)).map(|()| true),
         ["list"] => list(),
-        ["run", replay, count] => run(&Tool::of(replay), number(count)?, 1),
-        ["run", replay, count, first] => run(&Tool::of(replay), number(count)?, number(first)?),
+        ["run", replay, count] => run(&Tool::named(replay), number(count)?, 1),
+        ["run", replay, count, first] => run(&Tool::named(replay), number(count)?, number(first)?),
         ["script", kind, seed, greatest] => {
             print!("{}", script(kind, number(seed)?, number(greatest)? as i64));
             Ok(true)
         }
-        ["blocks", replay] => blocks(&Tool::of(replay), 0, 1 << 26),
-        ["blocks", replay, first, count] => blocks(&Tool::of(replay), number(first)?, number(count)?),
+        ["blocks", replay] => blocks(&Tool::named(replay), 0, 1 << 26),
+        ["blocks", replay, first, count] => blocks(&Tool::named(replay), number(first)?, number(count)?),
         _ => Err(USAGE.to_string()),
     }
+}
+
+/// This program as it was called, for what it says to run.
+fn this() -> String {
+    std::env::args().next().unwrap_or("fuzz".to_string())
 }
 
 fn list() -> Same {
@@ -70,7 +75,7 @@ fn check(replay: &Tool, folder: &Path) -> Same {
     for kind in kinds() {
         let given = read_kind(folder, kind)?;
         given.iter().flat_map(|script| &script.answers).for_each(|line| tally.count(line));
-        found.of(replay, &given, |script| format!("fuzz show {} {}", folder.display(), script.name))?;
+        found.of(replay, &given, |script| format!("{} show {} {}", this(), folder.display(), script.name))?;
         scripts += given.len();
     }
     let taken = mistakes_taken(replay, folder)?;
@@ -89,9 +94,10 @@ fn mistakes_taken(replay: &Tool, folder: &Path) -> Result<u64, String> {
     let lines = std::fs::read_to_string(&path).map_err(|wrong| format!("{} cannot be read: {wrong}", path.display()))?;
     let mut taken = 0;
     for line in lines.lines() {
-        let (said, status, _) = replay.run(line)?;
-        if status != Some(2) || !said.is_empty() {
-            println!("{} takes {line:?}, which is not of the language: status {status:?}, {} lines", replay.name(), said.len());
+        let run = replay.run(line)?;
+        if run.status != Some(2) || !run.lines.is_empty() {
+            let how = run.wrong.unwrap_or("ended well".to_string());
+            println!("{} takes {line:?}, which is not of the language: it {how}, with {} lines", replay.name(), run.lines.len());
             println!("  see it: printf '%s\\n' '{line}' | {}", replay.name());
             taken += 1;
         }
@@ -184,7 +190,7 @@ fn run(replay: &Tool, count: u64, first: u64) -> Same {
             answers.iter().for_each(|line| tally.count(line));
             scripts.push(Script { name: format!("{kind} {seed} {greatest}"), first_line: 1, text, answers });
         }
-        found.of(replay, &scripts, |script| format!("fuzz script {}", script.name))?;
+        found.of(replay, &scripts, |script| format!("{} script {}", this(), script.name))?;
     }
     println!("{count} scripts, {} calls: {} lines differ in {} scripts", tally.total(), found.lines, found.scripts);
     tally.print();
@@ -204,7 +210,7 @@ const CHUNK: u64 = 1 << 18;
 /// How many of the blocks differ.
 fn other_blocks(replay: &Tool, from: u64, to: u64) -> Result<u64, String> {
     let text: String = (from..to).map(|i| format!("local {:x}\n", block(i))).collect();
-    let (wanted, (said, _, _)) = (reference_lines(&text)?, replay.run(&text)?);
+    let (wanted, said) = (reference_lines(&text)?, replay.run(&text)?.lines);
     let differ = (0..wanted.len().max(said.len())).filter(|&i| wanted.get(i) != said.get(i));
     if let Some(first) = differ.clone().next() {
         println!("local {:x}: wanted {:?}, but got {:?}", block(from + first as u64), wanted.get(first), said.get(first));

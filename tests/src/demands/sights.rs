@@ -38,7 +38,11 @@ pub fn answered(call: &str, said: &str) -> Vec<String> {
             (after("m") > 1, "open: m is 2 or more"),
             (after("k") == 1 && after("m") == 1, "open: k and m are 1"),
         ]),
-        "program" => chosen(&[(after("opened") > 0, "program: an opening"), (after("removed") > 0, "program: a removal")]),
+        "program" => chosen(&[
+            (after("opened") > 0, "program: an opening"),
+            (after("opened") > 1, "program: two openings"),
+            (after("removed") > 0, "program: a removal"),
+        ]),
         _ => Vec::new(),
     }
 }

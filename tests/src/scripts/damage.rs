@@ -304,12 +304,17 @@ fn at_the_ends() -> String {
     text + &calls(&ends([5, 7, 6]), 210) + &calls(&ends([24, 23, 3]), 24 * 23 * 3) + &calls(&ends([3, 4, 24]), 288)
 }
 
-/// Case C as a file: with T = 1 the program opens it.
+/// Case C as a file: with T = 1 the program opens it. And a frame with a bar across, which it opens twice.
 fn rings() -> String {
     let ring = [31, 32, 33, 36, 38, 41, 42, 43];
-    let values: Vec<i16> = (0..75).map(|i| if ring.contains(&i) { -4 } else { 4 }).collect();
-    let file = |allowed: u16| file_of(&Grid { sides: [5, 5, 3], allowed, values: values.clone() }, &[2, 0, 1]);
-    format!("# case C as a file, T = 0, 1 and 256\n{}{}{}", calls(&file(0), 75), calls(&file(1), 75), calls(&file(256), 75))
+    let frame = [49, 50, 51, 52, 53, 54, 57, 60, 62, 65, 66, 67, 68, 69, 70];
+    let file = |sides: [usize; 3], body: &[usize], allowed: u16| {
+        let values = (0..sides.iter().product()).map(|i| if body.contains(&i) { -4 } else { 4 }).collect();
+        file_of(&Grid { sides, allowed, values }, &[2, 0, 1])
+    };
+    let rings: String = [0, 1, 256].map(|t| calls(&file([5, 5, 3], &ring, t), 75)).concat();
+    let frames: String = [1, 2, 65535].map(|t| calls(&file([8, 5, 3], &frame, t), 120)).concat();
+    format!("# case C as a file, then a frame with a bar\n{rings}{frames}")
 }
 
 fn large_file() -> String {
