@@ -221,3 +221,46 @@ pub fn read_kind(folder: &Path, kind: &str) -> Result<Vec<Script>, String> {
         Some(_) => Err(format!("{kind}.answers has more lines than {kind}.script asks for")),
     }
 }
+
+#[cfg(test)]
+mod tests {
+    use super::*;
+
+    /// A tool that answers each line of a script with itself.
+    fn echo() -> Tool {
+        Tool::named("cat")
+    }
+
+    fn script(text: &str, answers: &[&str]) -> Script {
+        let answers = answers.iter().map(|answer| answer.to_string()).collect();
+        Script { name: "echo 1".to_string(), first_line: 1, text: text.to_string(), answers }
+    }
+
+    fn differences(scripts: &[Script]) -> (u64, u64) {
+        let mut found = Differences::default();
+        found.of(&echo(), scripts, |_| "see".to_string()).expect("cat runs");
+        (found.scripts, found.lines)
+    }
+
+    #[test]
+    fn every_line_that_differs_is_counted() {
+        assert_eq!(differences(&[script("hash\nbegin\n", &["hash", "begin"])]), (0, 0));
+        assert_eq!(differences(&[script("hash\nbegin\nopen\n", &["other", "begin", "another"])]), (1, 2));
+        assert_eq!(differences(&[script("hash\n", &["hash", "begin"]), script("open\n", &[]), script("open\n", &["open"])]), (2, 2));
+    }
+
+    #[test]
+    fn a_tool_that_fails_differs() {
+        let mut found = Differences::default();
+        found.of(&Tool::named("false"), &[script("# nothing\n", &[])], |_| "see".to_string()).expect("false runs");
+        assert_eq!((found.scripts, found.lines), (1, 1));
+        let missing = Tool::named("/no/such/tool").run("").err();
+        assert!(missing.is_some_and(|said| said.starts_with("/no/such/tool does not start: ")));
+    }
+
+    #[test]
+    fn a_missing_file_is_a_sentence() {
+        let said = read_kind(Path::new("/no/such/folder"), "lists").err();
+        assert!(said.is_some_and(|said| said.starts_with("/no/such/folder/lists.script cannot be read: ")));
+    }
+}

@@ -91,3 +91,30 @@ impl Made {
         Ok(())
     }
 }
+
+#[cfg(test)]
+mod tests {
+    use super::*;
+
+    #[test]
+    fn what_is_missing_is_told_and_nothing_is_written() {
+        let folder = std::env::temp_dir().join(format!("wattlerugby-nothing-{}", std::process::id()));
+        let nothing = Made { files: vec![("lists.script".to_string(), String::new())], met: BTreeMap::new() };
+        let told = nothing.write(&folder).expect_err("no entry is met");
+        assert_eq!(told.lines().count(), list().len());
+        for entry in ["begin refused: 1 (0 of 2)", "read: 1 before 2 (0 of 2)", "begin on 64 64 64 (0 of 1)"] {
+            assert!(told.lines().any(|line| line == format!("missing in conformance: {entry}")), "{entry}");
+        }
+        assert!(!folder.exists());
+    }
+
+    #[test]
+    fn an_answer_out_of_the_order_of_checks_is_told() {
+        let mut state = Replay::new();
+        state.line("rawsides 2 3 3").expect("a line of the language");
+        let entries = |answer: &str| Before::of(&state, "begin").entries(answer);
+        assert!(entries("begin refused 1").is_ok_and(|met| met.contains(&"begin: 1 before 2".to_string())));
+        assert!(entries("begin refused 2").is_err());
+        assert!(entries("begin ok rec 2 3 3 T 0 openings 0 removals 0 examinations 0 euler 1 finished 0").is_err());
+    }
+}

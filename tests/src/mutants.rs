@@ -16,6 +16,11 @@ struct Hunk {
     new: String,
 }
 
+/// A line that stands before a file's hunks, and not in one.
+fn is_header(line: &str) -> bool {
+    line.starts_with("--- ") || !(line.is_empty() || line.starts_with([' ', '+', '-']))
+}
+
 /// The hunks of a patch. What stands before its first `---` says what the mutant does.
 fn hunks(patch: &str) -> Result<Vec<Hunk>, String> {
     let mut hunks: Vec<Hunk> = Vec::new();
@@ -27,7 +32,7 @@ fn hunks(patch: &str) -> Result<Vec<Hunk>, String> {
             let digits: String = at.chars().take_while(char::is_ascii_digit).collect();
             let line = digits.parse().map_err(|_| format!("no line in {at:?}"))?;
             hunks.push(Hunk { file: file.to_string(), line, old: String::new(), new: String::new() });
-        } else if let Some(hunk) = hunks.last_mut().filter(|_| !line.starts_with("--- ") && !line.starts_with("diff ")) {
+        } else if let Some(hunk) = hunks.last_mut().filter(|_| !is_header(line)) {
             let (mark, text) = line.split_at(line.len().min(1));
             if mark != "+" {
                 hunk.old += &format!("{text}\n");
@@ -130,8 +135,20 @@ pub fn build(sources: &[Source], mutants: &[&Mutant], folder: &Path) -> Result<P
 fn compile(folder: &Path) -> Result<PathBuf, String> {
     let program = folder.join("replay");
     let options = ["--edition", "2021", "--crate-name", "replay", "-A", "warnings", "--error-format", "short"];
-    let codegen =
-        ["-C", "opt-level=0", "-C", "debuginfo=0", "-C", "panic=abort", "-C", "overflow-checks=off", "-C", "debug-assertions=off"];
+    let codegen = [
+        "-C",
+        "opt-level=0",
+        "-C",
+        "codegen-units=1",
+        "-C",
+        "debuginfo=0",
+        "-C",
+        "panic=abort",
+        "-C",
+        "overflow-checks=off",
+        "-C",
+        "debug-assertions=off",
+    ];
     let rustc = std::env::var("RUSTC").unwrap_or("rustc".to_string());
     let out = Command::new(&rustc).args(options).args(codegen).arg("-o").arg(&program).arg(folder.join("main.rs")).output();
     let out = out.map_err(|wrong| format!("{rustc} does not start: {wrong}"))?;
@@ -188,6 +205,16 @@ mod tests {
         let patch = "What it does.\n--- a/src/a.rs\n+++ b/src/a.rs\n@@ -3,2 +3,2 @@\n-same\n+other\n three\n";
         assert_eq!(of(TEXT, patch).as_deref(), Ok("one\ntwo\nother\nthree\nfour\nsame\n"));
         assert_eq!(of(&format!("zero\n{TEXT}"), patch).as_deref(), Ok("zero\none\ntwo\nother\nthree\nfour\nsame\n"));
+    }
+
+    #[test]
+    fn a_patch_of_two_files() {
+        let part = |file: &str, old: &str| {
+            format!("diff --git a/{file} b/{file}\nindex 1..2 100644\n--- a/{file}\n+++ b/{file}\n@@ -1 +1 @@\n-{old}\n+new\n")
+        };
+        let sources = [("a.rs", "one\n"), ("b.rs", "two\n")].map(|(name, text)| (name.to_string(), text.to_string()));
+        let made = patched(&sources, &(part("a.rs", "one") + &part("b.rs", "two"))).expect("both apply");
+        assert!(made.iter().all(|(_, text)| text == "new\n"));
     }
 
     #[test]
