@@ -39,8 +39,20 @@ const EARLIER: [Check; 3] = ["22", "23", "24"];
 const LATER: [Check; 4] = ["21", "22", "23", "24"];
 
 const SIDES: &[&str] = &["a under 3", "a over 64", "b under 3", "b over 64", "c under 3", "c over 64"];
-const FILE_SIDES: &[&str] =
-    &["a under 3", "a over 64", "a over 24", "b under 3", "b over 64", "b over 24", "c under 3", "c over 64", "c over 24"];
+const FILE_SIDES: &[&str] = &[
+    "a under 3",
+    "a is 25",
+    "a of 26 to 64",
+    "a over 64",
+    "b under 3",
+    "b is 25",
+    "b of 26 to 64",
+    "b over 64",
+    "c under 3",
+    "c is 25",
+    "c of 26 to 64",
+    "c over 64",
+];
 const LENGTHS: &[&str] = &["dist short", "dist long", "status short", "status long"];
 const UNFIT: &[&str] = &[
     "openings over T",

@@ -177,12 +177,17 @@ impl Found {
         }
     }
 
+    /// `most` is 64, or the program's 24.
     fn side(&mut self, k: usize, side: u64, most: u64) {
-        const CAUSES: [[&str; 3]; 3] =
-            [["a under 3", "a over 64", "a over 24"], ["b under 3", "b over 64", "b over 24"], ["c under 3", "c over 64", "c over 24"]];
+        const CAUSES: [[&str; 4]; 3] = [
+            ["a under 3", "a over 64", "a is 25", "a of 26 to 64"],
+            ["b under 3", "b over 64", "b is 25", "b of 26 to 64"],
+            ["c under 3", "c over 64", "c is 25", "c of 26 to 64"],
+        ];
         self.if_so(side < 3, "1", CAUSES[k][0]);
         self.if_so(side > 64, "1", CAUSES[k][1]);
-        self.if_so(side > most && side <= 64, "1", CAUSES[k][2]);
+        self.if_so(side == 25 && side > most, "1", CAUSES[k][2]);
+        self.if_so((26..=64).contains(&side) && side > most, "1", CAUSES[k][3]);
     }
 
     fn sides(&mut self, sides: &Sides, most: u64) {

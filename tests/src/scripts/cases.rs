@@ -6,7 +6,7 @@ pub const SCRIPTS: &[(&str, &str)] = &[
     (
         "C, T = 0",
         "sides 5 5 3\nT 0\nvalues fill 4\nvalues set 31 -4\nvalues set 32 -4\nvalues set 33 -4\nvalues set 36 -4\nvalues set 38 -4\n\
-         values set 41 -4\nvalues set 42 -4\nvalues set 43 -4\nbegin\ncarve 1000\nopen\nfinish\ndump dist\ncrossing 36 0\ncrossing 37 0",
+         values set 41 -4\nvalues set 42 -4\nvalues set 43 -4\nbegin\ncarve 1000\nopen\nfinish\ndump dist\ncrossing 36 0\ncrossing 37 2",
     ),
     (
         "C, T = 1",
@@ -44,7 +44,9 @@ pub const LINES: &[(&str, &[&str])] = &[
         &[
             "carve ok examined 1 removed 0 pending 0 | rec 5 5 3 T 0 openings 0 removals 0 examinations 1 euler 1 finished 0",
             "open refused 14",
+            // the middle is -4, so that no surface lies between it and the ring, and p is 4 against the 6 of the voxel above it
             "crossing ok none",
+            "crossing ok point 4000000000000000 4000000000000000 3ff6666666666666",
         ],
     ),
     (
