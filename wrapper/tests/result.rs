@@ -98,16 +98,19 @@ fn check(c: &Carved, allowed: u16) {
 #[test]
 fn the_last_answer_of_open() {
     let mut seed = 7;
-    let mut ends = [0; 2];
+    let (mut ends, mut unequal) = ([0; 2], 0);
     for round in 0..120usize {
         let sides = Sides { a: 5 + round % 4, b: 6, c: 5 + round % 3 };
         let values = noise(sides, 20 + 10 * (round as u32 % 6), &mut seed);
         for allowed in [0, 1, 3, u16::MAX] {
             if let Some(c) = carved(sides, allowed, &values) {
                 check(&c, allowed);
-                ends[usize::from(c.ended_by == Refusal::NOTHING_TO_OPEN)] += 1;
+                let nothing_to_open = c.ended_by == Refusal::NOTHING_TO_OPEN;
+                ends[usize::from(nothing_to_open)] += 1;
+                unequal += i32::from(nothing_to_open && c.openings as i32 != 1 - c.euler);
             }
         }
     }
     assert!(ends[0] > 100 && ends[1] > 100, "both ends are met: {ends:?}");
+    assert!(unequal > 0, "openings and tunnels need not be equal in number");
 }
