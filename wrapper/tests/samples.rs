@@ -6,6 +6,7 @@ mod generator;
 
 use std::path::{Path, PathBuf};
 use std::process::{Command, Stdio};
+use wattlerugby::{Grid, Refusal};
 
 fn root() -> PathBuf {
     Path::new(env!("CARGO_MANIFEST_DIR")).join("..")
@@ -36,4 +37,21 @@ fn lines_of_the_program() {
         assert_eq!(String::from_utf8_lossy(&out.stdout), sample.line() + "\n", "{}", sample.name);
         assert_eq!(out.status.code(), Some(0), "the program's status is always 0");
     }
+}
+
+/// With T = 1 the torus ends for want of openings; with more allowed it gives the same record, and nothing is left to open.
+#[test]
+fn one_opening_more() {
+    let carved = |allowed: u8| {
+        let mut file = std::fs::read(root().join("samples/torus-1.grid")).expect("the sample can be read");
+        file[5] = allowed;
+        let mut grid = Grid::from_file(&file).expect("the sample is taken");
+        grid.carve_to_the_end().expect("a begun grid is carved");
+        grid
+    };
+    let (one, two) = (carved(1), carved(2));
+    assert_eq!((one.ended_by(), two.ended_by()), (Some(Refusal::NO_OPENING_LEFT), Some(Refusal::NOTHING_TO_OPEN)));
+    assert_eq!(one.status(), two.status());
+    assert_eq!((two.record().openings, two.record().euler), (1, 0));
+    assert_eq!(one.record().examinations, two.record().examinations);
 }
