@@ -24,6 +24,19 @@ pub enum Kind {
 }
 
 impl Kind {
+    /// Every kind, by its number.
+    pub const ALL: [Kind; 9] = [
+        Kind::Gone,
+        Kind::Inside,
+        Kind::Filled,
+        Kind::FilledMissing,
+        Kind::Opened,
+        Kind::Outside,
+        Kind::Negative,
+        Kind::Missing,
+        Kind::NegativeOnBorder,
+    ];
+    /// The kinds of a carved grid and of a refused one, in the order of the key.
     pub const CARVED: [Kind; 5] = [Kind::Inside, Kind::Filled, Kind::FilledMissing, Kind::Opened, Kind::Gone];
     pub const REFUSED: [Kind; 4] = [Kind::Negative, Kind::NegativeOnBorder, Kind::Missing, Kind::Outside];
 

@@ -15,8 +15,8 @@ pub const COMMANDS: &[Command] = &[
         options: &["--png", "--layer=", "--scale="],
         help: "wattle look FILE [--layer Z] [--png [--scale N]] [-o OUT]
 
-Shows what carving leaves of a grid, layer by layer, with a key and counts. Where the grid is refused for its values, they are
-shown in its place, with those that it is refused for marked.
+Shows what carving leaves of a grid, layer by layer, x to the right and y down, with a key and counts. Where the grid is refused
+for its values, these are shown in its place, with those that it is refused for marked.
 
   --layer Z   that layer alone
   --png       a picture in place of text

@@ -64,11 +64,10 @@ fn key(view: &View) -> String {
 /// Everything that the script draws, as JSON of numbers, names of kinds and base64, so that nothing in it can end the script.
 fn data(view: &View, points: &[SurfacePoint]) -> String {
     let sides = view.scan.sides;
-    let all = Kind::CARVED.iter().chain(&Kind::REFUSED);
-    let kinds = all.map(|&k| format!("\"{}\": {{\"name\": \"{}\", \"colour\": \"{}\"}}", k as u8, k.name(), web(k.colour())));
+    let kinds = Kind::ALL.iter().map(|k| format!("{{\"name\": \"{}\", \"colour\": \"{}\"}}", k.name(), web(k.colour())));
     let coordinates = points.iter().flat_map(|p| [p.at.x, p.at.y, p.at.z]).flat_map(|c| (c as f32).to_le_bytes());
     format!(
-        "{{\"sides\": [{}, {}, {}],\n\"kinds\": {{{}}},\n\"voxels\": \"{}\",\n\"values\": \"{}\",\n\"points\": \"{}\",\n\"restsOn\": \"{}\"}}",
+        "{{\"sides\": [{}, {}, {}],\n\"kinds\": [{}],\n\"voxels\": \"{}\",\n\"values\": \"{}\",\n\"points\": \"{}\",\n\"restsOn\": \"{}\"}}",
         sides.a,
         sides.b,
         sides.c,

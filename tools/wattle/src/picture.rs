@@ -52,9 +52,7 @@ fn across(layers: usize, wide: usize, high: usize) -> usize {
 }
 
 fn palette() -> Vec<[u8; 3]> {
-    let kinds = (0..=Kind::NegativeOnBorder as u8).map(|n| Kind::CARVED.iter().chain(&Kind::REFUSED).find(|&&k| k as u8 == n));
-    let kinds = kinds.map(|kind| kind.expect("every kind is in a key").colour());
-    [[0xFF; 3], [0x33; 3]].into_iter().chain(kinds).collect()
+    [[0xFF; 3], [0x33; 3]].into_iter().chain(Kind::ALL.map(Kind::colour)).collect()
 }
 
 fn draw(image: &mut Image, left: usize, top: usize, layer: &[Kind], width: usize, scale: usize) {
