@@ -166,7 +166,9 @@ fn taken(body: &Body) -> String {
         text += &format!("- {sentence}\n");
     }
     if a.max(b).max(c) > PROGRAM_SIDE {
-        text += &format!("- The program carve prints `refused 1` for it, since it takes {PROGRAM_SIDE} voxels a side at most; the library takes 64.\n");
+        text += &format!(
+            "- The program carve prints `refused 1` for it, since it takes {PROGRAM_SIDE} voxels a side at most; the library takes 64.\n"
+        );
     }
     text
 }
@@ -186,7 +188,10 @@ pub fn meaning(body: &Body) -> Vec<String> {
     }
     let unseen = body.openings_over_missing();
     if unseen > 0 {
-        told.push(format!("{} made where the range point is missing: a tunnel there is not seen, only not excluded.", was(unseen, "opening")));
+        told.push(format!(
+            "{} made where the range point is missing: a tunnel there is not seen, only not excluded.",
+            was(unseen, "opening")
+        ));
     }
     let stray = body.discarded();
     if stray > 0 {

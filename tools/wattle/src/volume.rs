@@ -49,13 +49,7 @@ fn field(body: &Body, name: &str) -> Field {
             bytes: body.grid.distances().iter().flat_map(|d| d.to_le_bytes()).collect(),
         },
         "status" => Field { name: "status", vtk: "unsigned_char", nrrd: "uchar", width: 1, bytes: body.grid.status().to_vec() },
-        _ => Field {
-            name: "kinds",
-            vtk: "unsigned_char",
-            nrrd: "uchar",
-            width: 1,
-            bytes: body.kinds.iter().map(|&k| k as u8).collect(),
-        },
+        _ => Field { name: "kinds", vtk: "unsigned_char", nrrd: "uchar", width: 1, bytes: body.kinds.iter().map(|&k| k as u8).collect() },
     }
 }
 

@@ -304,7 +304,10 @@ fn vtk_has_every_field() {
         if let Some(text) = &read {
             let (sides, arrays) = parse_printed(text);
             assert_eq!(sides, printed_sides(body.sides));
-            assert_eq!(arrays.iter().map(|(_, kind, _)| kind.as_str()).collect::<Vec<_>>(), ["short", "int", "unsigned_char", "unsigned_char"]);
+            assert_eq!(
+                arrays.iter().map(|(_, kind, _)| kind.as_str()).collect::<Vec<_>>(),
+                ["short", "int", "unsigned_char", "unsigned_char"]
+            );
             assert_eq!(arrays.into_iter().map(|(name, _, samples)| (name, samples)).collect::<Vec<_>>(), due);
         }
         found.push(read.is_some());
@@ -314,7 +317,9 @@ fn vtk_has_every_field() {
 
 /// The samples that teem's own program reads, printed as text.
 fn by_unu(file: &Path) -> Option<(String, Vec<i64>)> {
-    let output = Command::new("unu").args(["save", "-f", "nrrd", "-e", "ascii", "-i", path(file)]).output().ok()?;
+    // Debian calls it teem-unu
+    let run = |name: &str| Command::new(name).args(["save", "-f", "nrrd", "-e", "ascii", "-i", path(file)]).output().ok();
+    let output = run("unu").or_else(|| run("teem-unu"))?;
     assert!(output.status.success(), "unu refuses {}: {}", file.display(), text(&output.stderr));
     let (head, data) = text(&output.stdout).split_once("\n\n").map(|(h, d)| (h.to_string(), d.to_string())).expect("a header and data");
     let sizes = head.lines().find_map(|l| l.strip_prefix("sizes: ")).expect("sizes").to_string();

@@ -67,12 +67,15 @@ fn explain_finds_the_voxel() {
 
 #[test]
 fn the_meaning_of_the_last_answer_of_open() {
-    let ring = |allowed: u16| common::grid_file([5, 5, 3], allowed, |x, y, z| if z == 1 && x.abs_diff(2).max(y.abs_diff(2)) == 1 { -4 } else { 4 });
+    let ring = |allowed: u16| {
+        common::grid_file([5, 5, 3], allowed, |x, y, z| if z == 1 && x.abs_diff(2).max(y.abs_diff(2)) == 1 { -4 } else { 4 })
+    };
     let told = |file: &[u8]| text(&wattle_on(&["explain", "-"], file).stdout);
     assert!(told(&ring(0)).contains("T is 0, so the body is closed") && told(&ring(0)).contains("1 voxel was filled"));
     assert!(told(&ring(1)).contains("(14)") && told(&ring(1)).contains("1 tunnel or more"));
     assert!(told(&ring(2)).contains("(15): the body is in one piece, with 1 tunnel."));
-    let block = |allowed: u16| common::grid_file([5, 5, 5], allowed, |x, y, z| if [x, y, z].iter().all(|p| (1..4).contains(p)) { -4 } else { 4 });
+    let block =
+        |allowed: u16| common::grid_file([5, 5, 5], allowed, |x, y, z| if [x, y, z].iter().all(|p| (1..4).contains(p)) { -4 } else { 4 });
     assert!(told(&block(2)).contains("(15): the body is in one piece, without a tunnel. The scan is closed."));
     assert!(told(&block(0)).contains("Nothing was filled: the scan is closed as it stands."));
     // a hole over a missing point, and a negative voxel by itself

@@ -17,7 +17,8 @@ pub fn root() -> PathBuf {
 /// Every grid file in samples/.
 pub fn samples() -> Vec<PathBuf> {
     let entries = std::fs::read_dir(root().join("samples")).expect("samples/ can be listed");
-    let mut files: Vec<PathBuf> = entries.map(|e| e.expect("an entry").path()).filter(|p| p.extension() == Some(OsStr::new("grid"))).collect();
+    let mut files: Vec<PathBuf> =
+        entries.map(|e| e.expect("an entry").path()).filter(|p| p.extension() == Some(OsStr::new("grid"))).collect();
     files.sort();
     assert!(files.len() >= 5, "the samples are found");
     files

@@ -176,7 +176,8 @@ pub fn unzip(data: &[u8]) -> Vec<u8> {
         match bits.take(2) {
             0 => stored(&mut bits, &mut out),
             1 => {
-                let fixed: Vec<usize> = (0..288).map(|s| [8, 9, 7, 8][(s > 143) as usize + (s > 255) as usize + (s > 279) as usize]).collect();
+                let fixed: Vec<usize> =
+                    (0..288).map(|s| [8, 9, 7, 8][(s > 143) as usize + (s > 255) as usize + (s > 279) as usize]).collect();
                 block(&mut bits, &mut out, &fixed, &[5; 30]);
             }
             2 => {
