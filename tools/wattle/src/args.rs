@@ -40,16 +40,17 @@ impl Args {
             let text = word.to_string_lossy();
             match text.as_ref() {
                 "--help" | "-h" => return Ok(Request::Help(command.help.to_string())),
-                "-o" => args.output = Some(PathBuf::from(value_of("-o", words.next())?)),
+                "-o" => args.output = Some(PathBuf::from(value_of("-o", words.next())?)).filter(|o| o != Path::new("-")),
                 "--force" => args.options.push(("--force", String::new())),
                 "-" => args.files.push(PathBuf::from("-")),
                 option if option.starts_with('-') => args.add_option(command, option, &mut words)?,
                 _ => args.files.push(PathBuf::from(word)),
             }
         }
-        if args.files.len() != command.files {
-            let due = if command.files == 1 { "one file" } else { "two files" };
-            return Err(Failure::unusable(format!("{} takes {due}, and {} are given", command.name, args.files.len())));
+        let (due, given) = (if command.files == 1 { "one file" } else { "two files" }, args.files.len());
+        if given != command.files {
+            let line = format!("{} takes {due}, not {given}; see `wattle help {}`", command.name, command.name);
+            return Err(Failure::unusable(line));
         }
         Ok(Request::Run(args))
     }

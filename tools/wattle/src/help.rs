@@ -116,7 +116,7 @@ pub fn overview() -> String {
   wattle help COMMAND    more about a command
 
 FILE may be -, the standard input. With -o OUT the answer goes to a file, which is not overwritten unless --force is given;
-otherwise it goes to the standard output. Sides may be 3 to 64 voxels. What takes long shows its progress on a terminal.
+otherwise, or with -o -, it goes to the standard output. Sides may be 3 to 64 voxels. What takes long shows its progress on a terminal.
 
 Exit status: 0 done; 1 the grid is refused (compare: the two differ); 2 usage, or a file cannot be read or written.
 ",

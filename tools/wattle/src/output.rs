@@ -25,7 +25,14 @@ fn to_file(bytes: &[u8], path: &Path, force: bool) -> Result<(), Failure> {
         ErrorKind::AlreadyExists => Failure::unusable(format!("{} is there already; --force overwrites it", path.display())),
         _ => Failure::unusable(format!("{} cannot be written: {e}", path.display())),
     };
-    options.open(path).and_then(|mut file| file.write_all(bytes)).map_err(cannot)
+    let mut file = options.open(path).map_err(cannot)?;
+    file.write_all(bytes).map_err(|e| {
+        // half a file would look like a whole one
+        if !force {
+            let _ = std::fs::remove_file(path);
+        }
+        cannot(e)
+    })
 }
 
 fn to_standard_output(answer: &Answer) -> Result<(), Failure> {

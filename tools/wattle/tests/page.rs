@@ -142,6 +142,7 @@ fn cloud(report: &std::collections::HashMap<String, String>, name: &str) {
     let drawn: usize = seen("first").split_once(',').unwrap().1.parse().unwrap();
     assert!(drawn > 5000, "{name}: {drawn} pixels are drawn");
     assert!(seen("first") != seen("turned") && seen("turned") != seen("nearer") && seen("nearer") != seen("farther"), "{name}");
+    assert!(seen("by key") != seen("farther"), "{name}");
     assert_eq!((seen("let go"), seen("again")), (seen("turned"), seen("first")), "{name}");
     assert_eq!(report["nearness"], "2", "two fingers twice as far apart");
     assert_eq!(report["follows"], "true true", "{name}");

@@ -173,8 +173,8 @@ fn wrong_words_get_one_line() {
     let (good, refused) = (path(&good), path(&refused));
     one_line(&[], 2, "no command is given");
     one_line(&["loook", good], 2, "there is no command loook");
-    one_line(&["look"], 2, "look takes one file, and 0 are given");
-    one_line(&["compare", good], 2, "compare takes two files, and 1 are given");
+    one_line(&["look"], 2, "look takes one file, not 0");
+    one_line(&["compare", good], 2, "compare takes two files, not 1");
     one_line(&["look", good, "--ply"], 2, "look has no option --ply");
     one_line(&["look", good, "--layer"], 2, "--layer needs a word");
     one_line(&["look", good, "--layer", "12"], 2, "--layer takes a number from 0 to 11, not 12");
@@ -207,9 +207,23 @@ fn nothing_is_overwritten_unasked() {
         assert_eq!(std::fs::read(&grid).unwrap(), sphere());
     }
     one_line(&["look", path(&grid), "-o", path(&folder.join("none/out"))], 2, "cannot be written");
+    one_line(&["look", path(&grid), "--force", "-o", "/dev/full"], 2, "cannot be written");
+    assert_eq!(wattle(&["carve", path(&grid), "-o", "-"]).stdout, wattle(&["carve", path(&grid)]).stdout);
     // a refused grid leaves no file behind
     one_line(&["points", path(&sample("refused.grid")), "-o", path(&folder.join("points.ply"))], 1, "refused 3");
     assert!(!folder.join("points.ply").exists());
+}
+
+/// A reader that has seen enough is no failure; a full disk is one.
+#[test]
+fn the_standard_output_may_end_early() {
+    let page = |out: &str| {
+        let line = format!("{} page {} {out}", env!("CARGO_BIN_EXE_wattle"), path(&sample("sphere.grid")));
+        Command::new("bash").args(["-c", &format!("set -o pipefail; {line}")]).output().expect("bash runs")
+    };
+    let (enough, full) = (page("| head -c 20"), page("> /dev/full"));
+    assert_eq!((status(&enough), text(&enough.stdout).as_str(), text(&enough.stderr).as_str()), (0, "<!doctype html>\n<htm", ""));
+    assert!(status(&full) == 2 && text(&full.stderr).contains("the standard output cannot be written"), "{}", text(&full.stderr));
 }
 
 #[test]
