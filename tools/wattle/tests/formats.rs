@@ -160,8 +160,8 @@ fn points_are_all_crossings() {
         let ply = written(&folder, &["points", path(&file)], "points.ply");
         let xyz = written(&folder, &["points", path(&file)], "points.xyz");
         let rows = parse_ply(&std::fs::read_to_string(&ply).unwrap());
-        assert_eq!(rows.iter().map(|r| (r.0, r.2)).collect::<Vec<_>>(), due, "{}", file.display());
-        assert!(rows.iter().all(|r| r.2 == (r.1 == COLOURS[1]) && (r.2 || COLOURS[2..4].contains(&r.1))));
+        let due_rows: Vec<_> = due.iter().map(|&(place, kind)| (place, COLOURS[kind], kind == 1)).collect();
+        assert_eq!(rows, due_rows, "{}", file.display());
         assert_eq!(parse_rows(&std::fs::read_to_string(&xyz).unwrap()), places);
         assert_eq!(answer(&["points", "--ply", path(&file)]), std::fs::read(&ply).unwrap());
         assert_eq!(answer(&["points", "--xyz", path(&file)]), std::fs::read(&xyz).unwrap());

@@ -3,7 +3,8 @@
 mod common;
 
 use common::{fed, path, root, sample, status, text, wattle, wattle_on, Seed};
-use std::process::Command;
+use std::io::Read;
+use std::process::{Command, Stdio};
 
 fn sphere() -> Vec<u8> {
     std::fs::read(sample("sphere.grid")).unwrap()
@@ -217,12 +218,19 @@ fn nothing_is_overwritten_unasked() {
 /// A reader that has seen enough is no failure; a full disk is one.
 #[test]
 fn the_standard_output_may_end_early() {
-    let page = |out: &str| {
-        let line = format!("{} page {} {out}", env!("CARGO_BIN_EXE_wattle"), path(&sample("sphere.grid")));
-        Command::new("bash").args(["-c", &format!("set -o pipefail; {line}")]).output().expect("bash runs")
+    let folder = common::folder("early");
+    let grid = folder.join("large.grid");
+    std::fs::write(&grid, common::grid_file([64, 64, 64], 0, common::sphere([64, 64, 64], 9.0))).unwrap();
+    let volume = |out: Stdio| {
+        let mut command = Command::new(env!("CARGO_BIN_EXE_wattle"));
+        command.args(["volume", path(&grid)]).stdout(out).stderr(Stdio::piped()).spawn().expect("wattle starts")
     };
-    let (enough, full) = (page("| head -c 20"), page("> /dev/full"));
-    assert_eq!((status(&enough), text(&enough.stdout).as_str(), text(&enough.stderr).as_str()), (0, "<!doctype html>\n<htm", ""));
+    let mut enough = volume(Stdio::piped());
+    let mut first = [0; 5];
+    enough.stdout.take().unwrap().read_exact(&mut first).unwrap();
+    let enough = enough.wait_with_output().unwrap();
+    assert_eq!((&first, status(&enough), text(&enough.stderr).as_str()), (b"# vtk", 0, ""));
+    let full = volume(Stdio::from(std::fs::OpenOptions::new().write(true).open("/dev/full").unwrap())).wait_with_output().unwrap();
     assert!(status(&full) == 2 && text(&full.stderr).contains("the standard output cannot be written"), "{}", text(&full.stderr));
 }
 
@@ -250,7 +258,7 @@ fn progress_is_for_terminals() {
     let points = std::fs::read_to_string(&out).unwrap();
     assert!(points.lines().count() > 5000);
     let line = format!("{} {}", env!("CARGO_BIN_EXE_wattle"), words.join(" "));
-    let Ok(shown) = Command::new("script").args(["-qec", &line, "/dev/null"]).stdin(std::process::Stdio::null()).output() else {
+    let Ok(shown) = Command::new("script").args(["-qec", &line, "/dev/null"]).stdin(Stdio::null()).output() else {
         return common::left_out("progress was not looked at, since `script` is not there");
     };
     let shown = text(&shown.stdout);

@@ -144,8 +144,9 @@ pub fn carved(file: &[u8]) -> Result<Carved, Refusal> {
 }
 
 impl Carved {
-    /// Every point of the surface with whether it is measured, by asking for all of them.
-    pub fn points(&self) -> Vec<([f64; 3], bool)> {
+    /// Every point of the surface, by asking for all of them, with the kind that gives its colour: 1 where it is measured, 3 where a
+    /// range point beside it is missing, otherwise 2.
+    pub fn points(&self) -> Vec<([f64; 3], usize)> {
         let steps = [1, self.sides.a, self.sides.a * self.sides.b];
         let mut points = Vec::new();
         for axis in 0..3 {
@@ -153,7 +154,12 @@ impl Carved {
                 let Ok(Some(point)) = self.grid.crossing(i, axis) else { continue };
                 let next = i + steps[axis as usize];
                 let (inner, outer) = if self.grid.distances()[i] < 0 { (i, next) } else { (next, i) };
-                points.push(([point.x, point.y, point.z], self.inside[inner] && self.values[outer] >= 0));
+                let kind = match (self.inside[inner] && self.values[outer] >= 0, self.values[inner], self.values[outer]) {
+                    (true, ..) => 1,
+                    (_, MISSING, _) | (_, _, MISSING) => 3,
+                    _ => 2,
+                };
+                points.push(([point.x, point.y, point.z], kind));
             }
         }
         points
