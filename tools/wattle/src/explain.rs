@@ -40,7 +40,7 @@ fn unreadable(source: &Source, refused: Refusal) -> (String, String) {
         Refusal::SIDE => (wrong_sides(source.sides()), "cut the grid, or measure more voxels, and write it again.".to_string()),
         Refusal::SHORT => short(source, found.len(), next),
         Refusal::MARK => wrong_mark(source, &found, next),
-        // read_layer takes a layer that came before, so 24 and 25 are looked for among those that it took
+        // read_layer takes a layer that came before, so it is looked for among those that it took
         Refusal::LAYER_TWICE => twice(&found),
         Refusal::BYTES_LEFT => (
             format!("the last layer ends before byte {next}, and more bytes follow; {}.", due_length(source.sides())),

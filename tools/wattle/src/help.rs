@@ -42,7 +42,7 @@ result means: how much was filled, whether range points are missing there, and w
 The points where the body's surface crosses from voxel to voxel, for CloudCompare, MeshLab and others. Coordinates are in voxels:
 the centre of voxel (x, y, z) is the point (x, y, z).
 
-  --ply   with colours, and `measured` 1 where both voxels were measured, 0 where the surface is assumed (the default)
+  --ply   with colours, and `scalar_measured` 1 where both voxels were measured, 0 where the surface is assumed (the default)
   --xyz   a line `x y z` for each point
 
 Without either, the ending of OUT decides. With 64 voxels along each side this can take a minute.

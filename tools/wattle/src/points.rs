@@ -65,12 +65,13 @@ fn basis(body: &Body, inner: usize, outer: usize) -> Kind {
     }
 }
 
-/// A number is written as the shortest decimal that reads back as the same double.
+/// A number is written as the shortest decimal that reads back as the same double. CloudCompare takes a property whose name begins with
+/// `scalar_` as a field to colour by.
 fn ply(body: &Body, points: &[SurfacePoint]) -> String {
     let mut text = format!(
-        "ply\nformat ascii 1.0\ncomment {}: {}\ncomment coordinates in voxels; measured is 0 where the surface is assumed\n\
+        "ply\nformat ascii 1.0\ncomment {}: {}\ncomment coordinates in voxels; scalar_measured is 0 where the surface is assumed\n\
          element vertex {}\nproperty double x\nproperty double y\nproperty double z\n\
-         property uchar red\nproperty uchar green\nproperty uchar blue\nproperty uchar measured\nend_header\n",
+         property uchar red\nproperty uchar green\nproperty uchar blue\nproperty uchar scalar_measured\nend_header\n",
         body.scan.name,
         body.line(),
         points.len()

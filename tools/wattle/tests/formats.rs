@@ -114,7 +114,7 @@ const PLY_HEAD: [&str; 9] = [
     "property uchar red",
     "property uchar green",
     "property uchar blue",
-    "property uchar measured",
+    "property uchar scalar_measured",
     "end_header",
     "",
 ];

@@ -66,7 +66,7 @@ def ply_by_meshio(name):
     import meshio
 
     mesh = meshio.read(name)
-    assert len(mesh.point_data["measured"]) == len(mesh.points)
+    assert len(mesh.point_data["scalar_measured"]) == len(mesh.points)
     for point in mesh.points.tolist():
         print(numbers(point))
 
