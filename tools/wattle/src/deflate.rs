@@ -78,3 +78,24 @@ pub fn zlib(data: &[u8]) -> Vec<u8> {
     bytes.extend(adler(data).to_be_bytes());
     bytes
 }
+
+#[cfg(test)]
+#[allow(dead_code)]
+#[path = "../tests/common/png.rs"]
+mod reader;
+
+#[cfg(test)]
+mod tests {
+    use super::{reader::unzip, zlib};
+
+    #[test]
+    fn every_byte_and_every_run_comes_back() {
+        let bytes: Vec<u8> = (0..=255).collect();
+        assert_eq!(unzip(&zlib(&bytes)), bytes);
+        for run in 0..600 {
+            let data = [vec![200; run], vec![7, 7, 9], vec![0; run]].concat();
+            assert_eq!(unzip(&zlib(&data)), data);
+        }
+        assert!(zlib(&[0; 10_000]).len() < 200, "runs are shortened");
+    }
+}

@@ -105,6 +105,14 @@ fn png_of_all_layers_read_by_others() {
     at_hand(&found, "PNG was read here alone, since python3 with PIL (python3-pil) is not there");
 }
 
+#[test]
+fn png_of_a_refused_grid() {
+    let output = common::wattle(&["look", "--png", path(&common::sample("refused.grid"))]);
+    let picture = common::png::parse(&output.stdout);
+    let counts = [[0xD5, 0x5E, 0], COLOURS[1], COLOURS[0]].map(|colour| picture.count(colour));
+    assert_eq!((common::status(&output), counts), (1, [12, 268, 1448].map(|voxels| 49 * voxels)));
+}
+
 // ---- points
 
 const PLY_HEAD: [&str; 9] = [

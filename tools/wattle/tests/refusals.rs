@@ -38,7 +38,7 @@ fn explain_finds_the_byte() {
     explained(&sphere()[..5], 21, &["the file has 5 bytes, and the header alone has 7"]);
     explained(&[], 21, &["the file has 0 bytes"]);
     explained(&with(&[(0, 0x50), (1, 0x4B)]), 22, &["bytes 0 and 1 are 50 4B hex"]);
-    explained(&with(&[(3, 2), (4, 65)]), 1, &["side b, byte 3, is 2; side c, byte 4, is 65"]);
+    explained(&with(&[(2, 64), (3, 2), (4, 65)]), 1, &["Where: side b, byte 3, is 2; side c, byte 4, is 65; a side is 3 to 64"]);
     let cut = "layer record 2 of 12 begins at byte 298 and has 291 bytes, but 290 are left. The file has 588 bytes";
     explained(&sphere()[..second + 290], 21, &[cut, "with sides 12 x 12 x 12 a file has 3499 bytes"]);
     explained(&sphere()[..second], 21, &["begins at byte 298", "but 0 are left"]);
@@ -149,6 +149,18 @@ fn the_programs_limit() {
     let (ended, told) = run(&["explain", "-"], 64);
     assert!(ended == 0 && told.contains("The program carve prints `refused 1` for it"), "{told}");
     assert!(run(&["look", "-"], 64).1.contains("z = 4"));
+    // the longest file there is, and one byte more
+    let folder = common::folder("longest");
+    let mut file = common::grid_file([64, 64, 64], 0, common::sphere([64, 64, 64], 3.0));
+    for (name, number) in [("whole", 0), ("longer", 1)] {
+        let grid = folder.join(name);
+        std::fs::write(&grid, &file).unwrap();
+        let outputs = [wattle(&["carve", "--large", path(&grid)]), wattle_on(&["carve", "--large", "-"], &file)];
+        for output in outputs {
+            assert_eq!((status(&output), text(&output.stdout) == "refused 25\n"), (number, number == 1));
+        }
+        file.push(0);
+    }
     // the mark comes before the sides, and the sides before the layers
     let mut file = large(25);
     file[7] = 0;
@@ -210,6 +222,12 @@ fn nothing_is_overwritten_unasked() {
     one_line(&["look", path(&grid), "-o", path(&folder.join("none/out"))], 2, "cannot be written");
     one_line(&["look", path(&grid), "--force", "-o", "/dev/full"], 2, "cannot be written");
     assert_eq!(wattle(&["carve", path(&grid), "-o", "-"]).stdout, wattle(&["carve", path(&grid)]).stdout);
+    // a link that leads nowhere is there, and what it names is not made
+    std::os::unix::fs::symlink(folder.join("elsewhere"), folder.join("link")).unwrap();
+    one_line(&["carve", path(&grid), "-o", path(&folder.join("link"))], 2, "--force overwrites it");
+    assert!(!folder.join("elsewhere").exists());
+    // the output is looked at before the work
+    one_line(&["points", path(&sample("refused.grid")), "-o", path(&out)], 2, "--force overwrites it");
     // a refused grid leaves no file behind
     one_line(&["points", path(&sample("refused.grid")), "-o", path(&folder.join("points.ply"))], 1, "refused 3");
     assert!(!folder.join("points.ply").exists());

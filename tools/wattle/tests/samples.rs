@@ -106,6 +106,7 @@ fn compare_a_sample_with_itself_and_with_others() {
     assert!(told.contains("T: 0 and 1\n") && !told.contains("values:"), "{told}");
     assert!(told.contains("result: 19 of 2304 voxels differ\n  (7, 5, 4), index 1111: filled and gone\n"), "{told}");
     assert!(told.contains("(7, 7, 4), index 1143: filled and opened\n"), "{told}");
+    assert!(told.contains("distances: 19 of 2304 voxels differ\n  (7, 5, 4), index 1111: -2 and 2\n"), "{told}");
     let unlike = text(&wattle(&["compare", path(&both[0]), path(&common::sample("refused.grid"))]).stdout);
     assert!(unlike.contains("sides: 16 x 16 x 9 and 12 x 12 x 12") && unlike.contains("line of B: refused 3"), "{unlike}");
 }
