@@ -1,8 +1,9 @@
 /* Wattlerugby for C and C++: carve a solid box down to a scanned body, and tell whether the body is closed.
  *
- * Link with the archive that `rt staticlib capi` writes, target/staticlib/libcapi.a. It is for x86-64 Linux. It needs no other
- * library, allocates nothing, and keeps nothing between calls. Carve uses 129 KB of stack; begin, take, open and finish under 1 KB
- * (docs/PERFORMANCE.md).
+ * Link with libwattlerugby.a, as packaging/install puts it beside this header (`pkg-config --cflags --libs wattlerugby`, or
+ * find_package(wattlerugby) in CMake). In the repository it is target/staticlib/libcapi.a, which `rt staticlib capi` writes. It is for
+ * x86-64 Linux. Of other libraries it needs one function, memset. It allocates nothing, and keeps nothing between calls. Carve uses
+ * 129 KB of stack; begin, take, open and finish under 1 KB (docs/PERFORMANCE.md).
  *
  * IN SHORT
  *
@@ -14,8 +15,28 @@
  *     wattlerugby_crossing  a point of the body's surface between two voxels
  *     wattlerugby_read, wattlerugby_read_layer   a grid file, whole or a layer at a time
  *     wattlerugby_local_test   the test by which a voxel may go, on its own
+ *     wattlerugby_reason    a refusal number as text
  *
- * examples/carve_grid.c is a whole program.
+ * THE STANDARD LOOP
+ *
+ * After begin: carve until nothing is pending, open, and again, until open refuses; then finish. In slices of 1000 examinations:
+ *
+ *     wattlerugby_record record = begun.next;
+ *     wattlerugby_carve_answer carved;
+ *     wattlerugby_open_answer opened;
+ *     do {
+ *         do {
+ *             carved = wattlerugby_carve(record, dist, n, status, n, 1000);
+ *             record = carved.next;
+ *         } while (carved.pending);
+ *         opened = wattlerugby_open(record, dist, n, status, n);
+ *         record = opened.next;
+ *     } while (opened.refusal == 0);
+ *     record = wattlerugby_finish(record, dist, n, status, n).next;
+ *
+ * It ends: a refused carve has `pending` false, and each opening removes a voxel. On a grid that begin started, opened.refusal is then 14
+ * or 15. With 15 all that could be opened was; with 14 as many openings as you allowed were made, and what is still kept outside the
+ * body, if anything, is filled. docs/RESULT.md says what to conclude. examples/carve_grid.c is a whole program.
  *
  * THE GRID
  *
@@ -24,9 +45,9 @@
  * BUFFERS
  *
  * Every buffer is yours. A call is lent it for as long as the call runs, keeps no pointer to it, and returns none. A buffer is a pointer
- * and a length, and a length counts elements, not bytes. The pointer is not null, is aligned for its element, and has as many elements
- * behind it as the length says, also where a call is going to refuse the length. The buffers of one call do not overlap. Two threads may
- * call at the same time on buffers of their own.
+ * and a length, and a length counts elements, not bytes. The pointer is aligned for its element, and has as many elements behind it as
+ * the length says, also where a call is going to refuse the length. With length 0 it may be null (tested, not proved). The buffers of one
+ * call do not overlap.
  *
  * A grid in work is three things that belong together: a record, a buffer of n worked distances, and a buffer of n status bytes. They
  * stay with you between calls; lend the same two buffers, unchanged, with the record that the last call answered.
@@ -40,17 +61,49 @@
  * Checks are made in the order that stands with each call, and the first that fails gives the number. Any input at all gets an answer:
  * there is no record, buffer content, index or file that a call may not be given. What you owe is C's own: pointers as above, and a
  * `bool` that holds true or false.
+ *
+ * THREADS
+ *
+ * Threads may call at the same time on buffers of their own. They may also share a finished grid, since crossing only reads: any number
+ * of threads may be inside crossing on the same record and buffers. A grid in work is for one thread at a time.
+ *
+ * STORING A RECORD
+ *
+ * A record is plain numbers without pointers: copy it, keep it, store it with its two buffers, and go on later. Store and compare its
+ * fields, not its bytes: between the fields is padding, which holds anything. No call looks at padding, so a record that you build
+ * yourself needs no memset. A stored grid that was damaged is answered like any other input, mostly with 7.
+ *
+ * ROUNDING
+ *
+ * Crossing divides and adds doubles. The processor must round to nearest, as it does unless you changed it (fesetround).
  */
 #ifndef WATTLERUGBY_H
 #define WATTLERUGBY_H
+
+#if !defined(__x86_64__) || defined(__ILP32__) || !defined(__linux__)
+#error "libwattlerugby is built for x86-64 Linux with 64-bit pointers alone"
+#endif
 
 #include <stdbool.h>
 #include <stddef.h>
 #include <stdint.h>
 
+/* ---- version */
+
+#define WATTLERUGBY_VERSION_MAJOR 0
+#define WATTLERUGBY_VERSION_MINOR 1
+#define WATTLERUGBY_VERSION_PATCH 0
+#define WATTLERUGBY_VERSION "0.1.0"
+
 #ifdef __cplusplus
 extern "C" {
 #endif
+
+/* The version of this header, which is that of the archive it was installed with: the archive holds none of its own. */
+static inline const char *wattlerugby_version(void)
+{
+    return WATTLERUGBY_VERSION;
+}
 
 /* ---- numbers */
 
@@ -85,6 +138,35 @@ enum {
     WATTLERUGBY_BYTES_LEFT = 25        /* bytes after the last layer */
 };
 
+/* What a refusal number says, in English, without a full stop. Any number gets a text. */
+static inline const char *wattlerugby_reason(uint8_t refusal)
+{
+    switch (refusal) {
+    case WATTLERUGBY_DONE: return "not refused";
+    case WATTLERUGBY_SIDE: return "a side is outside 3 to 64";
+    case WATTLERUGBY_LENGTH: return "a lent buffer's length is not the number of voxels";
+    case WATTLERUGBY_BORDER_NEGATIVE: return "a border voxel is measured negative";
+    case WATTLERUGBY_NO_NEGATIVE: return "no voxel is measured negative";
+    case WATTLERUGBY_INDEX: return "the index is beyond the grid";
+    case WATTLERUGBY_AXIS: return "the axis is over 2, or the next voxel lies beyond the grid";
+    case WATTLERUGBY_UNFIT: return "the record does not fit its buffers";
+    case WATTLERUGBY_FINISHED: return "the grid is finished";
+    case WATTLERUGBY_NOT_FINISHED: return "the grid is not finished";
+    case WATTLERUGBY_GONE_ALREADY: return "the voxel is gone already";
+    case WATTLERUGBY_INSIDE: return "the voxel's worked distance is negative";
+    case WATTLERUGBY_NOT_PASSED: return "the voxel does not pass the local test";
+    case WATTLERUGBY_STILL_PENDING: return "a voxel is pending";
+    case WATTLERUGBY_NO_OPENING_LEFT: return "as many openings as were allowed have been made";
+    case WATTLERUGBY_NOTHING_TO_OPEN: return "there is no voxel to open";
+    case WATTLERUGBY_SHORT: return "the file is too short";
+    case WATTLERUGBY_MARK: return "a mark in the file is wrong";
+    case WATTLERUGBY_LAYER: return "a layer's z is beyond the grid";
+    case WATTLERUGBY_LAYER_TWICE: return "a layer's z came before";
+    case WATTLERUGBY_BYTES_LEFT: return "bytes are left after the last layer";
+    default: return "no number of this library";
+    }
+}
+
 /* What a status byte holds. */
 enum {
     WATTLERUGBY_GONE = 0,     /* not kept */
@@ -118,7 +200,7 @@ typedef struct wattlerugby_record {
     uint32_t openings;       /* made so far */
     uint64_t removals;       /* made so far, by carve, take and open */
     uint64_t examinations;   /* made so far, by carve */
-    int32_t euler;           /* the Euler number of the kept voxels: 1 at first, and one less for each tunnel through the body */
+    int32_t euler;           /* the Euler number of the kept voxels, 1 at first: pieces less tunnels, since there is never a hollow */
     bool finished;
 } wattlerugby_record;
 
@@ -239,6 +321,12 @@ typedef struct wattlerugby_crossing_answer {
  * the one whose coordinate there is one higher. It crosses where exactly one of the two worked distances is negative. The point lies
  * p / (p + q) of the way from the negative voxel to the other, p and q being the sizes of their distances; that coordinate is within
  * 2^-47 of the exact one, and the other two are whole. Writes nothing.
+ *
+ * The last plane of voxels along an axis has no next: x = a - 1 with axis 0, y = b - 1 with 1, z = c - 1 with 2 are refused with 6. So run
+ * x from 0 up to, and without, a - 1 where the axis is 0, and so on. No point is missed: border voxels are never kept.
+ *
+ * Each call checks the whole grid. To list all points, look at the two distances yourself and call only where one is negative and the
+ * other is not.
  *
  * Checks: 1, 2, 7, 9, 5, 6. */
 wattlerugby_crossing_answer wattlerugby_crossing(

@@ -1,5 +1,7 @@
 //! include/wattlerugby.h in Rust. The tests compare every size and offset with the header's, and every field with what the library
-//! answers.
+//! answers. The header says what each field and each call is; every pointer and length is one buffer's, as the header demands.
+
+#![allow(missing_docs)]
 
 use crate::{Point, Record, Sides};
 
