@@ -16,10 +16,14 @@ enum { MOST_SIDE = 64, MOST = MOST_SIDE * MOST_SIDE * MOST_SIDE, MOST_BYTES = 7 
 /* Examinations in one slice: between two slices a display can be drawn, or the work given up. */
 enum { SLICE = 250 };
 
+/* Points in one call: each call checks the whole grid once, so not too few. */
+enum { MOST_POINTS = 500 };
+
 static uint8_t file[MOST_BYTES + 1];
 static int16_t values[MOST];
 static int32_t dist[MOST];
 static uint8_t status[MOST];
+static double points[3 * MOST_POINTS];
 
 static int refused(const char *call, uint8_t number)
 {
@@ -57,43 +61,32 @@ static wattlerugby_record carve_to_the_end(wattlerugby_record record, size_t n, 
     return record;
 }
 
-/* The points from every voxel that has a next one along the axis. Gives how many, or -1 where the file could not be written. */
-static long write_points(FILE *out, wattlerugby_record record, size_t n, uint32_t axis)
+/* All points of the surface, as many at a time as the buffer holds. Gives how many, or -1 where they could not be written. */
+static long write_points(FILE *out, wattlerugby_record record, size_t n)
 {
-    const wattlerugby_sides s = record.sides;
-    const size_t next = axis == 0 ? 1 : axis == 1 ? s.a : s.a * s.b;
-    size_t x, y, z;
+    wattlerugby_points_answer r;
+    size_t position = 0, i;
     long count = 0;
-    for (z = 0; z + (axis == 2) < s.c; z++)
-        for (y = 0; y + (axis == 1) < s.b; y++)
-            for (x = 0; x + (axis == 0) < s.a; x++) {
-                const size_t index = x + s.a * (y + s.b * z);
-                wattlerugby_crossing_answer r;
-                /* each call checks the whole grid, so only those that cross are made */
-                if ((dist[index] < 0) == (dist[index + next] < 0))
-                    continue;
-                r = wattlerugby_crossing(record, dist, n, status, n, index, axis);
-                if (r.refusal != 0 || !r.crosses || fprintf(out, "%.17g %.17g %.17g\n", r.point.x, r.point.y, r.point.z) < 0)
-                    return -1;
-                count++;
-            }
+    do {
+        r = wattlerugby_points(record, dist, n, status, n, position, points, 3 * MOST_POINTS);
+        if (r.refusal != 0)
+            return -1;
+        for (i = 0; i < r.count; i++)
+            if (fprintf(out, "%.17g %.17g %.17g\n", points[3 * i], points[3 * i + 1], points[3 * i + 2]) < 0)
+                return -1;
+        count += (long)r.count;
+        position = r.next;
+    } while (position < 3 * n);
     return count;
 }
 
 static int write_all_points(const char *name, wattlerugby_record record, size_t n)
 {
     FILE *out = fopen(name, "w");
-    uint32_t axis;
-    long count = 0;
-    int wrong = out == NULL;
-    for (axis = 0; axis < 3 && !wrong; axis++) {
-        const long more = write_points(out, record, n, axis);
-        wrong = more < 0;
-        count += more;
-    }
+    long count = out == NULL ? -1 : write_points(out, record, n);
     if (out != NULL && fclose(out) != 0)
-        wrong = 1;
-    if (wrong) {
+        count = -1;
+    if (count < 0) {
         fprintf(stderr, "carve_grid: %s cannot be written\n", name);
         return 2;
     }

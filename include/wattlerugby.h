@@ -13,6 +13,7 @@
  *     wattlerugby_open      opens the body at the farthest voxel, where nothing may go any more
  *     wattlerugby_finish    closes the list of calls: what is kept is the body
  *     wattlerugby_crossing  a point of the body's surface between two voxels
+ *     wattlerugby_points    all points of the surface, as many at a time as you have room for
  *     wattlerugby_read, wattlerugby_read_layer   a grid file, whole or a layer at a time
  *     wattlerugby_local_test   the test by which a voxel may go, on its own
  *     wattlerugby_reason    a refusal number as text
@@ -55,17 +56,18 @@
  * ANSWERS
  *
  * Each answer is a struct, by value. Its first field, `refusal`, is 0 when the call did what it is for. Otherwise it is one of the
- * numbers below, nothing was written to any buffer, and every other number in the answer is 0. `next` is the record for the next call
- * on the same buffers: after a refusal that is the record you gave. So a caller that always goes on with `next` is always right.
+ * numbers below, nothing was written to any buffer, and every other number in the answer is 0. A record in `next` is the one for the next
+ * call on the same buffers: after a refusal that is the record you gave, each field as it was. So a caller that always goes on with it is
+ * always right.
  *
  * Checks are made in the order that stands with each call, and the first that fails gives the number. Any input at all gets an answer:
- * there is no record, buffer content, index or file that a call may not be given. What you owe is C's own: pointers as above, and a
- * `bool` that holds true or false.
+ * there is no record, buffer content, index or file that a call may not be given. What you owe is C's own: pointers as above.
  *
  * THREADS
  *
- * Threads may call at the same time on buffers of their own. They may also share a finished grid, since crossing only reads: any number
- * of threads may be inside crossing on the same record and buffers. A grid in work is for one thread at a time.
+ * Threads may call at the same time on buffers of their own. They may also share a finished grid, since crossing and points only read it:
+ * any number of threads may be inside them on the same record, distances and status bytes, each with a buffer of its own for the points. A
+ * grid in work is for one thread at a time.
  *
  * STORING A RECORD
  *
@@ -75,7 +77,7 @@
  *
  * ROUNDING
  *
- * Crossing divides and adds doubles. The processor must round to nearest, as it does unless you changed it (fesetround).
+ * Crossing and points divide and add doubles. The processor must round to nearest, as it does unless you changed it (fesetround).
  */
 #ifndef WATTLERUGBY_H
 #define WATTLERUGBY_H
@@ -116,13 +118,13 @@ enum {
     WATTLERUGBY_LENGTH = 2,            /* a lent buffer's length is not n */
     WATTLERUGBY_BORDER_NEGATIVE = 3,   /* a border voxel is measured negative: the body reaches the edge of the grid */
     WATTLERUGBY_NO_NEGATIVE = 4,       /* no voxel is measured negative: there is no body */
-    WATTLERUGBY_INDEX = 5,             /* the index is n or more */
+    WATTLERUGBY_INDEX = 5,             /* the index is n or more; points: the position is over 3 n */
     WATTLERUGBY_AXIS = 6,              /* the axis is over 2, or the next voxel lies beyond the grid */
 
     /* the state */
     WATTLERUGBY_UNFIT = 7,             /* the record or a buffer cannot be what a call left; see wattlerugby_record */
     WATTLERUGBY_FINISHED = 8,          /* finish was called already */
-    WATTLERUGBY_NOT_FINISHED = 9,      /* crossing needs a finished grid */
+    WATTLERUGBY_NOT_FINISHED = 9,      /* crossing and points need a finished grid */
     WATTLERUGBY_GONE_ALREADY = 10,     /* take: the voxel is not kept */
     WATTLERUGBY_INSIDE = 11,           /* take: the voxel's worked distance is negative */
     WATTLERUGBY_NOT_PASSED = 12,       /* take: the voxel does not pass the local test */
@@ -201,7 +203,7 @@ typedef struct wattlerugby_record {
     uint64_t removals;       /* made so far, by carve, take and open */
     uint64_t examinations;   /* made so far, by carve */
     int32_t euler;           /* the Euler number of the kept voxels, 1 at first: pieces less tunnels, since there is never a hollow */
-    bool finished;
+    uint8_t finished;        /* whether finish was called: answered as 0 or 1, and any value but 0 is taken as finished */
 } wattlerugby_record;
 
 /* A place in the grid, in voxels: the centre of voxel (x, y, z) is the point (x, y, z). */
@@ -245,7 +247,12 @@ typedef struct wattlerugby_carve_answer {
 
 /* Examines pending voxels, `limit` of them at most: each time the one with the greatest worked distance, of equals the one with the
  * smallest index. A voxel that passes the local test is gone, and the kept voxels around it that are not inside become pending. Writes
- * status bytes alone. Call it with a small limit for work in slices: many small calls leave what one large call leaves.
+ * status bytes alone.
+ *
+ * Call it with a small limit for work in slices: many small calls leave what one large call leaves. Whatever its limit, a call first checks
+ * the whole grid and looks through it for pending voxels, which takes time in proportion to n; docs/PERFORMANCE.md has that time beside the
+ * time of an examination. So choose a limit as large as your patience allows: below the number of examinations that take as long as the
+ * rest of a call, most of the time goes into the rest.
  *
  * Checks: 1, 2, 7, 8. A limit of 0 examines nothing and is not refused. */
 wattlerugby_carve_answer wattlerugby_carve(
@@ -301,7 +308,7 @@ typedef struct wattlerugby_finish_answer {
 } wattlerugby_finish_answer;
 
 /* Makes every kept voxel part of the body: a worked distance w of 0 or more becomes -w, or -1 where w is 0. Writes distances alone.
- * From then on only crossing is answered.
+ * From then on only crossing and points are answered.
  *
  * Checks: 1, 2, 7, 8, 13. */
 wattlerugby_finish_answer wattlerugby_finish(
@@ -325,8 +332,7 @@ typedef struct wattlerugby_crossing_answer {
  * The last plane of voxels along an axis has no next: x = a - 1 with axis 0, y = b - 1 with 1, z = c - 1 with 2 are refused with 6. So run
  * x from 0 up to, and without, a - 1 where the axis is 0, and so on. No point is missed: border voxels are never kept.
  *
- * Each call checks the whole grid. To list all points, look at the two distances yourself and call only where one is negative and the
- * other is not.
+ * Each call checks the whole grid. To list all points, call wattlerugby_points.
  *
  * Checks: 1, 2, 7, 9, 5, 6. */
 wattlerugby_crossing_answer wattlerugby_crossing(
@@ -334,6 +340,40 @@ wattlerugby_crossing_answer wattlerugby_crossing(
     const int32_t *dist, size_t dist_len,
     const uint8_t *status, size_t status_len,
     size_t index, uint32_t axis);
+
+/* ---- points */
+
+typedef struct wattlerugby_points_answer {
+    uint8_t refusal;
+    size_t count;   /* points written: the doubles out[0] up to, and without, out[3 * count] */
+    size_t next;    /* the position to go on from: 3 n when all were looked at */
+} wattlerugby_points_answer;
+
+/* All points of a finished body's surface from a position on. Position 3 * index + axis stands for the crossing from the voxel of that
+ * index along that axis. The points of all crossings go into `out` in rising order of position, three doubles each, x, y and z, until there
+ * is no room for one more or the positions end at 3 n. Each is the point that wattlerugby_crossing answers; a position without a next voxel,
+ * or without a crossing, gives none. `out` may have any length, and what is left of it stays as it was. With fewer than 3 doubles nothing is
+ * written, and `next` is `position`.
+ *
+ * To write out all points, in a buffer of 3000 doubles:
+ *
+ *     size_t position = 0;
+ *     wattlerugby_points_answer r;
+ *     do {
+ *         r = wattlerugby_points(record, dist, n, status, n, position, out, 3000);
+ *         write_out(out, r.count);
+ *         position = r.next;
+ *     } while (r.refusal == 0 && position < 3 * n);
+ *
+ * Each call checks the whole grid once, so lend a buffer for many points. This call is ours: document 01 has crossing alone.
+ *
+ * Checks: 1, 2 (`dist` and `status`), 7, 9, 5 (the position is over 3 n). */
+wattlerugby_points_answer wattlerugby_points(
+    wattlerugby_record given,
+    const int32_t *dist, size_t dist_len,
+    const uint8_t *status, size_t status_len,
+    size_t position,
+    double *out, size_t out_len);
 
 /* ---- the grid file
  *

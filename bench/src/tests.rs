@@ -17,7 +17,7 @@ fn theirs(r: Record) -> grid::Record {
         removals: r.removals,
         examinations: r.examinations,
         euler: i64::from(r.euler),
-        finished: r.finished,
+        finished: u8::from(r.finished),
     }
 }
 

@@ -3,7 +3,7 @@
 use crate::file::{layer, program_line, read};
 use crate::grid::{begin, Record, Refused, Sides};
 use crate::local::local_test;
-use crate::machine::{carve, crossing, finish, open, take};
+use crate::machine::{carve, crossing, finish, open, points, take};
 use crate::words::{Mistake, Words};
 use std::io::{BufRead, Write};
 
@@ -19,7 +19,7 @@ pub struct Replay {
     hash_after_each: bool,
 }
 
-/// The longest buffer that `len` makes.
+/// The longest buffer that `len` makes, and that `points` lends.
 const LONGEST: usize = 1 << 20;
 
 fn fnv(bytes: impl Iterator<Item = u8>) -> String {
@@ -66,7 +66,7 @@ fn shown(r: &Record) -> String {
         r.removals,
         r.examinations,
         r.euler,
-        u8::from(r.finished)
+        u8::from(r.finished())
     )
 }
 
@@ -101,7 +101,7 @@ pub fn standard_input() -> std::process::ExitCode {
 impl Replay {
     pub fn new() -> Self {
         let sides = Sides { a: 3, b: 3, c: 3 };
-        let record = Record { sides, t: 0, openings: 0, removals: 0, examinations: 0, euler: 1, finished: false };
+        let record = Record { sides, t: 0, openings: 0, removals: 0, examinations: 0, euler: 1, finished: 0 };
         let (values, dist, status, file) = (vec![], vec![], vec![], vec![]);
         let mut new = Replay { sides, t: 0, values, dist, status, file, record, hash_after_each: false };
         new.make_buffers();
@@ -162,9 +162,12 @@ impl Replay {
             "dump" => return self.dump(words.word()?).map(Some),
             "program" => return Ok(Some(program_line(&self.file))),
             _ => {
-                let answer = match self.call(command, words)? {
-                    Ok(values) => format!("{command} ok {values}"),
-                    Err(number) => format!("{command} refused {number}"),
+                let answer = match command {
+                    "points" => self.points(words)?,
+                    _ => match self.call(command, words)? {
+                        Ok(values) => format!("{command} ok {values}"),
+                        Err(number) => format!("{command} refused {number}"),
+                    },
                 };
                 return Ok(Some(if self.hash_after_each { format!("{answer} # {}", self.hashes()) } else { answer }));
             }
@@ -184,11 +187,25 @@ impl Replay {
             "removals" => r.removals = words.number()?,
             "examinations" => r.examinations = words.number()?,
             "euler" => r.euler = words.number::<i32>()?.into(),
-            "finished" => r.finished = words.number::<u8>()? != 0,
+            "finished" => r.finished = words.number()?,
             "show" if words.word()? == "0" => return Ok(Some(shown(r))),
             other => return Err(format!("unknown field of the record: {other}")),
         }
         Ok(None)
+    }
+
+    /// Lends a buffer that is told by its bytes, whatever the answer.
+    fn points(&self, words: &mut Words) -> Result<String, Mistake> {
+        let (position, capacity): (u64, usize) = (words.number()?, words.number()?);
+        if capacity > LONGEST {
+            return Err(format!("out of range: {capacity}"));
+        }
+        let mut out = vec![f64::from_bits(0x5A5A_5A5A_5A5A_5A5A); capacity];
+        let answer = match points(&self.record, &self.dist, &self.status, position, &mut out) {
+            Ok(all) => format!("ok count {} next {}", all.count, all.next),
+            Err(number) => format!("refused {number}"),
+        };
+        Ok(format!("points {answer} bytes {}", fnv(out.iter().flat_map(|d| d.to_bits().to_le_bytes()))))
     }
 
     fn call(&mut self, name: &str, words: &mut Words) -> Result<Result<String, Refused>, Mistake> {

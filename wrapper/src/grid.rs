@@ -1,6 +1,6 @@
 //! A grid in work: a record with the two buffers that belong to it.
 
-use crate::{begin, carve, crossing, finish, open, read, take, Carved, Opened, Point, Record, Refusal, Sides, Taken, NO_LIMIT};
+use crate::{begin, carve, crossing, finish, open, read, take, Carved, Opened, Point, Points, Record, Refusal, Sides, Taken, NO_LIMIT};
 
 /// A record with its worked distances and status bytes. After each call the record is the one for the next.
 ///
@@ -141,6 +141,24 @@ impl Grid {
     /// A point of the finished body's surface. See [`crate::crossing`].
     pub fn crossing(&self, index: usize, axis: u32) -> Result<Option<Point>, Refusal> {
         crossing(self.record, &self.dist, &self.status, index, axis)
+    }
+
+    /// All points of the finished body's surface, in rising order of 3 index + axis. See [`crate::points`].
+    ///
+    /// ```
+    /// use wattlerugby::{Grid, Refusal, Sides};
+    ///
+    /// let mut values = [5; 27];
+    /// values[13] = -5;
+    /// let mut grid = Grid::begin(Sides { a: 3, b: 3, c: 3 }, 0, &values)?;
+    /// assert_eq!(grid.points().err(), Some(Refusal::NOT_FINISHED));
+    /// grid.carve_to_the_end()?;
+    /// let along_z: Vec<f64> = grid.points()?.filter(|p| (p.x, p.y) == (1.0, 1.0)).map(|p| p.z).collect();
+    /// assert_eq!(along_z, [0.5, 1.5]);
+    /// # Ok::<(), Refusal>(())
+    /// ```
+    pub fn points(&self) -> Result<Points<'_>, Refusal> {
+        Points::of(self)
     }
 
     /// Carves to empty and opens in turn until open refuses, then finishes: the standard loop. [`Grid::ended_by`] has the number that

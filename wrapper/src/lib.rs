@@ -14,6 +14,7 @@
 //! grid.finish()?;
 //! let point = grid.crossing(13, 0)?.expect("the surface lies between voxels 13 and 14");
 //! assert_eq!((point.x, point.y, point.z), (1.5, 1.0, 1.0));
+//! assert_eq!(grid.points()?.count(), 6);
 //! # Ok::<(), wattlerugby::Refusal>(())
 //! ```
 //!
@@ -28,9 +29,11 @@
 mod grid;
 pub mod raw;
 mod refusal;
+mod surface;
 
 pub use grid::Grid;
 pub use refusal::Refusal;
+pub use surface::Points;
 
 /// The value of a missing range point. Measured values are -32,767 to 32,767; negative is inside the body.
 pub const MISSING: i16 = -32768;
@@ -74,8 +77,7 @@ impl Sides {
 /// A record is unfit, number 7, where openings > allowed, removals > n, examinations > 27 n or |euler| > 8 n; and with its buffers where a
 /// status is not 0, 1 or 3, a border voxel's status is not 0, or a voxel of negative worked distance has a status other than 1.
 ///
-/// It is plain data, and may be stored field by field with its buffers; [`Grid::from_parts`] resumes.
-#[repr(C)]
+/// It is plain data, and may be stored field by field with its buffers; [`Grid::from_parts`] resumes. [`raw::Record`] is the same as C has it.
 #[derive(Clone, Copy, Debug, Default, PartialEq, Eq)]
 pub struct Record {
     /// The grid's sides.
@@ -143,6 +145,15 @@ pub struct Opened {
     pub next: Record,
 }
 
+/// What [`points`] found.
+#[derive(Clone, Copy, Debug, PartialEq, Eq)]
+pub struct Filled {
+    /// Points written, three doubles each, from the buffer's start on.
+    pub count: usize,
+    /// The position to go on from; 3 n where all were looked at.
+    pub next: usize,
+}
+
 /// The local test: groups of touched cells and of bare ones, and the touched corners, edges and faces.
 #[repr(C)]
 #[derive(Clone, Copy, Debug, PartialEq, Eq)]
@@ -195,7 +206,7 @@ pub fn begin(sides: Sides, allowed: u16, values: &[i16], dist: &mut [i32], statu
             status.len(),
         )
     };
-    done(r.refusal, r.next)
+    done(r.refusal, r.next.into())
 }
 
 /// Examines pending voxels, `limit` of them at most: each time the one with the greatest worked distance, of equals the one with the
@@ -214,46 +225,70 @@ pub fn begin(sides: Sides, allowed: u16, values: &[i16], dist: &mut [i32], statu
 /// assert_eq!((done.examined, done.removed, done.pending), (2, 2, false));
 /// # Ok::<(), wattlerugby::Refusal>(())
 /// ```
-pub fn carve(given: Record, dist: &[i32], status: &mut [u8], limit: u32) -> Result<Carved, Refusal> {
+pub fn carve(given: impl Into<raw::Record>, dist: &[i32], status: &mut [u8], limit: u32) -> Result<Carved, Refusal> {
     // SAFETY: as in `begin`.
-    let r = unsafe { raw::wattlerugby_carve(given, dist.as_ptr(), dist.len(), status.as_mut_ptr(), status.len(), limit) };
-    done(r.refusal, Carved { examined: r.examined, removed: r.removed, pending: r.pending, next: r.next })
+    let r = unsafe { raw::wattlerugby_carve(given.into(), dist.as_ptr(), dist.len(), status.as_mut_ptr(), status.len(), limit) };
+    done(r.refusal, Carved { examined: r.examined, removed: r.removed, pending: r.pending, next: r.next.into() })
 }
 
 /// Removes the voxel of that index, pending or not, if it is kept, outside, and passes the local test.
 ///
 /// Checks: 1, 2, 7, 8, 5, 10, 11, 12.
-pub fn take(given: Record, dist: &[i32], status: &mut [u8], index: usize) -> Result<Taken, Refusal> {
+pub fn take(given: impl Into<raw::Record>, dist: &[i32], status: &mut [u8], index: usize) -> Result<Taken, Refusal> {
     // SAFETY: as in `begin`.
-    let r = unsafe { raw::wattlerugby_take(given, dist.as_ptr(), dist.len(), status.as_mut_ptr(), status.len(), index) };
-    done(r.refusal, Taken { k: r.k, m: r.m, next: r.next })
+    let r = unsafe { raw::wattlerugby_take(given.into(), dist.as_ptr(), dist.len(), status.as_mut_ptr(), status.len(), index) };
+    done(r.refusal, Taken { k: r.k, m: r.m, next: r.next.into() })
 }
 
 /// Removes the kept outside voxel with a face neighbour not kept that has the greatest worked distance, of equals the smallest index.
 ///
 /// Checks: 1, 2, 7, 8, 13, 14, 15.
-pub fn open(given: Record, dist: &[i32], status: &mut [u8]) -> Result<Opened, Refusal> {
+pub fn open(given: impl Into<raw::Record>, dist: &[i32], status: &mut [u8]) -> Result<Opened, Refusal> {
     // SAFETY: as in `begin`.
-    let r = unsafe { raw::wattlerugby_open(given, dist.as_ptr(), dist.len(), status.as_mut_ptr(), status.len()) };
-    done(r.refusal, Opened { index: r.index, k: r.k, m: r.m, next: r.next })
+    let r = unsafe { raw::wattlerugby_open(given.into(), dist.as_ptr(), dist.len(), status.as_mut_ptr(), status.len()) };
+    done(r.refusal, Opened { index: r.index, k: r.k, m: r.m, next: r.next.into() })
 }
 
 /// Makes every kept voxel part of the body: a worked distance w of 0 or more becomes -w, or -1 where w is 0.
 ///
 /// Checks: 1, 2, 7, 8, 13.
-pub fn finish(given: Record, dist: &mut [i32], status: &[u8]) -> Result<Record, Refusal> {
+pub fn finish(given: impl Into<raw::Record>, dist: &mut [i32], status: &[u8]) -> Result<Record, Refusal> {
     // SAFETY: as in `begin`.
-    let r = unsafe { raw::wattlerugby_finish(given, dist.as_mut_ptr(), dist.len(), status.as_ptr(), status.len()) };
-    done(r.refusal, r.next)
+    let r = unsafe { raw::wattlerugby_finish(given.into(), dist.as_mut_ptr(), dist.len(), status.as_ptr(), status.len()) };
+    done(r.refusal, r.next.into())
 }
 
 /// Where the surface of a finished body crosses the line from the voxel of that index to the next along an axis (0, 1, 2), if it does.
 ///
 /// Checks: 1, 2, 7, 9, 5, 6.
-pub fn crossing(given: Record, dist: &[i32], status: &[u8], index: usize, axis: u32) -> Result<Option<Point>, Refusal> {
+pub fn crossing(given: impl Into<raw::Record>, dist: &[i32], status: &[u8], index: usize, axis: u32) -> Result<Option<Point>, Refusal> {
     // SAFETY: as in `begin`.
-    let r = unsafe { raw::wattlerugby_crossing(given, dist.as_ptr(), dist.len(), status.as_ptr(), status.len(), index, axis) };
+    let r = unsafe { raw::wattlerugby_crossing(given.into(), dist.as_ptr(), dist.len(), status.as_ptr(), status.len(), index, axis) };
     done(r.refusal, r.crosses.then_some(r.point))
+}
+
+/// The points of all crossings of a finished body from a position on, three doubles a point, until there is no room in `out` for one more
+/// or the positions end. Position 3 i + k stands for [`crossing`] from voxel i along axis k, and each point is that call's; a position
+/// without one gives none. The rest of `out` stays as it was. Answers how many, and the position to go on from: 3 n at the end.
+///
+/// The grid is checked once a call, so `out` should be large. [`Grid::points`] gives them all.
+///
+/// Checks: 1, 2 (`dist` and `status`), 7, 9, 5 (the position is over 3 n).
+pub fn points(given: impl Into<raw::Record>, dist: &[i32], status: &[u8], position: usize, out: &mut [f64]) -> Result<Filled, Refusal> {
+    // SAFETY: as in `begin`.
+    let r = unsafe {
+        raw::wattlerugby_points(
+            given.into(),
+            dist.as_ptr(),
+            dist.len(),
+            status.as_ptr(),
+            status.len(),
+            position,
+            out.as_mut_ptr(),
+            out.len(),
+        )
+    };
+    done(r.refusal, Filled { count: r.count, next: r.next })
 }
 
 /// Reads a whole grid file into n values, and answers sides and T. Bytes 2, 3 and 4 of the file tell how many values to lend.

@@ -69,6 +69,20 @@ static void crossing(wattlerugby_record record, const int32_t *dist, const uint8
         printf("none\n");
 }
 
+static void points(wattlerugby_record record, const int32_t *dist, const uint8_t *status, size_t position, size_t room)
+{
+    double out[9];
+    size_t i;
+    wattlerugby_points_answer r = wattlerugby_points(record, dist, N, status, N, position, out, room);
+    printf("points from %u, room for %u doubles: ", (unsigned)position, (unsigned)room);
+    if (r.refusal != 0)
+        printf("refused %u\n", r.refusal);
+    else
+        printf("%u, next %u\n", (unsigned)r.count, (unsigned)r.next);
+    for (i = 0; i < r.count; i++)
+        printf("  (%g, %g, %g)\n", out[3 * i], out[3 * i + 1], out[3 * i + 2]);
+}
+
 static int ring(void)
 {
     int16_t values[N];
@@ -103,6 +117,12 @@ static int ring(void)
     crossing(record, dist, status, 37, 0);
     crossing(record, dist, status, 36, 1);
     crossing(record, dist, status, 37, 3);
+    points(record, dist, status, 0, 9);
+    points(record, dist, status, 3 * 36, 4);
+    points(record, dist, status, 3 * 36 + 1, 2);
+    points(record, dist, status, 3 * 43 + 1, 9);
+    points(record, dist, status, 3 * N, 9);
+    points(record, dist, status, 3 * N + 1, 9);
     record = carve(record, dist, status, 1);
 
     printf("the middle layer:\n");
@@ -120,6 +140,9 @@ static int nulls(void)
 {
     const wattlerugby_sides fit = {3, 3, 3}, unfit = {3, 3, 65};
     const uint8_t header[7] = {0x56, 0x48, 3, 3, 3, 0, 0};
+    const int32_t dist[27] = {0};
+    const uint8_t status[27] = {0};
+    wattlerugby_points_answer filled;
     wattlerugby_record r;
     int wrong = 0;
     memset(&r, 0, sizeof r);
@@ -131,9 +154,13 @@ static int nulls(void)
     wrong += wattlerugby_open(r, NULL, 0, NULL, 0).refusal != WATTLERUGBY_LENGTH;
     wrong += wattlerugby_finish(r, NULL, 0, NULL, 0).refusal != WATTLERUGBY_LENGTH;
     wrong += wattlerugby_crossing(r, NULL, 0, NULL, 0, 13, 0).refusal != WATTLERUGBY_LENGTH;
+    wrong += wattlerugby_points(r, NULL, 0, NULL, 0, 0, NULL, 0).refusal != WATTLERUGBY_LENGTH;
     wrong += wattlerugby_read(NULL, 0, NULL, 0).refusal != WATTLERUGBY_SHORT;
     wrong += wattlerugby_read(header, 7, NULL, 0).refusal != WATTLERUGBY_LENGTH;
     wrong += wattlerugby_read_layer(fit, NULL, 0, 7).refusal != WATTLERUGBY_SHORT;
+    r.finished = 1;
+    filled = wattlerugby_points(r, dist, 27, status, 27, 5, NULL, 0);
+    wrong += filled.refusal != 0 || filled.count != 0 || filled.next != 5;
     printf("null pointers: %s\n", wrong ? "WRONG" : "as with any other of length 0");
     return wrong;
 }
@@ -161,6 +188,7 @@ static int padding(void)
     int16_t values[27];
     int32_t dist[27];
     uint8_t status[27];
+    double out[18];
     const wattlerugby_sides sides = {3, 3, 3};
     int i, byte, wrong = 0;
     for (i = 0; i < 27; i++)
@@ -172,8 +200,42 @@ static int padding(void)
         wrong += wattlerugby_open(r, dist, 27, status, 27).refusal != WATTLERUGBY_NO_OPENING_LEFT;
         r = padded(wattlerugby_finish(r, dist, 27, status, 27).next, byte);
         wrong += wattlerugby_crossing(r, dist, 27, status, 27, 13, 0).point.x != 1.5;
+        wrong += wattlerugby_points(r, dist, 27, status, 27, 0, out, 18).count != 6 || out[9] != 1.5;
     }
     printf("padding: %s\n", wrong ? "WRONG" : "not looked at");
+    return wrong;
+}
+
+/* ---- finished: any value but 0, handed back as it was given where a call refuses */
+
+static int finished_bytes(void)
+{
+    const wattlerugby_sides sides = {3, 3, 3};
+    int32_t dist[27] = {0};
+    uint8_t status[27] = {0};
+    wattlerugby_record r;
+    int byte, wrong = 0;
+    memset(&r, 0, sizeof r);
+    r.sides = sides;
+    wrong += wattlerugby_carve(r, dist, 27, status, 27, 1).refusal != 0;
+    for (byte = 1; byte < 256; byte++) {
+        wattlerugby_carve_answer carved;
+        wattlerugby_take_answer taken;
+        wattlerugby_open_answer opened;
+        wattlerugby_finish_answer closed;
+        r.finished = (uint8_t)byte;
+        carved = wattlerugby_carve(r, dist, 27, status, 27, 1);
+        taken = wattlerugby_take(r, dist, 27, status, 27, 13);
+        opened = wattlerugby_open(r, dist, 27, status, 27);
+        closed = wattlerugby_finish(r, dist, 27, status, 27);
+        wrong += carved.refusal != WATTLERUGBY_FINISHED || carved.next.finished != byte;
+        wrong += taken.refusal != WATTLERUGBY_FINISHED || taken.next.finished != byte;
+        wrong += opened.refusal != WATTLERUGBY_FINISHED || opened.next.finished != byte;
+        wrong += closed.refusal != WATTLERUGBY_FINISHED || closed.next.finished != byte;
+        wrong += wattlerugby_crossing(r, dist, 27, status, 27, 13, 0).refusal != 0;
+        wrong += wattlerugby_points(r, dist, 27, status, 27, 0, NULL, 0).refusal != 0;
+    }
+    printf("finished: %s\n", wrong ? "WRONG" : "any value but 0");
     return wrong;
 }
 
@@ -213,5 +275,5 @@ int main(int argc, char **argv)
         numbers();
         return 0;
     }
-    return ring() + nulls() + padding();
+    return ring() + nulls() + padding() + finished_bytes();
 }

@@ -4,7 +4,7 @@ use std::mem::{offset_of, size_of};
 use std::path::{Path, PathBuf};
 use std::process::Command;
 use wattlerugby::raw::*;
-use wattlerugby::{Grid, LocalTest, Point, Record, Refusal, Sides};
+use wattlerugby::{Grid, LocalTest, Point, Refusal, Sides};
 
 fn root() -> PathBuf {
     Path::new(env!("CARGO_MANIFEST_DIR")).join("..")
@@ -73,6 +73,7 @@ fn sizes_and_offsets() {
     lay_out!(ours, "open_answer", OpenAnswer, refusal index k m next);
     lay_out!(ours, "finish_answer", FinishAnswer, refusal next);
     lay_out!(ours, "crossing_answer", CrossingAnswer, refusal crosses point);
+    lay_out!(ours, "points_answer", PointsAnswer, refusal count next);
     lay_out!(ours, "read_answer", ReadAnswer, refusal sides allowed);
     lay_out!(ours, "read_layer_answer", ReadLayerAnswer, refusal z from to);
     lay_out!(ours, "local_answer", LocalTest, k m corners edges faces);
@@ -105,11 +106,11 @@ fn version_and_numbers() {
     assert_eq!([number("MAJOR"), number("MINOR"), number("PATCH")].join("."), env!("CARGO_PKG_VERSION"));
 }
 
-/// Every crossing of a file's body, along x, then y, then z.
+/// Every crossing of a file's body, in rising order of 3 index + axis.
 fn points_of(file: &Path) -> Vec<[f64; 3]> {
     let mut grid = Grid::from_file(&std::fs::read(file).expect("the sample can be read")).expect("the sample is taken");
     grid.carve_to_the_end().expect("a begun grid is carved");
-    let crossings = (0..3).flat_map(|axis| (0..grid.status().len()).map(move |i| (i, axis)));
+    let crossings = (0..grid.status().len()).flat_map(|i| (0..3).map(move |axis| (i, axis)));
     crossings
         .filter_map(|(i, axis)| match grid.crossing(i, axis) {
             Err(Refusal::AXIS) => None, // the last plane
@@ -132,6 +133,6 @@ fn example() {
             let numbers: Vec<f64> = line.split(' ').map(|word| word.parse().expect("a number")).collect();
             <[f64; 3]>::try_from(numbers).expect("three numbers")
         });
-        assert_eq!(read.collect::<Vec<_>>(), points_of(&sample));
+        assert!(read.collect::<Vec<_>>() == points_of(&sample), "{} has other points than crossing gives", points.display());
     }
 }

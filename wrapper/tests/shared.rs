@@ -14,9 +14,10 @@ fn points(grid: &Grid) -> Vec<Result<Option<Point>, Refusal>> {
 fn threads_share_a_finished_grid() {
     let mut grid = sphere();
     grid.carve_to_the_end().unwrap();
-    let alone = points(&grid);
+    let both = || (points(&grid), grid.points().unwrap().collect::<Vec<_>>());
+    let alone = both();
     std::thread::scope(|scope| {
-        let others: Vec<_> = (0..4).map(|_| scope.spawn(|| points(&grid))).collect();
+        let others: Vec<_> = (0..4).map(|_| scope.spawn(both)).collect();
         for other in others {
             assert_eq!(other.join().unwrap(), alone);
         }

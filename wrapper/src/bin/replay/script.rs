@@ -1,7 +1,8 @@
 //! A script's state, and what each line does to it.
 
 use crate::words::{hash, Words};
-use wattlerugby::{begin, carve, crossing, finish, local_test, open, read, read_layer, take, Grid, Record, Refusal, Sides};
+use wattlerugby::raw::Record;
+use wattlerugby::{begin, carve, crossing, finish, local_test, open, points, read, read_layer, take, Grid, Refusal, Sides};
 
 pub struct State {
     sides: Sides,
@@ -58,9 +59,12 @@ impl State {
             "dump" => return self.dump(words.word()?),
             "program" => return Ok(Some(program(&self.file))),
             _ => {
-                let said = match self.call(command, words)? {
-                    Ok(text) => format!("{command} ok {text}"),
-                    Err(Refusal(number)) => format!("{command} refused {number}"),
+                let said = match command {
+                    "points" => self.points(words)?,
+                    _ => match self.call(command, words)? {
+                        Ok(text) => format!("{command} ok {text}"),
+                        Err(Refusal(number)) => format!("{command} refused {number}"),
+                    },
                 };
                 return Ok(Some(if self.hashes { format!("{said} # {}", self.buffers()) } else { said }));
             }
@@ -88,7 +92,7 @@ impl State {
             "removals" => r.removals = words.number()?,
             "examinations" => r.examinations = words.number()?,
             "euler" => r.euler = words.number()?,
-            "finished" => r.finished = words.number::<u8>()? != 0,
+            "finished" => r.finished = words.number()?,
             "show" => {
                 let zero = words.word()?;
                 return if zero == "0" { Ok(Some(shown(r))) } else { Err(format!("rec show 0, and not {zero}")) };
@@ -114,9 +118,23 @@ impl State {
     }
 
     /// The record that a call answered holds from then on.
-    fn goes_on(&mut self, next: Record) -> String {
-        self.record = next;
-        shown(&next)
+    fn goes_on(&mut self, next: wattlerugby::Record) -> String {
+        self.record = next.into();
+        shown(&self.record)
+    }
+
+    /// All points from a position on, into a buffer whose every byte is told, written or not.
+    fn points(&mut self, words: &mut Words) -> Result<String, String> {
+        let (position, capacity) = (words.number()?, words.number()?);
+        if capacity > LONGEST {
+            return Err(format!("longer than {LONGEST}: {capacity}"));
+        }
+        let mut out = vec![f64::from_bits(0x5A5A_5A5A_5A5A_5A5A); capacity];
+        let answer = match points(self.record, &self.dist, &self.status, position, &mut out) {
+            Ok(filled) => format!("ok count {} next {}", filled.count, filled.next),
+            Err(Refusal(number)) => format!("refused {number}"),
+        };
+        Ok(format!("points {answer} bytes {}", hash(out.iter().flat_map(|d| d.to_bits().to_le_bytes()))))
     }
 
     fn call(&mut self, name: &str, words: &mut Words) -> Result<Result<String, Refusal>, String> {
@@ -151,7 +169,7 @@ impl State {
     }
 }
 
-/// The longest buffer that `len` makes: longer than any grid's, and short enough to be made.
+/// The longest buffer that `len` makes and `points` lends: longer than any grid's, and short enough to be made.
 const LONGEST: usize = 1 << 20;
 
 /// fill V, set I V, list V V .., len L
@@ -176,7 +194,7 @@ fn edit<T: Copy + Default + TryFrom<i128>>(buffer: &mut Vec<T>, words: &mut Word
 fn shown(r: &Record) -> String {
     let Record { sides, allowed, openings, removals, examinations, euler, finished } = r;
     let Sides { a, b, c } = sides;
-    let finished = u8::from(*finished);
+    let finished = u8::from(*finished != 0);
     format!(
         "rec {a} {b} {c} T {allowed} openings {openings} removals {removals} examinations {examinations} euler {euler} finished {finished}"
     )
