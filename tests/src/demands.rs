@@ -6,7 +6,7 @@ use reference::replay::Replay;
 use std::collections::BTreeMap;
 
 /// The calls that can be refused.
-const CALLS: [&str; 9] = ["begin", "carve", "take", "open", "finish", "crossing", "readlayer", "read", "program"];
+const CALLS: [&str; 10] = ["begin", "carve", "take", "open", "finish", "crossing", "points", "readlayer", "read", "program"];
 
 /// Pairs of faults that no input has together, and why.
 const IMPOSSIBLE: &[(&str, Check, Check, &str)] = &[
@@ -79,6 +79,7 @@ fn causes(call: &str, check: Check) -> &'static [&'static str] {
         (_, "2") => LENGTHS,
         (_, "3") => BORDER,
         (_, "4") => &["none below 0", "missing ones alone"],
+        ("points", "5") => &["one over", "far over"],
         (_, "6") => &["axis over 2", "beyond along x", "beyond along y", "beyond along z"],
         (_, "7") => UNFIT,
         ("readlayer", "21") => &["start past the end", "start at the end", "cut off"],
@@ -124,6 +125,32 @@ const ALSO: &[(&str, usize)] = &[
     ("crossing: q is 0", 10),
     ("crossing: p is 2147483648", 10),
     ("crossing: p + q is 4294967295", 1),
+    // finished is a byte
+    ("carve refused: 8, finished 2", 1),
+    ("carve refused: 8, finished 255", 1),
+    ("take refused: 8, finished 2", 1),
+    ("open refused: 8, finished 2", 1),
+    ("finish refused: 8, finished 2", 1),
+    ("crossing: finished 2", 1),
+    ("crossing: finished 255", 1),
+    ("points: finished 2", 1),
+    ("points: finished 255", 1),
+    // all points
+    ("points: capacity 0", 2),
+    ("points: capacity 2", 2),
+    ("points: capacity 3", 5),
+    ("points: capacity 5", 5),
+    ("points: position 0, all in one call", 20),
+    ("points: position 0, the buffer full before the end", 20),
+    ("points: the buffer full with the last point", 5),
+    ("points: room for one more point at the end", 20),
+    ("points: from the middle", 50),
+    ("points: from the middle of a voxel's three", 50),
+    ("points: position 3n", 5),
+    ("points: position 3n, capacity 0", 1),
+    ("points: none left", 5),
+    ("points: a capacity that is no multiple of 3", 20),
+    ("points: 1000 or more in one call", 2),
     // sizes
     ("begin on 64 64 64", 1),
     ("carve on 64 64 64", 1),
@@ -131,12 +158,14 @@ const ALSO: &[(&str, usize)] = &[
     ("open on 64 64 64", 1),
     ("finish on 64 64 64", 1),
     ("crossing on 64 64 64", 1),
+    ("points on 64 64 64", 1),
     ("begin on three different sides", 20),
     ("carve on three different sides", 20),
     ("take on three different sides", 20),
     ("open on three different sides", 20),
     ("finish on three different sides", 10),
     ("crossing on three different sides", 20),
+    ("points on three different sides", 20),
     // files
     ("read: a side of 64", 3),
     ("read: three different sides", 5),
@@ -205,6 +234,7 @@ impl Before {
         let said = answer.split(" # ").next().unwrap_or("");
         let Some(faults) = self.faults else { return Ok(if self.call == "local" { self.seen } else { Vec::new() }) };
         let refused = said.trim_start_matches(&self.call).trim_start().strip_prefix("refused ");
+        let refused = refused.map(|number| number.split(' ').next().unwrap_or(number));
         if refused != faults.first().map(Fault::number) {
             let by_faults = faults.first().map_or("done".to_string(), |fault| format!("refused {}", fault.number()));
             return Err(format!("the answer {said:?} is not what the order of checks gives: {by_faults}"));
@@ -213,7 +243,8 @@ impl Before {
             let seen = self.seen.into_iter().chain(sights::answered(&self.call, said));
             return Ok(seen.chain([format!("{} done", self.call)]).collect());
         };
-        Ok(refusals(&self.call, first, &faults))
+        let seen = self.seen.iter().filter_map(|seen| seen.strip_prefix("if refused 8: ").filter(|_| first.check == "8"));
+        Ok(refusals(&self.call, first, &faults).into_iter().chain(seen.map(str::to_string)).collect())
     }
 }
 

@@ -1,4 +1,5 @@
-//! Every fault that a call has, each by itself and whether or not another one is answered first. From document 01's numbers, with the order of
+//! Every fault that a call has, each by itself and whether or not another one is answered first. From document 01's numbers, and docs/RULES.md
+//! for `points`, which is ours, with the order of
 //! checks beside them, and not from the reference's code: so the kit can be asked for every pair of faults, and the reference is held to the order.
 
 use reference::grid::Sides;
@@ -33,6 +34,7 @@ pub fn order(call: &str) -> Option<&'static [Check]> {
         "open" => &["1", "2", "7", "8", "13", "14", "15"],
         "finish" => &["1", "2", "7", "8", "13"],
         "crossing" => &["1", "2", "7", "9", "5", "6"],
+        "points" => &["1", "2", "7", "9", "5"],
         "readlayer" => &["1", "21", "22", "23"],
         "read" => &["header 21", "header 22", "1", "2", "21", "22", "23", "24", "25"],
         "program" => &["header 21", "header 22", "1", "21", "22", "23", "24", "25", "3", "4"],
@@ -63,6 +65,10 @@ pub fn faults(state: &Replay, command: &str) -> Option<Vec<Fault>> {
             found.records(&state.file);
             let (sides, values) = contents(&state.file);
             found.values(&sides, &values);
+        }
+        "points" => {
+            found.record(state);
+            found.position(&state.record.sides, argument(1));
         }
         _ => {
             found.record(state);
@@ -243,8 +249,8 @@ impl Found {
             self.if_so(d < 0 && s == 0, "7", "negative and gone");
             self.if_so(d < 0 && s == 3, "7", "negative and pending");
         }
-        self.if_so(r.finished, "8", "");
-        self.if_so(!r.finished, "9", "");
+        self.if_so(r.finished(), "8", "");
+        self.if_so(!r.finished(), "9", "");
     }
 
     /// 5, 6, 10 to 15.
@@ -271,6 +277,13 @@ impl Found {
         let voxels = n.min(dist.len().min(status.len()) as u128) as usize;
         let to_open = |i: usize| status[i] != 0 && dist[i] >= 0 && bare(&r.sides, status, i);
         self.if_so(call == "open" && !(0..voxels).any(to_open), "15", "");
+    }
+
+    /// 5 of `points`.
+    fn position(&mut self, sides: &Sides, position: u64) {
+        let end = 3 * size(sides).min(1 << 70);
+        self.if_so(u128::from(position) == end + 1, "5", "one over");
+        self.if_so(u128::from(position) > end + 1, "5", "far over");
     }
 
     // ---- files

@@ -75,7 +75,7 @@ struct Maker {
 impl Maker {
     fn new(seed: u64) -> Self {
         let sides = Sides { a: 3, b: 3, c: 3 };
-        let record = Record { sides, t: 0, openings: 0, removals: 0, examinations: 0, euler: 1, finished: false };
+        let record = Record { sides, t: 0, openings: 0, removals: 0, examinations: 0, euler: 1, finished: 0 };
         Maker { r: Random::new(seed.wrapping_mul(0x9E37_79B9)), text: String::new(), record, dist: Vec::new(), status: Vec::new() }
     }
 
@@ -94,7 +94,7 @@ impl Maker {
         self.say(format!("autohash 1\nsides {a} {b} {c}\nT {t}"));
         self.dist = vec![0x5A5A_5A5A; sides.n()];
         self.status = vec![0x5A; sides.n()];
-        self.record = Record { sides, t, openings: 0, removals: 0, examinations: 0, euler: 1, finished: false };
+        self.record = Record { sides, t, openings: 0, removals: 0, examinations: 0, euler: 1, finished: 0 };
         self.show_record();
     }
 
@@ -102,7 +102,7 @@ impl Maker {
         let r = self.record;
         self.say(format!("rec a {}\nrec b {}\nrec c {}\nrec T {}\nrec openings {}", r.sides.a, r.sides.b, r.sides.c, r.t, r.openings));
         self.say(format!("rec removals {}\nrec examinations {}", r.removals, r.examinations));
-        self.say(format!("rec euler {}\nrec finished {}", r.euler, u8::from(r.finished)));
+        self.say(format!("rec euler {}\nrec finished {}", r.euler, r.finished));
     }
 
     // ---- calls, as the reference makes them
@@ -131,6 +131,18 @@ impl Maker {
         let index = self.voxel();
         let axis = if self.r.chance(95) { self.r.below(3) } else { self.r.pick(&[3, 7, 255, 256, 4294967295]) };
         self.say(format!("crossing {index} {axis}"));
+    }
+
+    /// All points from a position on, into a buffer of some length.
+    fn points(&mut self) {
+        let end = 3 * self.status.len() as u64;
+        let position = match self.r.below(10) {
+            0..=2 => 0,
+            3..=7 => self.r.below(end.max(1)),
+            _ => self.r.pick(&[end, end, end + 1, end.saturating_sub(1), 1 << 32, u64::MAX]),
+        };
+        let capacity = self.r.pick(&[0, 1, 2, 3, 4, 5, 6, 30, 100, 3000]);
+        self.say(format!("points {position} {capacity}"));
     }
 
     // ---- choices
@@ -202,6 +214,9 @@ impl Maker {
             self.crossing();
         }
         self.say("carve 1\nopen\nfinish\ntake 0");
+        for _ in 0..3 {
+            self.points();
+        }
     }
 
     // ---- lists of calls from begin

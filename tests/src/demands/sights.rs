@@ -12,12 +12,20 @@ pub fn of(state: &Replay, call: &str, words: &[&str]) -> Vec<String> {
         "take" => take(state, number(1)),
         "finish" => finish(state),
         "crossing" => crossing(state, number(1), number(2)),
+        "points" => points(state, number(1), number(2)),
         "read" | "program" => file(call, &state.file),
         "readlayer" => vec![(number(1) > 7).then_some("readlayer: not the first record".to_string())].into_iter().flatten().collect(),
         "local" => local(words),
         _ => Vec::new(),
     };
-    if ["begin", "carve", "take", "open", "finish", "crossing"].contains(&call) {
+    let byte = state.record.finished;
+    match call {
+        // the entries of calls that are refused for it
+        "carve" | "take" | "open" | "finish" => seen.push(format!("if refused 8: {call} refused: 8, finished {byte}")),
+        "crossing" | "points" => seen.push(format!("{call}: finished {byte}")),
+        _ => {}
+    }
+    if ["begin", "carve", "take", "open", "finish", "crossing", "points"].contains(&call) {
         let sides = if call == "begin" { state.sides } else { state.record.sides };
         seen.extend(chosen(&[
             (sides == Sides { a: 64, b: 64, c: 64 }, format!("{call} on 64 64 64")),
@@ -38,6 +46,7 @@ pub fn answered(call: &str, said: &str) -> Vec<String> {
             (after("m") > 1, "open: m is 2 or more"),
             (after("k") == 1 && after("m") == 1, "open: k and m are 1"),
         ]),
+        "points" => chosen(&[(after("count") >= 1000, "points: 1000 or more in one call")]),
         "program" => chosen(&[
             (after("opened") > 0, "program: an opening"),
             (after("opened") > 1, "program: two openings"),
@@ -147,6 +156,40 @@ fn crossing(state: &Replay, index: u64, axis: u64) -> Vec<String> {
         (crosses && p == 1 << 31, "crossing: p is 2147483648"),
         (crosses && p + q == (1 << 32) - 1, "crossing: p + q is 4294967295"),
     ])
+}
+
+fn points(state: &Replay, position: u64, capacity: u64) -> Vec<String> {
+    let sides = &state.record.sides;
+    if !sides.fit() || state.dist.len() != sides.n() || position > 3 * sides.n() as u64 {
+        return Vec::new();
+    }
+    let end = 3 * sides.n() as u64;
+    let left = (position..end).filter(|p| crosses(state, *p)).count() as u64;
+    let room = capacity / 3;
+    chosen(&[
+        (capacity == 0, "points: capacity 0"),
+        (capacity == 2, "points: capacity 2"),
+        (capacity == 3, "points: capacity 3"),
+        (capacity == 5, "points: capacity 5"),
+        (position == 0 && left > 0 && room >= left, "points: position 0, all in one call"),
+        (position == 0 && room > 0 && room < left, "points: position 0, the buffer full before the end"),
+        (left > 0 && room == left, "points: the buffer full with the last point"),
+        (left > 0 && room > left, "points: room for one more point at the end"),
+        (position > 0 && left > 0 && room > 0, "points: from the middle"),
+        (!position.is_multiple_of(3) && left > 0 && room > 0, "points: from the middle of a voxel's three"),
+        (position == end && capacity > 2, "points: position 3n"),
+        (position == end && capacity == 0, "points: position 3n, capacity 0"),
+        (position < end && left == 0 && room > 0, "points: none left"),
+        (!capacity.is_multiple_of(3) && left > room && room > 0, "points: a capacity that is no multiple of 3"),
+    ])
+}
+
+/// Whether a position has a point.
+fn crosses(state: &Replay, position: u64) -> bool {
+    let (sides, index) = (&state.record.sides, (position / 3) as usize);
+    let mut there = sides.coordinates(index);
+    there[(position % 3) as usize] += 1;
+    sides.index(there).is_some_and(|next| (state.dist[index] < 0) != (state.dist[next] < 0))
 }
 
 fn file(call: &str, bytes: &[u8]) -> Vec<String> {

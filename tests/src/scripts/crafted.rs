@@ -39,7 +39,7 @@ impl Maker {
         self.record.removals = up_to(&mut self.r, n);
         self.record.examinations = up_to(&mut self.r, 27 * n);
         self.record.euler = up_to(&mut self.r, 8 * n) as i64 * self.r.pick(&[1, -1]);
-        self.record.finished = finished;
+        self.record.finished = u8::from(finished);
         self.show_record();
         let (dist, status) = (self.dist.clone(), self.status.clone());
         self.list_of("dist", &dist);
@@ -62,6 +62,13 @@ impl Maker {
             self.crossing();
         }
         self.say("carve 3\ntake 0\nopen\nfinish");
+        for _ in 0..10 {
+            self.points();
+        }
+        let byte = self.r.pick(&[2, 3, 128, 254, 255]);
+        self.say(format!("rec finished {byte}\ncarve 1\ntake 0\nopen\nfinish\nrec show 0"));
+        self.crossing();
+        self.points();
     }
 
     // ---- unfit records, one clause at a time
@@ -146,5 +153,6 @@ impl Maker {
         let (limit, index) = (self.limit(), self.any_voxel());
         let axis = self.r.below(4);
         self.say(format!("carve {limit}\ntake {index}\nopen\nfinish\ncrossing {index} {axis}"));
+        self.points();
     }
 }

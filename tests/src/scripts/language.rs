@@ -13,7 +13,7 @@ const SCRIPTS: &[&str] = &[
     "# the ends of the record's ranges\nrec a 18446744073709551615\nrec b 0\nrec c 64\nrec T 65535\nrec openings 4294967295\n\
      rec removals 18446744073709551615\nrec examinations 18446744073709551615\nrec euler -2147483648\nrec finished 255\nrec show 0\n\
      rec euler 2147483647\nrec finished 0\nrec show 0\ncarve 4294967295\ntake 18446744073709551615\nopen\nfinish\n\
-     crossing 18446744073709551615 4294967295\nreadlayer 18446744073709551615\nrec show 0\n",
+     crossing 18446744073709551615 4294967295\nreadlayer 18446744073709551615\npoints 18446744073709551615 1048576\nrec show 0\n",
     "# after a refused begin the record is what it was; after a refused read so are sides and T\nvalues fill 5\nvalues set 13 -5\nT 65535\nbegin\n\
      rec examinations 3\nvalues fill 5\nbegin\nrec show 0\ncarve 0\nfile 5648030303\nread\nvalues set 13 -1\nbegin\nfinish\nbegin\nrec show 0\n\
      values fill 5\nbegin\nrec show 0\ncarve 1\n",
@@ -50,6 +50,14 @@ pub const MISTAKES: &[&str] = &[
     "crossing 0 4294967296",
     "crossing 0 -1",
     "crossing 18446744073709551616 0",
+    "points",
+    "points 0",
+    "points 0 3 3",
+    "points -1 3",
+    "points 18446744073709551616 3",
+    "points 0 -1",
+    "points 0 1048577",
+    "points all 3",
     "readlayer",
     "readlayer -1",
     "readlayer 18446744073709551616",

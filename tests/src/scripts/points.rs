@@ -1,4 +1,5 @@
-//! Surface points by the thousand: finished grids with distances of every size, asked along every axis on both sides of each negative voxel.
+//! Surface points by the thousand: finished grids with distances of every size, asked along every axis on both sides of each negative voxel, and
+//! all of them in one call, and in several, each going on where the one before it ended.
 
 use crate::random::Random;
 use reference::grid::Sides;
@@ -42,6 +43,13 @@ fn steep(r: &mut Random) -> i32 {
     }
 }
 
+/// Whether a position, 3 index + axis, has a point.
+fn crosses(sides: &Sides, dist: &[i32], position: usize) -> bool {
+    let mut there = sides.coordinates(position / 3);
+    there[position % 3] += 1;
+    sides.index(there).is_some_and(|next| (dist[position / 3] < 0) != (dist[next] < 0))
+}
+
 fn script(number: u64, [a, b, c]: [u64; 3], distance: fn(&mut Random) -> i32) -> String {
     let mut r = Random::new(number);
     let sides = Sides { a, b, c };
@@ -74,6 +82,18 @@ fn script(number: u64, [a, b, c]: [u64; 3], distance: fn(&mut Random) -> i32) ->
             if !above && r.chance(5) {
                 text += &format!("crossing {i} {axis}\n");
             }
+        }
+    }
+    let count = (0..3 * dist.len()).filter(|&p| crosses(&sides, &dist, p)).count();
+    text += &format!("points 0 {}\npoints 0 {}\n", 3 * count, 3 * count + 7);
+    let (mut position, room) = (0, count as u64 / r.between(2, 4) as u64 + 1);
+    while position < 3 * dist.len() {
+        let capacity = 3 * room + r.below(3);
+        text += &format!("points {position} {capacity}\n");
+        let mut left = room;
+        while position < 3 * dist.len() && left > 0 {
+            left -= u64::from(crosses(&sides, &dist, position));
+            position += 1;
         }
     }
     text + "autohash 1\ncrossing 0 0\n"

@@ -167,12 +167,25 @@ fn crossing() -> Subject<'static> {
     Subject { call: "crossing", index: "38", axis: "0", state, faults: with(&UNFIT_RING, &more) }
 }
 
-fn subjects() -> [Subject<'static>; 6] {
+/// `axis` stands for the second argument, the buffer's length.
+fn points() -> Subject<'static> {
+    let more = [
+        state("9", "rec finished 0\n"),
+        at("5", "", "226"),
+        at("5", "", "1000000"),
+        at("5", "", "4294967296"),
+        at("5", "", "18446744073709551615"),
+    ];
+    let state = format!("{RING}begin\ncarve 9\nfinish\n");
+    Subject { call: "points", index: "113", axis: "10", state, faults: with(&UNFIT_RING, &more) }
+}
+
+fn subjects() -> [Subject<'static>; 7] {
     let begun = format!("{RING}begin\n");
     let carve = Subject { call: "carve", index: "9", axis: "", state: begun.clone(), faults: with(&UNFIT_RING, &[FINISHED]) };
     let carved = format!("{begun}carve 9\n");
     let finish = Subject { call: "finish", index: "", axis: "", state: carved, faults: with(&UNFIT_RING, &[FINISHED, PENDING]) };
-    [begin(), carve, take(), open(), finish, crossing()]
+    [begin(), carve, take(), open(), finish, crossing(), points()]
 }
 
 impl Subject<'_> {
@@ -228,6 +241,18 @@ const AT_LIMITS: &str =
 const ENDS: &str = "begin\ncarve 9\ndist set 37 2147483647\nfinish\ncrossing 37 2\nbegin\ncarve 9\ndist set 37 0\nfinish\ncrossing 37 2\n\
                     begin\ncarve 9\ndist set 31 -2147483648\ndist set 56 2147483647\nfinish\ncrossing 31 2\ncrossing 6 2\n";
 
+/// Positions and lengths of `points` at their ends, on the ring and on a grid without a point.
+const POSITIONS: &str = "begin\ncarve 9\nfinish\npoints 0 0\npoints 0 2\npoints 0 3\npoints 0 5\npoints 0 6\npoints 0 90\npoints 0 91\npoints 0 93\n\
+                         points 20 3\npoints 21 3\npoints 22 5\npoints 100 0\npoints 100 2\npoints 100 3\npoints 100 5\npoints 101 30\npoints 102 30\n\
+                         points 131 3\npoints 132 3\npoints 224 3\npoints 224 0\npoints 225 0\npoints 225 2\npoints 225 3\npoints 226 0\npoints 226 3\n\
+                         dist fill 5\nstatus fill 0\npoints 0 0\npoints 0 3\npoints 1 300\npoints 225 3\n";
+
+/// A byte that is neither 0 nor 1 is finished, for every call.
+const BYTES: &str = "begin\ncarve 9\nfinish\nrec finished 2\ncarve 1\ntake 37\nopen\nfinish\nrec show 0\ncrossing 36 0\npoints 0 30\n\
+                     rec finished 255\ncarve 1\ntake 37\nopen\nfinish\nrec show 0\ncrossing 36 0\npoints 0 30\n\
+                     rec finished 128\ncarve 1\ncrossing 36 0\nrec finished 0\ncrossing 36 0\npoints 0 30\ncarve 1\n\
+                     rec finished 2\nrec openings 2\ncarve 1\ncrossing 36 0\n";
+
 /// The scripts of all subjects.
 pub fn scripts() -> Vec<String> {
     let mut scripts: Vec<String> = subjects().iter().flat_map(Subject::scripts).collect();
@@ -237,5 +262,7 @@ pub fn scripts() -> Vec<String> {
     ));
     scripts.push(format!("# counts at the limits of number 7 are fit, and a call may go past them\n{RING}{AT_LIMITS}"));
     scripts.push(format!("# distances at the ends of their type\n{RING}{ENDS}"));
+    scripts.push(format!("# points: positions and lengths at their ends\n{RING}{POSITIONS}"));
+    scripts.push(format!("# finished is any byte but 0\n{RING}{BYTES}"));
     scripts
 }

@@ -120,7 +120,7 @@ fn listed(values: &[i16]) -> String {
 /// One examination at a time for a while, then turns of carving and opening to the end, with every byte of the buffers on the way.
 const CALLS: &str = "begin\ndump dist\ndump status\ncarve 0\ncarve 1\ncarve 1\ncarve 1\ncarve 2\ncarve 3\ndump status\ncarve 4294967295\nopen\ncarve 1\n\
                      carve 4294967295\nopen\ncarve 4294967295\nopen\ncarve 4294967295\nopen\ncarve 4294967295\nopen\ncarve 4294967295\nfinish\n\
-                     dump dist\n";
+                     dump dist\npoints 0 1200\n";
 
 fn script(shape: &Shape) -> String {
     let (what, [a, b, c], fill, voxels) = *shape;
@@ -147,7 +147,8 @@ fn greatest() -> String {
     set(30, 30, 30, -1);
     set(62, 62, 62, MISSING);
     text + "begin\ncarve 5\ntake 168001\ncarve 65536\nopen\ntake 0\ncarve 4294967295\nopen\ncarve 4294967295\nopen\nfinish\ncrossing 131138 0\n\
-            crossing 131137 0\ncrossing 127041 2\ncrossing 262143 2\ncrossing 262144 0\n"
+            crossing 131137 0\ncrossing 127041 2\ncrossing 262143 2\ncrossing 262144 0\n\
+            points 0 120000\npoints 393413 30\npoints 393420 3001\npoints 786431 3\npoints 786432 3\npoints 786433 3\n"
 }
 
 /// A row along each axis of the longest grids that are not cubes.
@@ -159,7 +160,7 @@ fn long(sides: [usize; 3]) -> String {
         let [x, y, z] = [a, b, c].map(|side| 1 + (k * (side - 2)) / length);
         text += &format!("values set {} {}\n", x + a * (y + b * z), -1 - (k % 11) as i16);
     }
-    text + "begin\ncarve 1\ncarve 7\ncarve 4294967295\nopen\ncarve 4294967295\nopen\ncarve 70000\nfinish\n"
+    text + "begin\ncarve 1\ncarve 7\ncarve 4294967295\nopen\ncarve 4294967295\nopen\ncarve 70000\nfinish\npoints 0 3000\npoints 500 20\n"
 }
 
 /// Openings at voxels that begin's own grids seldom leave: a link between two, three and six parts, a voxel by itself, one that passes, a wall.
