@@ -3,7 +3,6 @@
 use crate::args::Args;
 use crate::body::{Body, Kind};
 use crate::file::{refusal, Scan};
-use crate::progress::Progress;
 use crate::{Answer, Failure};
 use std::fmt::Write;
 use wattlerugby::{Point, Sides, MISSING};
@@ -25,32 +24,28 @@ pub fn points(args: &Args) -> Result<Answer, Failure> {
     Ok(Answer::file(text.into_bytes()))
 }
 
-/// All points of the surface, by axis and then by index.
+/// All points of the surface, by index and then by axis.
 pub fn surface(body: &Body) -> Vec<SurfacePoint> {
-    let dist = body.grid.distances();
-    let mut progress = Progress::new();
+    let points: Vec<Point> = body.grid.points().expect("the grid is finished").collect();
     let pairs = pairs(body);
-    let mut points = Vec::with_capacity(pairs.len());
-    for (done, &(index, next, axis)) in pairs.iter().enumerate() {
-        // each call checks the whole grid, which takes long in a large one
-        let crossing = body.grid.crossing(index, axis).expect("the grid is finished and the pair lies within it");
-        let (inner, outer) = if dist[index] < 0 { (index, next) } else { (next, index) };
-        let at = crossing.expect("the two distances differ in sign");
-        points.push(SurfacePoint { at, rests_on: basis(body, inner, outer) });
-        progress.show(|| format!("points: {} of {}", done + 1, pairs.len()));
-    }
-    points
+    assert_eq!(points.len(), pairs.len(), "a point lies between two voxels of which one is of the body");
+    let resting = |(at, (inner, outer))| SurfacePoint { at, rests_on: basis(body, inner, outer) };
+    points.into_iter().zip(pairs).map(resting).collect()
 }
 
-/// Each voxel with the next along an axis, where one is of the body and the other not.
-fn pairs(body: &Body) -> Vec<(usize, usize, u32)> {
+/// Each voxel with the next along an axis, where one is of the body and the other not: that one first. In the order of the points.
+fn pairs(body: &Body) -> Vec<(usize, usize)> {
     let Sides { a, b, c } = body.scan.sides;
     let dist = body.grid.distances();
     let mut pairs = Vec::new();
-    for (axis, (step, side)) in [(1, a), (a, b), (a * b, c)].into_iter().enumerate() {
-        let has_next = |i: &usize| body.scan.place(*i)[axis] + 1 < side;
-        let crosses = |i: &usize| (dist[*i] < 0) != (dist[i + step] < 0);
-        pairs.extend((0..dist.len()).filter(has_next).filter(crosses).map(|i| (i, i + step, axis as u32)));
+    for index in 0..dist.len() {
+        for (axis, (step, side)) in [(1, a), (a, b), (a * b, c)].into_iter().enumerate() {
+            let has_next = body.scan.place(index)[axis] + 1 < side;
+            if has_next && (dist[index] < 0) != (dist[index + step] < 0) {
+                let next = index + step;
+                pairs.push(if dist[index] < 0 { (index, next) } else { (next, index) });
+            }
+        }
     }
     pairs
 }

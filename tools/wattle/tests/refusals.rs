@@ -264,22 +264,33 @@ fn help_names_every_command_and_option() {
     assert!(text(&wattle(&["--version"]).stdout).starts_with("wattle 0."));
 }
 
-/// A large grid takes long: its progress is shown on a terminal, which `script` makes, and nowhere else.
+/// A large grid full of holes takes long: its progress is shown on a terminal, which `script` makes, and nowhere else.
 #[test]
 fn progress_is_for_terminals() {
     let folder = common::folder("progress");
     let (grid, out) = (folder.join("large.grid"), folder.join("points.xyz"));
-    std::fs::write(&grid, common::grid_file([64, 64, 64], 0, common::sphere([64, 64, 64], 20.0))).unwrap();
+    std::fs::write(&grid, common::grid_file([64, 64, 64], 1000, sponge)).unwrap();
     let words = ["points", path(&grid), "--force", "-o", path(&out)];
     let output = wattle(&words);
     assert_eq!((status(&output), output.stderr.len(), output.stdout.len()), (0, 0, 0));
-    let points = std::fs::read_to_string(&out).unwrap();
-    assert!(points.lines().count() > 5000);
+    assert!(std::fs::read_to_string(&out).unwrap().lines().count() > 5000);
     let line = format!("{} {}", env!("CARGO_BIN_EXE_wattle"), words.join(" "));
     let Ok(shown) = Command::new("script").args(["-qec", &line, "/dev/null"]).stdin(Stdio::null()).output() else {
         return common::left_out("progress was not looked at, since `script` is not there");
     };
     let shown = text(&shown.stdout);
-    assert!(shown.contains("points: ") && shown.contains(&format!(" of {}", points.lines().count())), "{shown}");
+    assert!(shown.contains("carving: opened ") && shown.contains(" of 1000 allowed"), "{shown}");
     assert!(shown.ends_with("\r\u{1b}[K"), "the line is cleared at the end: {shown:?}");
+}
+
+/// Three voxels in ten are negative, none of them on the grid's edge.
+fn sponge(x: usize, y: usize, z: usize) -> i16 {
+    let mixed = ((x + 64 * (y + 64 * z)) as u64 + 1).wrapping_mul(0x9E37_79B9_7F4A_7C15);
+    let mixed = (mixed ^ (mixed >> 29)).wrapping_mul(0xBF58_476D_1CE4_E5B9) >> 32;
+    let size = (mixed & 0xFF) as i16;
+    if mixed >> 8 & 0xFF < 77 && [x, y, z].iter().all(|v| (1..63).contains(v)) {
+        -1 - size
+    } else {
+        size
+    }
 }

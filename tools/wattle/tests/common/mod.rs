@@ -149,10 +149,14 @@ impl Carved {
     pub fn points(&self) -> Vec<([f64; 3], usize)> {
         let steps = [1, self.sides.a, self.sides.a * self.sides.b];
         let mut points = Vec::new();
-        for axis in 0..3 {
-            for i in 0..self.values.len() {
+        for i in 0..self.values.len() {
+            for axis in 0..3 {
+                let (next, dist) = (i + steps[axis as usize], self.grid.distances());
+                // each call checks the whole grid, so only where two distances differ in sign
+                if dist.get(next).is_none_or(|&d| (d < 0) == (dist[i] < 0)) {
+                    continue;
+                }
                 let Ok(Some(point)) = self.grid.crossing(i, axis) else { continue };
-                let next = i + steps[axis as usize];
                 let (inner, outer) = if self.grid.distances()[i] < 0 { (i, next) } else { (next, i) };
                 let kind = match (self.inside[inner] && self.values[outer] >= 0, self.values[inner], self.values[outer]) {
                     (true, ..) => 1,
