@@ -18,17 +18,18 @@ fn declared(line: &str) -> Option<&str> {
     words.find(|w| !["record", "data"].contains(w))
 }
 
-/// The declared names of each specification file of the rules, by the file's name.
+fn listed(folder: &Path) -> Vec<PathBuf> {
+    let entries = std::fs::read_dir(folder).into_iter().flatten();
+    entries.map(|entry| entry.expect("a folder can be listed").path()).collect()
+}
+
+/// The declared names of the crates' specification files, by the file's name.
 fn specs() -> HashMap<String, Vec<String>> {
-    let mut names = HashMap::new();
-    for folder in ["crates/cells/specs", "crates/rules/specs"] {
-        for entry in std::fs::read_dir(root().join(folder)).expect("the specs are there") {
-            let path = entry.expect("the specs can be listed").path();
-            if path.extension().is_some_and(|end| end == "antt") {
-                let file = path.file_stem().expect("a name").to_string_lossy().into_owned();
-                names.insert(file, text(&path).lines().filter_map(declared).map(str::to_string).collect());
-            }
-        }
+    let mut names: HashMap<String, Vec<String>> = HashMap::new();
+    let files = listed(&root().join("crates")).into_iter().flat_map(|krate| listed(&krate.join("specs")));
+    for path in files.filter(|path| path.extension().is_some_and(|end| end == "antt")) {
+        let file = path.file_stem().expect("a name").to_string_lossy().into_owned();
+        names.entry(file).or_default().extend(text(&path).lines().filter_map(declared).map(str::to_string));
     }
     names
 }
