@@ -48,7 +48,7 @@ impl State {
         State { record: begun(case.sides, 0), dist: vec![77; n], status: vec![77; n] }
     }
 
-    fn set(&mut self, from: &State) {
+    pub fn set(&mut self, from: &State) {
         self.record = from.record;
         self.dist.copy_from_slice(&from.dist);
         self.status.copy_from_slice(&from.status);

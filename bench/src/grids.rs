@@ -67,6 +67,47 @@ pub fn values(sides: Sides, shape: Shape) -> Vec<i16> {
     values
 }
 
+/// The distances of a crafted state.
+#[derive(Clone, Copy, Debug, PartialEq, Eq)]
+pub enum Distances {
+    Random,
+    Taxicab,
+    Equal,
+}
+
+impl Distances {
+    pub const ALL: [Distances; 3] = [Distances::Random, Distances::Taxicab, Distances::Equal];
+
+    pub fn name(self) -> &'static str {
+        match self {
+            Distances::Random => "random",
+            Distances::Taxicab => "taxicab",
+            Distances::Equal => "equal",
+        }
+    }
+}
+
+/// Distances and status bytes of a grid whose every voxel is pending, save those on the border: fit, and nothing that begin makes.
+pub fn pending(sides: Sides, distances: Distances) -> (Vec<i32>, Vec<u8>) {
+    let mut random = Random(size(sides) as u64);
+    let (mut dist, mut status) = (Vec::with_capacity(size(sides)), Vec::with_capacity(size(sides)));
+    for z in 0..sides.c {
+        for y in 0..sides.b {
+            for x in 0..sides.a {
+                let from_middle = x.abs_diff(sides.a / 2) + y.abs_diff(sides.b / 2) + z.abs_diff(sides.c / 2);
+                dist.push(match distances {
+                    Distances::Random => random.below(1 << 31) as i32,
+                    Distances::Taxicab => from_middle as i32,
+                    Distances::Equal => 5,
+                });
+                let border = x == 0 || y == 0 || z == 0 || x == sides.a - 1 || y == sides.b - 1 || z == sides.c - 1;
+                status.push(if border { 0 } else { 3 });
+            }
+        }
+    }
+    (dist, status)
+}
+
 /// Status bytes of random blocks, 27 to a block, so many in 100 kept.
 pub fn blocks(count: usize, kept: u64) -> Vec<u8> {
     let mut random = Random(kept);

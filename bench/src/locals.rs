@@ -1,6 +1,6 @@
 //! The local test on 1,000,000 random blocks.
 
-use crate::ours;
+use bench::archive::now as ours;
 use bench::clock;
 use bench::grids::blocks;
 use bench::local::{joined, ranked, searched, Whole};
