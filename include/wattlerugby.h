@@ -249,10 +249,10 @@ typedef struct wattlerugby_carve_answer {
  * smallest index. A voxel that passes the local test is gone, and the kept voxels around it that are not inside become pending. Writes
  * status bytes alone.
  *
- * Call it with a small limit for work in slices: many small calls leave what one large call leaves. Whatever its limit, a call first checks
- * the whole grid and looks through it for pending voxels, which takes time in proportion to n; docs/PERFORMANCE.md has that time beside the
- * time of an examination. So choose a limit as large as your patience allows: below the number of examinations that take as long as the
- * rest of a call, most of the time goes into the rest.
+ * Call it with a limit for work in slices: many small calls leave what one large call leaves. Whatever its limit, a call first checks the
+ * whole grid and finds the pending voxels in it, in time proportional to n. So a small limit saves little, and carving in many small slices
+ * takes longer in all: choose the largest limit that keeps your rhythm. docs/PERFORMANCE.md has both times, that of a call whatever its
+ * limit and that of an examination.
  *
  * Checks: 1, 2, 7, 8. A limit of 0 examines nothing and is not refused. */
 wattlerugby_carve_answer wattlerugby_carve(
