@@ -3,7 +3,7 @@
  * Link with libwattlerugby.a, as packaging/install puts it beside this header (`pkg-config --cflags --libs wattlerugby`, or
  * find_package(wattlerugby) in CMake). In the repository it is target/staticlib/libcapi.a, which `rt staticlib capi` writes. It is for
  * x86-64 Linux. Of other libraries it needs one function, memset. It allocates nothing, and keeps nothing between calls. Carve uses
- * 129 KB of stack; begin, take, open and finish under 1 KB (docs/PERFORMANCE.md).
+ * 13 KB of stack, every other call under 1 KB (docs/PERFORMANCE.md).
  *
  * IN SHORT
  *
