@@ -1,9 +1,37 @@
-//! Where the archive of proved code is: target/staticlib of the repository, or where WATTLERUGBY_ARCHIVE says.
+//! The archive of another commit, where WATTLERUGBY_BEFORE names its folder: a copy with every name prefixed, so that one program holds both
+//! and times them in the same rounds.
+
+use std::path::{Path, PathBuf};
+use std::process::Command;
 
 fn main() {
-    let given = std::env::var("WATTLERUGBY_ARCHIVE").ok();
-    let folder = given.unwrap_or_else(|| concat!(env!("CARGO_MANIFEST_DIR"), "/../target/staticlib").to_string());
-    println!("cargo:rustc-link-search=native={folder}");
-    println!("cargo:rerun-if-env-changed=WATTLERUGBY_ARCHIVE");
-    println!("cargo:rerun-if-changed={folder}/libcapi.a");
+    println!("cargo:rerun-if-env-changed=WATTLERUGBY_BEFORE");
+    println!("cargo:rustc-check-cfg=cfg(before, before_points)");
+    let Ok(folder) = std::env::var("WATTLERUGBY_BEFORE") else { return };
+    let archive = Path::new(&folder).join("libcapi.a");
+    println!("cargo:rerun-if-changed={}", archive.display());
+    let out = PathBuf::from(std::env::var("OUT_DIR").expect("cargo names a folder to write to"));
+    let names = exported(&archive);
+    let renamed: String = names.iter().map(|name| format!("{name} before_{name}\n")).collect();
+    let list = out.join("names");
+    std::fs::write(&list, renamed).expect("the names can be written");
+    run(Command::new("objcopy").arg(format!("--redefine-syms={}", list.display())).arg(&archive).arg(out.join("libbefore.a")));
+    println!("cargo:rustc-link-search=native={}", out.display());
+    println!("cargo:rustc-link-lib=static=before");
+    println!("cargo:rustc-cfg=before");
+    if names.iter().any(|name| name == "wattlerugby_points") {
+        println!("cargo:rustc-cfg=before_points");
+    }
+}
+
+fn exported(archive: &Path) -> Vec<String> {
+    let told = run(Command::new("nm").args(["--extern-only", "--defined-only", "--format=posix"]).arg(archive));
+    let calls = told.lines().filter_map(|line| line.split(' ').next()).filter(|name| name.starts_with("wattlerugby_"));
+    calls.map(str::to_string).collect()
+}
+
+fn run(command: &mut Command) -> String {
+    let out = command.output().unwrap_or_else(|wrong| panic!("{command:?} does not start: {wrong}"));
+    assert!(out.status.success(), "{command:?}: {}", String::from_utf8_lossy(&out.stderr));
+    String::from_utf8_lossy(&out.stdout).into_owned()
 }

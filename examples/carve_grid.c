@@ -1,121 +1,153 @@
-/* Carves a small grid and prints each call's answer.
+/* Reads a grid file, carves it in slices, and writes the points of the body's surface, a line "x y z" for each.
  *
  *     rt staticlib capi
- *     cc -std=c99 -Iinclude examples/carve_grid.c target/staticlib/libcapi.a -o carve_grid && ./carve_grid
+ *     cc -std=c99 -Iinclude examples/carve_grid.c target/staticlib/libcapi.a -o carve_grid
+ *     ./carve_grid samples/torus-1.grid points.xyz
  *
- * The scan shows a ring: eight voxels around an empty one. One opening is allowed, so the hole in the ring is opened and the body stays
- * a ring. With ALLOWED 0 the hole would be closed instead. */
+ * or, installed, with `pkg-config --cflags --libs wattlerugby` for the header and the archive. The status is 0 where the points were
+ * written, 1 where a call refused, 2 where a file could not be read or written. */
 #include <stdio.h>
 
 #include "wattlerugby.h"
 
-enum { A = 5, B = 5, C = 3, N = A * B * C, ALLOWED = 1 };
+/* The largest grid and its file; one byte more shows whether bytes are left after the last layer. */
+enum { MOST_SIDE = 64, MOST = MOST_SIDE * MOST_SIDE * MOST_SIDE, MOST_BYTES = 7 + MOST_SIDE * 3 + 2 * MOST };
 
-static void print_record(wattlerugby_record r)
+/* Examinations in one slice: between two slices a display can be drawn, or the work given up. */
+enum { SLICE = 250 };
+
+/* Points in one call: each call checks the whole grid once, so not too few. */
+enum { MOST_POINTS = 500 };
+
+static uint8_t file[MOST_BYTES + 1];
+static int16_t values[MOST];
+static int32_t dist[MOST];
+static uint8_t status[MOST];
+static double points[3 * MOST_POINTS];
+
+static int refused(const char *call, uint8_t number)
 {
-    printf("  openings %u of %u, removals %u, examinations %u, Euler number %d, %s\n", (unsigned)r.openings, (unsigned)r.allowed,
-           (unsigned)r.removals, (unsigned)r.examinations, (int)r.euler, r.finished ? "finished" : "not finished");
+    printf("%s: refused %u, %s\n", call, number, wattlerugby_reason(number));
+    return 1;
 }
 
-static wattlerugby_record carve(wattlerugby_record record, const int32_t *dist, uint8_t *status, uint32_t limit)
+/* How many values the file's header asks for. Where a side is unfit, or missing, none: read refuses the header before it looks at them. */
+static size_t values_in(size_t length)
 {
-    wattlerugby_carve_answer r = wattlerugby_carve(record, dist, N, status, N, limit);
-    if (r.refusal != 0)
-        printf("carve: refused %u\n", r.refusal);
-    else
-        printf("carve: examined %u, removed %u, %s\n", (unsigned)r.examined, (unsigned)r.removed,
-               r.pending ? "some pending" : "nothing pending");
-    print_record(r.next);
-    return r.next;
+    size_t i, n = 1;
+    for (i = 2; i < 5; i++)
+        n *= i < length && file[i] <= MOST_SIDE ? file[i] : 0;
+    return n;
 }
 
-static wattlerugby_record take(wattlerugby_record record, const int32_t *dist, uint8_t *status, size_t index)
+/* The standard loop. Gives the record after it; the number that ended it is the last open's. */
+static wattlerugby_record carve_to_the_end(wattlerugby_record record, size_t n, uint8_t *ended_by)
 {
-    wattlerugby_take_answer r = wattlerugby_take(record, dist, N, status, N, index);
-    if (r.refusal != 0)
-        printf("take %u: refused %u\n", (unsigned)index, r.refusal);
-    else
-        printf("take %u: gone, k %u, m %u\n", (unsigned)index, (unsigned)r.k, (unsigned)r.m);
-    return r.next;
+    wattlerugby_carve_answer carved;
+    wattlerugby_open_answer opened;
+    do {
+        do {
+            carved = wattlerugby_carve(record, dist, n, status, n, SLICE);
+            record = carved.next;
+            printf("carve: examined %u, removed %u, %s\n", (unsigned)carved.examined, (unsigned)carved.removed,
+                   carved.pending ? "some pending" : "nothing pending");
+        } while (carved.pending);
+        opened = wattlerugby_open(record, dist, n, status, n);
+        record = opened.next;
+        if (opened.refusal == 0)
+            printf("open: voxel %u, k %u, m %u\n", (unsigned)opened.index, (unsigned)opened.k, (unsigned)opened.m);
+    } while (opened.refusal == 0);
+    *ended_by = opened.refusal;
+    return record;
 }
 
-static wattlerugby_record open_body(wattlerugby_record record, const int32_t *dist, uint8_t *status)
+/* All points of the surface, as many at a time as the buffer holds. Gives how many, or -1 where they could not be written. */
+static long write_points(FILE *out, wattlerugby_record record, size_t n)
 {
-    wattlerugby_open_answer r = wattlerugby_open(record, dist, N, status, N);
-    if (r.refusal != 0)
-        printf("open: refused %u\n", r.refusal);
-    else
-        printf("open: voxel %u, k %u, m %u\n", (unsigned)r.index, (unsigned)r.k, (unsigned)r.m);
-    print_record(r.next);
-    return r.next;
+    wattlerugby_points_answer r;
+    size_t position = 0, i;
+    long count = 0;
+    do {
+        r = wattlerugby_points(record, dist, n, status, n, position, points, 3 * MOST_POINTS);
+        if (r.refusal != 0)
+            return -1;
+        for (i = 0; i < r.count; i++)
+            if (fprintf(out, "%.17g %.17g %.17g\n", points[3 * i], points[3 * i + 1], points[3 * i + 2]) < 0)
+                return -1;
+        count += (long)r.count;
+        position = r.next;
+    } while (position < 3 * n);
+    return count;
 }
 
-static wattlerugby_record finish(wattlerugby_record record, int32_t *dist, const uint8_t *status)
+static int write_all_points(const char *name, wattlerugby_record record, size_t n)
 {
-    wattlerugby_finish_answer r = wattlerugby_finish(record, dist, N, status, N);
-    if (r.refusal != 0)
-        printf("finish: refused %u\n", r.refusal);
-    else
-        printf("finish: done\n");
-    print_record(r.next);
-    return r.next;
+    FILE *out = fopen(name, "w");
+    long count = out == NULL ? -1 : write_points(out, record, n);
+    if (out != NULL && fclose(out) != 0)
+        count = -1;
+    if (count < 0) {
+        fprintf(stderr, "carve_grid: %s cannot be written\n", name);
+        return 2;
+    }
+    printf("points: %ld\n", count);
+    return 0;
 }
 
-static void crossing(wattlerugby_record record, const int32_t *dist, const uint8_t *status, size_t index, uint32_t axis)
+/* Reads the file's bytes; 0 where it cannot be read, or is empty. */
+static size_t bytes_of(const char *name)
 {
-    wattlerugby_crossing_answer r = wattlerugby_crossing(record, dist, N, status, N, index, axis);
-    printf("crossing %u along axis %u: ", (unsigned)index, (unsigned)axis);
-    if (r.refusal != 0)
-        printf("refused %u\n", r.refusal);
-    else if (r.crosses)
-        printf("at (%g, %g, %g)\n", r.point.x, r.point.y, r.point.z);
-    else
-        printf("none\n");
+    FILE *in = fopen(name, "rb");
+    size_t length = 0;
+    if (in == NULL)
+        return 0;
+    length = fread(file, 1, sizeof file, in);
+    fclose(in);
+    return length;
 }
 
-int main(void)
+static size_t count_filled(size_t n)
 {
-    int16_t values[N];
-    int32_t dist[N];
-    uint8_t status[N];
-    wattlerugby_sides sides = {A, B, C};
+    size_t i, filled = 0;
+    for (i = 0; i < n; i++)
+        filled += status[i] != WATTLERUGBY_GONE && dist[i] >= 0;
+    return filled;
+}
+
+int main(int argc, char **argv)
+{
+    size_t length, n;
+    wattlerugby_read_answer header;
     wattlerugby_begin_answer begun;
+    wattlerugby_finish_answer finished;
     wattlerugby_record record;
-    int x, y;
+    uint8_t ended_by;
 
-    for (x = 0; x < N; x++)
-        values[x] = 4;
-    for (y = 1; y <= 3; y++)
-        for (x = 1; x <= 3; x++)
-            if (x != 2 || y != 2)
-                values[x + A * (y + B)] = -4;
-
-    begun = wattlerugby_begin(sides, ALLOWED, values, N, dist, N, status, N);
-    if (begun.refusal != 0) {
-        printf("begin: refused %u\n", begun.refusal);
-        return 1;
+    if (argc != 3) {
+        fprintf(stderr, "usage: carve_grid GRID POINTS\n");
+        return 2;
     }
-    printf("begin: done\n");
-    print_record(begun.next);
-
-    record = carve(begun.next, dist, status, WATTLERUGBY_NO_LIMIT);
-    record = take(record, dist, status, 37);
-    record = take(record, dist, status, 36);
-    record = open_body(record, dist, status);
-    record = carve(record, dist, status, WATTLERUGBY_NO_LIMIT);
-    record = open_body(record, dist, status);
-    record = finish(record, dist, status);
-    crossing(record, dist, status, 36, 0);
-    crossing(record, dist, status, 37, 0);
-    crossing(record, dist, status, 36, 1);
-    crossing(record, dist, status, 37, 3);
-    record = carve(record, dist, status, 1);
-
-    printf("the middle layer:\n");
-    for (y = 0; y < B; y++) {
-        for (x = 0; x < A; x++)
-            putchar(status[x + A * (y + B)] == WATTLERUGBY_GONE ? '.' : '#');
-        putchar('\n');
+    length = bytes_of(argv[1]);
+    if (length == 0) {
+        fprintf(stderr, "carve_grid: %s cannot be read\n", argv[1]);
+        return 2;
     }
-    return record.euler == 0 ? 0 : 1;
+    n = values_in(length);
+    header = wattlerugby_read(file, length, values, n);
+    if (header.refusal != 0)
+        return refused("read", header.refusal);
+    begun = wattlerugby_begin(header.sides, header.allowed, values, n, dist, n, status, n);
+    if (begun.refusal != 0)
+        return refused("begin", begun.refusal);
+
+    record = carve_to_the_end(begun.next, n, &ended_by);
+    /* after finish the filled voxels are negative like the inside, so they are counted before */
+    printf("ended by %u, %s\nfilled: %u\n", ended_by, wattlerugby_reason(ended_by), (unsigned)count_filled(n));
+    finished = wattlerugby_finish(record, dist, n, status, n);
+    if (finished.refusal != 0)
+        return refused("finish", finished.refusal);
+    record = finished.next;
+    printf("openings %u of %u, removals %u, examinations %u, Euler number %d\n", (unsigned)record.openings, (unsigned)record.allowed,
+           (unsigned)record.removals, (unsigned)record.examinations, (int)record.euler);
+    return write_all_points(argv[2], record, n);
 }

@@ -1,8 +1,9 @@
 /* Wattlerugby for C and C++: carve a solid box down to a scanned body, and tell whether the body is closed.
  *
- * Link with the archive that `rt staticlib capi` writes, target/staticlib/libcapi.a. It is for x86-64 Linux. It needs no other
- * library, allocates nothing, and keeps nothing between calls. Carve uses 129 KB of stack; begin, take, open and finish under 1 KB
- * (docs/PERFORMANCE.md).
+ * Link with libwattlerugby.a, as packaging/install puts it beside this header (`pkg-config --cflags --libs wattlerugby`, or
+ * find_package(wattlerugby) in CMake). In the repository it is target/staticlib/libcapi.a, which `rt staticlib capi` writes. It is for
+ * x86-64 Linux. Of other libraries it needs one function, memset. It allocates nothing, and keeps nothing between calls. Carve uses
+ * 13 KB of stack, every other call under 1 KB (docs/PERFORMANCE.md).
  *
  * IN SHORT
  *
@@ -12,10 +13,31 @@
  *     wattlerugby_open      opens the body at the farthest voxel, where nothing may go any more
  *     wattlerugby_finish    closes the list of calls: what is kept is the body
  *     wattlerugby_crossing  a point of the body's surface between two voxels
+ *     wattlerugby_points    all points of the surface, as many at a time as you have room for
  *     wattlerugby_read, wattlerugby_read_layer   a grid file, whole or a layer at a time
  *     wattlerugby_local_test   the test by which a voxel may go, on its own
+ *     wattlerugby_reason    a refusal number as text
  *
- * examples/carve_grid.c is a whole program.
+ * THE STANDARD LOOP
+ *
+ * After begin: carve until nothing is pending, open, and again, until open refuses; then finish. In slices of 1000 examinations:
+ *
+ *     wattlerugby_record record = begun.next;
+ *     wattlerugby_carve_answer carved;
+ *     wattlerugby_open_answer opened;
+ *     do {
+ *         do {
+ *             carved = wattlerugby_carve(record, dist, n, status, n, 1000);
+ *             record = carved.next;
+ *         } while (carved.pending);
+ *         opened = wattlerugby_open(record, dist, n, status, n);
+ *         record = opened.next;
+ *     } while (opened.refusal == 0);
+ *     record = wattlerugby_finish(record, dist, n, status, n).next;
+ *
+ * It ends: a refused carve has `pending` false, and each opening removes a voxel. On a grid that begin started, opened.refusal is then 14
+ * or 15. With 15 all that could be opened was; with 14 as many openings as you allowed were made, and what is still kept outside the
+ * body, if anything, is filled. docs/RESULT.md says what to conclude. examples/carve_grid.c is a whole program.
  *
  * THE GRID
  *
@@ -24,9 +46,9 @@
  * BUFFERS
  *
  * Every buffer is yours. A call is lent it for as long as the call runs, keeps no pointer to it, and returns none. A buffer is a pointer
- * and a length, and a length counts elements, not bytes. The pointer is not null, is aligned for its element, and has as many elements
- * behind it as the length says, also where a call is going to refuse the length. The buffers of one call do not overlap. Two threads may
- * call at the same time on buffers of their own.
+ * and a length, and a length counts elements, not bytes. The pointer is aligned for its element, and has as many elements behind it as
+ * the length says, also where a call is going to refuse the length. With length 0 it may be null (tested, not proved). The buffers of one
+ * call do not overlap.
  *
  * A grid in work is three things that belong together: a record, a buffer of n worked distances, and a buffer of n status bytes. They
  * stay with you between calls; lend the same two buffers, unchanged, with the record that the last call answered.
@@ -34,23 +56,56 @@
  * ANSWERS
  *
  * Each answer is a struct, by value. Its first field, `refusal`, is 0 when the call did what it is for. Otherwise it is one of the
- * numbers below, nothing was written to any buffer, and every other number in the answer is 0. `next` is the record for the next call
- * on the same buffers: after a refusal that is the record you gave. So a caller that always goes on with `next` is always right.
+ * numbers below, nothing was written to any buffer, and every other number in the answer is 0. A record in `next` is the one for the next
+ * call on the same buffers: after a refusal that is the record you gave, each field as it was. So a caller that always goes on with it is
+ * always right.
  *
  * Checks are made in the order that stands with each call, and the first that fails gives the number. Any input at all gets an answer:
- * there is no record, buffer content, index or file that a call may not be given. What you owe is C's own: pointers as above, and a
- * `bool` that holds true or false.
+ * there is no record, buffer content, index or file that a call may not be given. What you owe is C's own: pointers as above.
+ *
+ * THREADS
+ *
+ * Threads may call at the same time on buffers of their own. They may also share a finished grid, since crossing and points only read it:
+ * any number of threads may be inside them on the same record, distances and status bytes, each with a buffer of its own for the points. A
+ * grid in work is for one thread at a time.
+ *
+ * STORING A RECORD
+ *
+ * A record is plain numbers without pointers: copy it, keep it, store it with its two buffers, and go on later. Store and compare its
+ * fields, not its bytes: between the fields is padding, which holds anything. No call looks at padding, so a record that you build
+ * yourself needs no memset. A stored grid that was damaged is answered like any other input, mostly with 7.
+ *
+ * ROUNDING
+ *
+ * Crossing and points divide and add doubles. The processor must round to nearest, as it does unless you changed it (fesetround).
  */
 #ifndef WATTLERUGBY_H
 #define WATTLERUGBY_H
+
+#if !defined(__x86_64__) || defined(__ILP32__) || !defined(__linux__)
+#error "libwattlerugby is built for x86-64 Linux with 64-bit pointers alone"
+#endif
 
 #include <stdbool.h>
 #include <stddef.h>
 #include <stdint.h>
 
+/* ---- version */
+
+#define WATTLERUGBY_VERSION_MAJOR 0
+#define WATTLERUGBY_VERSION_MINOR 1
+#define WATTLERUGBY_VERSION_PATCH 0
+#define WATTLERUGBY_VERSION "0.1.0"
+
 #ifdef __cplusplus
 extern "C" {
 #endif
+
+/* The version of this header, which is that of the archive it was installed with: the archive holds none of its own. */
+static inline const char *wattlerugby_version(void)
+{
+    return WATTLERUGBY_VERSION;
+}
 
 /* ---- numbers */
 
@@ -63,13 +118,13 @@ enum {
     WATTLERUGBY_LENGTH = 2,            /* a lent buffer's length is not n */
     WATTLERUGBY_BORDER_NEGATIVE = 3,   /* a border voxel is measured negative: the body reaches the edge of the grid */
     WATTLERUGBY_NO_NEGATIVE = 4,       /* no voxel is measured negative: there is no body */
-    WATTLERUGBY_INDEX = 5,             /* the index is n or more */
+    WATTLERUGBY_INDEX = 5,             /* the index is n or more; points: the position is over 3 n */
     WATTLERUGBY_AXIS = 6,              /* the axis is over 2, or the next voxel lies beyond the grid */
 
     /* the state */
     WATTLERUGBY_UNFIT = 7,             /* the record or a buffer cannot be what a call left; see wattlerugby_record */
     WATTLERUGBY_FINISHED = 8,          /* finish was called already */
-    WATTLERUGBY_NOT_FINISHED = 9,      /* crossing needs a finished grid */
+    WATTLERUGBY_NOT_FINISHED = 9,      /* crossing and points need a finished grid */
     WATTLERUGBY_GONE_ALREADY = 10,     /* take: the voxel is not kept */
     WATTLERUGBY_INSIDE = 11,           /* take: the voxel's worked distance is negative */
     WATTLERUGBY_NOT_PASSED = 12,       /* take: the voxel does not pass the local test */
@@ -84,6 +139,35 @@ enum {
     WATTLERUGBY_LAYER_TWICE = 24,      /* a layer's z came before */
     WATTLERUGBY_BYTES_LEFT = 25        /* bytes after the last layer */
 };
+
+/* What a refusal number says, in English, without a full stop. Any number gets a text. */
+static inline const char *wattlerugby_reason(uint8_t refusal)
+{
+    switch (refusal) {
+    case WATTLERUGBY_DONE: return "not refused";
+    case WATTLERUGBY_SIDE: return "a side is outside 3 to 64";
+    case WATTLERUGBY_LENGTH: return "a lent buffer's length is not the number of voxels";
+    case WATTLERUGBY_BORDER_NEGATIVE: return "a border voxel is measured negative";
+    case WATTLERUGBY_NO_NEGATIVE: return "no voxel is measured negative";
+    case WATTLERUGBY_INDEX: return "the index is beyond the grid";
+    case WATTLERUGBY_AXIS: return "the axis is over 2, or the next voxel lies beyond the grid";
+    case WATTLERUGBY_UNFIT: return "the record does not fit its buffers";
+    case WATTLERUGBY_FINISHED: return "the grid is finished";
+    case WATTLERUGBY_NOT_FINISHED: return "the grid is not finished";
+    case WATTLERUGBY_GONE_ALREADY: return "the voxel is gone already";
+    case WATTLERUGBY_INSIDE: return "the voxel's worked distance is negative";
+    case WATTLERUGBY_NOT_PASSED: return "the voxel does not pass the local test";
+    case WATTLERUGBY_STILL_PENDING: return "a voxel is pending";
+    case WATTLERUGBY_NO_OPENING_LEFT: return "as many openings as were allowed have been made";
+    case WATTLERUGBY_NOTHING_TO_OPEN: return "there is no voxel to open";
+    case WATTLERUGBY_SHORT: return "the file is too short";
+    case WATTLERUGBY_MARK: return "a mark in the file is wrong";
+    case WATTLERUGBY_LAYER: return "a layer's z is beyond the grid";
+    case WATTLERUGBY_LAYER_TWICE: return "a layer's z came before";
+    case WATTLERUGBY_BYTES_LEFT: return "bytes are left after the last layer";
+    default: return "no number of this library";
+    }
+}
 
 /* What a status byte holds. */
 enum {
@@ -118,8 +202,8 @@ typedef struct wattlerugby_record {
     uint32_t openings;       /* made so far */
     uint64_t removals;       /* made so far, by carve, take and open */
     uint64_t examinations;   /* made so far, by carve */
-    int32_t euler;           /* the Euler number of the kept voxels: 1 at first, and one less for each tunnel through the body */
-    bool finished;
+    int32_t euler;           /* the Euler number of the kept voxels, 1 at first: pieces less tunnels, since there is never a hollow */
+    uint8_t finished;        /* whether finish was called: answered as 0 or 1, and any value but 0 is taken as finished */
 } wattlerugby_record;
 
 /* A place in the grid, in voxels: the centre of voxel (x, y, z) is the point (x, y, z). */
@@ -163,7 +247,12 @@ typedef struct wattlerugby_carve_answer {
 
 /* Examines pending voxels, `limit` of them at most: each time the one with the greatest worked distance, of equals the one with the
  * smallest index. A voxel that passes the local test is gone, and the kept voxels around it that are not inside become pending. Writes
- * status bytes alone. Call it with a small limit for work in slices: many small calls leave what one large call leaves.
+ * status bytes alone.
+ *
+ * Call it with a limit for work in slices: many small calls leave what one large call leaves. Whatever its limit, a call first checks the
+ * whole grid and finds the pending voxels in it, in time proportional to n. So a small limit saves little, and carving in many small slices
+ * takes longer in all: choose the largest limit that keeps your rhythm. docs/PERFORMANCE.md has both times, that of a call whatever its
+ * limit and that of an examination.
  *
  * Checks: 1, 2, 7, 8. A limit of 0 examines nothing and is not refused. */
 wattlerugby_carve_answer wattlerugby_carve(
@@ -219,7 +308,7 @@ typedef struct wattlerugby_finish_answer {
 } wattlerugby_finish_answer;
 
 /* Makes every kept voxel part of the body: a worked distance w of 0 or more becomes -w, or -1 where w is 0. Writes distances alone.
- * From then on only crossing is answered.
+ * From then on only crossing and points are answered.
  *
  * Checks: 1, 2, 7, 8, 13. */
 wattlerugby_finish_answer wattlerugby_finish(
@@ -240,12 +329,51 @@ typedef struct wattlerugby_crossing_answer {
  * p / (p + q) of the way from the negative voxel to the other, p and q being the sizes of their distances; that coordinate is within
  * 2^-47 of the exact one, and the other two are whole. Writes nothing.
  *
+ * The last plane of voxels along an axis has no next: x = a - 1 with axis 0, y = b - 1 with 1, z = c - 1 with 2 are refused with 6. So run
+ * x from 0 up to, and without, a - 1 where the axis is 0, and so on. No point is missed: border voxels are never kept.
+ *
+ * Each call checks the whole grid. To list all points, call wattlerugby_points.
+ *
  * Checks: 1, 2, 7, 9, 5, 6. */
 wattlerugby_crossing_answer wattlerugby_crossing(
     wattlerugby_record given,
     const int32_t *dist, size_t dist_len,
     const uint8_t *status, size_t status_len,
     size_t index, uint32_t axis);
+
+/* ---- points */
+
+typedef struct wattlerugby_points_answer {
+    uint8_t refusal;
+    size_t count;   /* points written: the doubles out[0] up to, and without, out[3 * count] */
+    size_t next;    /* the position to go on from: 3 n when all were looked at */
+} wattlerugby_points_answer;
+
+/* All points of a finished body's surface from a position on. Position 3 * index + axis stands for the crossing from the voxel of that
+ * index along that axis. The points of all crossings go into `out` in rising order of position, three doubles each, x, y and z, until there
+ * is no room for one more or the positions end at 3 n. Each is the point that wattlerugby_crossing answers; a position without a next voxel,
+ * or without a crossing, gives none. `out` may have any length, and what is left of it stays as it was. With fewer than 3 doubles nothing is
+ * written, and `next` is `position`.
+ *
+ * To write out all points, in a buffer of 3000 doubles:
+ *
+ *     size_t position = 0;
+ *     wattlerugby_points_answer r;
+ *     do {
+ *         r = wattlerugby_points(record, dist, n, status, n, position, out, 3000);
+ *         write_out(out, r.count);
+ *         position = r.next;
+ *     } while (r.refusal == 0 && position < 3 * n);
+ *
+ * Each call checks the whole grid once, so lend a buffer for many points. This call is ours: document 01 has crossing alone.
+ *
+ * Checks: 1, 2 (`dist` and `status`), 7, 9, 5 (the position is over 3 n). */
+wattlerugby_points_answer wattlerugby_points(
+    wattlerugby_record given,
+    const int32_t *dist, size_t dist_len,
+    const uint8_t *status, size_t status_len,
+    size_t position,
+    double *out, size_t out_len);
 
 /* ---- the grid file
  *

@@ -1,17 +1,24 @@
 //! Runs of the calls, timed in turn for each implementation in one process, every answer and buffer matched.
 
 use crate::clock;
-use crate::types::{Carved, Machine, Opened, Record, Refused, Sides, Taken};
+use crate::types::{begun, size, Carved, Machine, Opened, Record, Refused, Sides, Taken};
 use std::time::{Duration, Instant};
+
+type Answer<T> = Result<T, Refused>;
+type Begin = fn(Sides, u16, &[i16], &mut [i32], &mut [u8]) -> Answer<Record>;
+type Carve = fn(Record, &[i32], &mut [u8], u32) -> Answer<Carved>;
+type Take = fn(Record, &[i32], &mut [u8], usize) -> Answer<Taken>;
+type Open = fn(Record, &[i32], &mut [u8]) -> Answer<Opened>;
+type Finish = fn(Record, &mut [i32], &[u8]) -> Answer<Record>;
 
 /// The five calls of an implementation.
 pub struct Calls {
     pub name: &'static str,
-    pub begin: fn(Sides, u16, &[i16], &mut [i32], &mut [u8]) -> Result<Record, Refused>,
-    pub carve: fn(Record, &[i32], &mut [u8], u32) -> Result<Carved, Refused>,
-    pub take: fn(Record, &[i32], &mut [u8], usize) -> Result<Taken, Refused>,
-    pub open: fn(Record, &[i32], &mut [u8]) -> Result<Opened, Refused>,
-    pub finish: fn(Record, &mut [i32], &[u8]) -> Result<Record, Refused>,
+    pub begin: Begin,
+    pub carve: Carve,
+    pub take: Take,
+    pub open: Open,
+    pub finish: Finish,
 }
 
 impl Calls {
@@ -37,11 +44,11 @@ pub struct State {
 impl State {
     /// Before begin: buffers that hold nothing of use.
     pub fn blank(case: &Case) -> Self {
-        let n = case.sides.size();
-        State { record: Record::new(case.sides, 0), dist: vec![77; n], status: vec![77; n] }
+        let n = size(case.sides);
+        State { record: begun(case.sides, 0), dist: vec![77; n], status: vec![77; n] }
     }
 
-    fn set(&mut self, from: &State) {
+    pub fn set(&mut self, from: &State) {
         self.record = from.record;
         self.dist.copy_from_slice(&from.dist);
         self.status.copy_from_slice(&from.status);

@@ -1,12 +1,12 @@
 //! The grids that are measured: a sphere, a torus and white noise, each fitted to the sides.
 
-use crate::types::{Sides, MISSING};
+use crate::types::{size, Sides, MISSING};
 
 /// SplitMix64: a seed names a case for good.
 pub struct Random(pub u64);
 
 impl Random {
-    pub fn next(&mut self) -> u64 {
+    pub fn word(&mut self) -> u64 {
         self.0 = self.0.wrapping_add(0x9E37_79B9_7F4A_7C15);
         let z = (self.0 ^ (self.0 >> 30)).wrapping_mul(0xBF58_476D_1CE4_E5B9);
         let z = (z ^ (z >> 27)).wrapping_mul(0x94D0_49BB_1331_11EB);
@@ -14,7 +14,7 @@ impl Random {
     }
 
     pub fn below(&mut self, n: u64) -> u64 {
-        self.next() % n
+        self.word() % n
     }
 }
 
@@ -52,9 +52,9 @@ fn value(shape: Shape, [x, y, z]: [f64; 3], random: &mut Random) -> i16 {
 }
 
 pub fn values(sides: Sides, shape: Shape) -> Vec<i16> {
-    let mut random = Random(sides.size() as u64);
+    let mut random = Random(size(sides) as u64);
     let along = |v: usize, side: usize| 2.0 * v as f64 / (side - 1) as f64 - 1.0;
-    let mut values = Vec::with_capacity(sides.size());
+    let mut values = Vec::with_capacity(size(sides));
     for z in 0..sides.c {
         for y in 0..sides.b {
             for x in 0..sides.a {
@@ -67,8 +67,49 @@ pub fn values(sides: Sides, shape: Shape) -> Vec<i16> {
     values
 }
 
+/// The distances of a crafted state.
+#[derive(Clone, Copy, Debug, PartialEq, Eq)]
+pub enum Distances {
+    Random,
+    Taxicab,
+    Equal,
+}
+
+impl Distances {
+    pub const ALL: [Distances; 3] = [Distances::Random, Distances::Taxicab, Distances::Equal];
+
+    pub fn name(self) -> &'static str {
+        match self {
+            Distances::Random => "random",
+            Distances::Taxicab => "taxicab",
+            Distances::Equal => "equal",
+        }
+    }
+}
+
+/// Distances and status bytes of a grid whose every voxel is pending, save those on the border: fit, and nothing that begin makes.
+pub fn pending(sides: Sides, distances: Distances) -> (Vec<i32>, Vec<u8>) {
+    let mut random = Random(size(sides) as u64);
+    let (mut dist, mut status) = (Vec::with_capacity(size(sides)), Vec::with_capacity(size(sides)));
+    for z in 0..sides.c {
+        for y in 0..sides.b {
+            for x in 0..sides.a {
+                let from_middle = x.abs_diff(sides.a / 2) + y.abs_diff(sides.b / 2) + z.abs_diff(sides.c / 2);
+                dist.push(match distances {
+                    Distances::Random => random.below(1 << 31) as i32,
+                    Distances::Taxicab => from_middle as i32,
+                    Distances::Equal => 5,
+                });
+                let border = x == 0 || y == 0 || z == 0 || x == sides.a - 1 || y == sides.b - 1 || z == sides.c - 1;
+                status.push(if border { 0 } else { 3 });
+            }
+        }
+    }
+    (dist, status)
+}
+
 /// Status bytes of random blocks, 27 to a block, so many in 100 kept.
 pub fn blocks(count: usize, kept: u64) -> Vec<u8> {
     let mut random = Random(kept);
-    (0..27 * count).map(|_| if random.below(100) < kept { 1 + 2 * (random.next() & 1) as u8 } else { 0 }).collect()
+    (0..27 * count).map(|_| if random.below(100) < kept { 1 + 2 * (random.word() & 1) as u8 } else { 0 }).collect()
 }

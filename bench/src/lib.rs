@@ -1,5 +1,7 @@
-//! What the benchmark is made of, save the product itself: two implementations of the rules in Rust, the grids, and the timing.
+//! What the benchmark is made of: the product and, where one is given, an earlier one; two implementations of the rules in Rust; the grids, and the
+//! timing.
 
+pub mod archive;
 pub mod clock;
 pub mod contest;
 pub mod grids;

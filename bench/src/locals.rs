@@ -1,6 +1,6 @@
 //! The local test on 1,000,000 random blocks.
 
-use crate::ours;
+use bench::archive::now as ours;
 use bench::clock;
 use bench::grids::blocks;
 use bench::local::{joined, ranked, searched, Whole};
@@ -72,24 +72,33 @@ pub fn measure(rounds: usize) -> (f64, f64) {
     for kept in KEPT {
         let bytes = blocks(COUNT, kept);
         let bits: Vec<u32> = bytes.chunks_exact(27).map(gather).collect();
-        gathered.push(race(rounds, &[
-            &|| over_bytes(&bytes, |b| packed(ours::local_test(b))),
-            &|| over_bytes(&bytes, |b| packed(joined::test(b))),
-            &|| over_bytes(&bytes, |b| packed(ranked::test(b))),
-            &|| over_bytes(&bytes, |b| packed(searched::test(b))),
-        ]));
-        given.push(race(rounds, &[
-            &|| over_bits(&bits, |b| packed(ours::local_test(b))),
-            &|| over_bits(&bits, |b| packed(joined::test(b))),
-            &|| over_bits(&bits, |b| packed(ranked::test(b))),
-            &|| over_bits(&bits, |b| packed(searched::test(b))),
-        ]));
-        passing.push(race(rounds, &[
-            &|| over_bytes(&bytes, |b| u64::from(passes(ours::local_test(b)))),
-            &|| over_bytes(&bytes, |b| u64::from(joined::passes(b))),
-            &|| over_bytes(&bytes, |b| u64::from(ranked::passes(b))),
-            &|| over_bytes(&bytes, |b| u64::from(table.passes(b))),
-        ]));
+        gathered.push(race(
+            rounds,
+            &[
+                &|| over_bytes(&bytes, |b| packed(ours::local_test(b))),
+                &|| over_bytes(&bytes, |b| packed(joined::test(b))),
+                &|| over_bytes(&bytes, |b| packed(ranked::test(b))),
+                &|| over_bytes(&bytes, |b| packed(searched::test(b))),
+            ],
+        ));
+        given.push(race(
+            rounds,
+            &[
+                &|| over_bits(&bits, |b| packed(ours::local_test(b))),
+                &|| over_bits(&bits, |b| packed(joined::test(b))),
+                &|| over_bits(&bits, |b| packed(ranked::test(b))),
+                &|| over_bits(&bits, |b| packed(searched::test(b))),
+            ],
+        ));
+        passing.push(race(
+            rounds,
+            &[
+                &|| over_bytes(&bytes, |b| u64::from(passes(ours::local_test(b)))),
+                &|| over_bytes(&bytes, |b| u64::from(joined::passes(b))),
+                &|| over_bytes(&bytes, |b| u64::from(ranked::passes(b))),
+                &|| over_bytes(&bytes, |b| u64::from(table.passes(b))),
+            ],
+        ));
     }
     let names = ["ours, a call for each block", "Rust, the same body", "(b) Rust, rank table", "Rust, search over cells"];
     head("k, m and counts, the 27 status bytes gathered:");

@@ -1,16 +1,18 @@
-//! The benchmark: the product against idiomatic and tuned Rust, as Markdown tables. Words given name the parts to run; none: all.
-//! `once PART SHAPE SIDE` makes a part's calls of ours a single time on a cube, and prints by what to divide a count of instructions.
+//! The benchmark: the product against idiomatic and tuned Rust, and against an earlier archive of its own where one is given, as Markdown tables.
+//! Words given name the parts to run; none: all. `once PART SHAPE SIDE [before]` makes a part's calls a single time on a cube, and prints by
+//! what to divide a count of instructions.
 
 mod locals;
-mod ours;
+mod singles;
+mod stacks;
 
+use bench::archive;
 use bench::contest::{begin, carve, contest, turns, whole, Calls, Case, Log, Race, Run, State, ROUNDS};
-use bench::grids::{values, Shape};
+use bench::grids::{pending, values, Distances, Shape};
 use bench::plain::Plain;
-use bench::stack;
 use bench::tuned::Tuned;
-use bench::types::Sides;
-use ours::Ours;
+use bench::types::{size, Sides};
+use singles::Took;
 
 const GRIDS: [Sides; 5] = [
     Sides { a: 16, b: 16, c: 16 },
@@ -24,7 +26,29 @@ const LARGEST: Sides = GRIDS[3];
 /// T of every grid, so that a noise grid's turns come to an end.
 const ALLOWED: u16 = 64;
 
-const ALL: [Calls; 3] = [Calls::of::<Ours>(), Calls::of::<Plain>(), Calls::of::<Tuned>()];
+/// Ours, (a), (b), and the other archive's where one is given.
+#[cfg(not(before))]
+const ALL: [Calls; 3] = [Calls::of::<archive::now::Ours>(), Calls::of::<Plain>(), Calls::of::<Tuned>()];
+#[cfg(before)]
+const ALL: [Calls; 4] =
+    [Calls::of::<archive::now::Ours>(), Calls::of::<Plain>(), Calls::of::<Tuned>(), Calls::of::<archive::before::Before>()];
+const BEFORE: usize = 3;
+
+/// What a table's title says of the second figure.
+fn ratio_to(before: bool) -> &'static str {
+    if before {
+        "; then ours/before"
+    } else {
+        ""
+    }
+}
+
+/// A time, with how it stands to another where there is one.
+fn with_ratio(time: f64, before: Option<f64>) -> String {
+    let digits = if time < 10.0 { 3 } else { 1 };
+    let ratio = before.filter(|before| before.is_finite()).map(|before| format!(", {:.2}", time / before));
+    format!("{time:.digits$}{}", ratio.unwrap_or_default())
+}
 
 fn named(Sides { a, b, c }: Sides) -> String {
     format!("{a} x {b} x {c}")
@@ -91,22 +115,28 @@ struct Found {
     times: Vec<f64>,
 }
 
-/// Times a part on a grid and prints its cell: our time, and how it stands to (a) and to (b).
+/// Our time, and how it stands to (a), to (b), and to the other archive's.
+fn against_all(times: &[f64]) -> String {
+    let digits = if times[0] < 10.0 { 3 } else { 1 };
+    let ratios: String = times[1..].iter().map(|t| format!(", {:.2}", times[0] / t)).collect();
+    format!("{:.digits$}{ratios}", times[0])
+}
+
+/// Times a part on a grid and prints its cell.
 fn measure(part: &Part, sides: Sides, shape: Shape) -> Found {
     let case = case(sides, shape);
     let start = after(&case, part.before);
     let race = contest(&ALL, &case, &start, part.run);
     let unit = (part.unit)(race.log());
     let times: Vec<f64> = race.times.iter().map(|t| t / unit).collect();
-    let digits = if times[0] < 10.0 { 3 } else { 1 };
-    let (a, b) = (times[0] / times[1], times[0] / times[2]);
-    print!(" {}{:.digits$}, {a:.2}, {b:.2} |", (part.count)(race.log()), times[0]);
+    print!(" {}{} |", (part.count)(race.log()), against_all(&times));
     Found { word: part.word, sides, shape, times }
 }
 
 fn measure_all(parts: &[&Part]) -> Vec<Found> {
     let titles: Vec<&str> = parts.iter().map(|part| part.title).collect();
-    println!("\n## Calls: our time, ours/(a), ours/(b)\n\n| grid | | {} |", titles.join(" | "));
+    let before = if ALL.len() > BEFORE { ", ours/before" } else { "" };
+    println!("\n## Calls: our time, ours/(a), ours/(b){before}\n\n| grid | | {} |", titles.join(" | "));
     println!("|---|---|{}", "---|".repeat(parts.len()));
     let mut found = Vec::new();
     for sides in GRIDS {
@@ -147,29 +177,27 @@ fn growth() -> f64 {
     most
 }
 
-/// Prints the stack of each of our calls; the answer is that of carve at its greatest, in bytes.
-fn stacks() -> f64 {
-    println!("\n## Stack of our calls, bytes\n");
-    println!("| grid | begin | carve | take | open | finish |\n|---|---|---|---|---|---|");
-    let mut most = 0;
-    for sides in GRIDS {
-        let case = case(sides, Shape::Torus);
-        let (fresh, carved) = (after(&case, &[begin]), after(&case, &[begin, carve]));
-        let calls = &ALL[0];
-        let (mut blank, mut s1, mut s2, mut s3, mut s4) = (State::blank(&case), fresh.clone(), fresh.clone(), carved.clone(), carved);
-        let pending = fresh.status.iter().position(|&s| s == 3).expect("a pending voxel");
-        let used = [
-            stack::used(|| _ = (calls.begin)(case.sides, ALLOWED, &case.values, &mut blank.dist, &mut blank.status).expect("begin")),
-            stack::used(|| _ = (calls.carve)(s1.record, &s1.dist, &mut s1.status, u32::MAX).expect("carve")),
-            stack::used(|| _ = (calls.take)(s2.record, &s2.dist, &mut s2.status, pending)),
-            stack::used(|| _ = (calls.open)(s3.record, &s3.dist, &mut s3.status).expect("open")),
-            stack::used(|| _ = (calls.finish)(s4.record, &mut s4.dist, &s4.status).expect("finish")),
-        ];
-        let cells = used.map(|bytes| if bytes == stack::LEAST { format!("under {bytes}") } else { bytes.to_string() });
-        println!("| {} | {} |", named(sides), cells.join(" | "));
-        most = most.max(used[1]);
+/// Prints what an examination takes where every inner voxel of the largest grid is pending, which begin never makes; the answer is ours to
+/// the other archive's at worst.
+fn worst_case() -> Option<f64> {
+    let before = if ALL.len() > BEFORE { ", ours/before" } else { "" };
+    println!("\n## Every inner voxel of {} pending, ns per examination: ours, ours/(a), ours/(b){before}\n", named(LARGEST));
+    println!("| distances | examined | |\n|---|---|---|");
+    let mut most: Option<f64> = None;
+    for distances in Distances::ALL {
+        let case = Case { sides: LARGEST, allowed: 0, values: Vec::new() };
+        let start = crafted(LARGEST, distances);
+        let race = contest(&ALL, &case, &start, carve);
+        let times: Vec<f64> = race.times.iter().map(|t| t / examinations(race.log())).collect();
+        println!("| {} | {} | {} |", distances.name(), race.log().examined(), against_all(&times));
+        most = times.get(BEFORE).map(|before| (times[0] / before).max(most.unwrap_or(0.0)));
     }
-    most as f64
+    most
+}
+
+fn crafted(sides: Sides, distances: Distances) -> State {
+    let (dist, status) = pending(sides, distances);
+    State { record: bench::types::begun(sides, 0), dist, status }
 }
 
 /// A demand: what it is about, what was measured, and the greatest that meets it.
@@ -183,34 +211,78 @@ fn against_plain(found: &[Found], word: &'static str, shapes: &[Shape], most: f6
     shapes.iter().map(measured).collect()
 }
 
-fn once(word: &str, shape: &str, side: &str) {
-    let part = PARTS.iter().find(|part| part.word == word).expect("begin, carve, turns or whole");
-    let shape = Shape::ALL.into_iter().find(|s| s.name() == shape).expect("sphere, torus or noise");
+/// Ours to the other archive's, on the largest grid: for a part, or for a single call.
+fn against_before(found: &[Found], took: &[Took], word: &str, shapes: &[Shape], most: f64) -> Vec<Demand> {
+    let part = |shape: Shape| found.iter().find(|f| f.word == word && f.sides == LARGEST && f.shape == shape).map(|f| &f.times);
+    let single = |shape: Shape| took.iter().find(|t| t.word == word && t.sides == LARGEST && t.shape == shape).map(|t| &t.times);
+    let measured = |&shape: &Shape| {
+        let (ours, before) = match (part(shape), single(shape)) {
+            (Some(times), _) => (times[0], *times.get(BEFORE)?),
+            (_, Some(times)) => (times[0], *times.get(1)?),
+            _ => return None,
+        };
+        Some(Demand(format!("{word}, {} {}, ours/before", named(LARGEST), shape.name()), ours / before, most))
+    };
+    shapes.iter().filter_map(measured).collect()
+}
+
+/// A part's calls a single time: ours, or those of the other archive.
+fn once(word: &str, shape: &str, side: &str, before: bool) {
     let side = side.parse().expect("a side");
-    let case = case(Sides { a: side, b: side, c: side }, shape);
+    let sides = Sides { a: side, b: side, c: side };
+    let calls = &ALL[if before { BEFORE } else { 0 }];
+    let named = Shape::ALL.into_iter().find(|s| s.name() == shape);
+    if let Some(distances) = Distances::ALL.into_iter().find(|d| word == "crafted" && d.name() == shape) {
+        let (mut state, mut log) = (crafted(sides, distances), Log::default());
+        carve(calls, &Case { sides, allowed: 0, values: Vec::new() }, &mut state, &mut log);
+        return println!("{} {}", size(sides), log.examined());
+    }
+    let case = case(sides, named.expect("sphere, torus or noise"));
+    let Some(part) = PARTS.iter().find(|part| part.word == word) else {
+        assert!(singles::once(word, case, usize::from(before)), "there is no part {word}");
+        return;
+    };
     let (mut state, mut log) = (after(&case, part.before), Log::default());
-    (part.run)(&ALL[0], &case, &mut state, &mut log);
-    println!("{} {}", case.sides.size(), log.examined());
+    (part.run)(calls, &case, &mut state, &mut log);
+    println!("{} {}", size(case.sides), log.examined());
 }
 
 fn main() {
     let words: Vec<String> = std::env::args().skip(1).collect();
-    if let [first, part, shape, side] = &words[..] {
-        if first == "once" {
-            return once(part, shape, side);
-        }
+    let given: Vec<&str> = words.iter().map(String::as_str).collect();
+    match given[..] {
+        ["once", part, shape, side] => return once(part, shape, side, false),
+        ["once", part, shape, side, "before"] => return once(part, shape, side, true),
+        _ => {}
     }
     let wanted = |word: &str| words.is_empty() || words.iter().any(|w| w == word);
     println!("Processor time, least of {ROUNDS} rounds or more; in each round every implementation once, all answers and buffers equal.");
     let mut demands = Vec::new();
     let parts: Vec<&Part> = PARTS.iter().filter(|part| wanted(part.word)).collect();
     let found = if parts.is_empty() { Vec::new() } else { measure_all(&parts) };
+    let took = if wanted("single") { singles::measure(case) } else { Vec::new() };
     if wanted("begin") {
+        demands.extend(against_before(&found, &took, "begin", &Shape::ALL, 0.65));
         demands.extend(against_plain(&found, "begin", &[Shape::Sphere, Shape::Noise], 0.5));
     }
     if wanted("carve") {
+        demands.extend(against_before(&found, &took, "carve", &[Shape::Sphere, Shape::Torus], 0.8));
+        demands.extend(against_before(&found, &took, "carve", &[Shape::Noise], 0.95));
         demands.extend(against_plain(&found, "carve", &Shape::ALL, 0.8));
         demands.push(Demand("carve, growth".into(), growth(), 1.3));
+    }
+    if wanted("turns") {
+        demands.extend(against_before(&found, &took, "turns", &[Shape::Noise], 0.4));
+    }
+    if wanted("single") {
+        demands.extend(against_before(&found, &took, "check", &Shape::ALL, 0.45));
+        demands.extend(against_before(&found, &took, "open", &Shape::ALL, 0.45));
+        let points = took.iter().filter(|t| t.word == "points" && t.sides == LARGEST);
+        let each = points.map(|t| 1e3 * t.times[0] / (3 * size(LARGEST)) as f64).fold(0.0, f64::max);
+        demands.push(Demand(format!("all points, {}, ns per position", named(LARGEST)), each, 15.0));
+    }
+    if wanted("crafted") {
+        demands.extend(worst_case().map(|ratio| Demand("carve, every inner voxel pending, ours/before".into(), ratio, 1.3)));
     }
     if wanted("local") {
         let (time, ratio) = locals::measure(3 * ROUNDS);
@@ -219,7 +291,7 @@ fn main() {
         demands.push(Demand("local test, ours/the same body in Rust".into(), ratio, 20.0 / 13.0));
     }
     if wanted("stack") {
-        demands.push(Demand("stack of carve, KB".into(), stacks() / 1024.0, 160.0));
+        demands.push(Demand("stack of a call at most, KB".into(), stacks::measure() / 1024.0, 18.0));
     }
     println!("\n## Demands\n\n| | measured | at most | |\n|---|---|---|---|");
     for Demand(what, measured, most) in demands {

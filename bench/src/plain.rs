@@ -1,7 +1,7 @@
 //! (a) The rules in idiomatic Rust: iterators, vectors, a breadth-first search, a BinaryHeap of tuples. The local test has the product's own body.
 
 use crate::local::joined;
-use crate::types::{Carved, Local, Machine, Opened, Record, Refused, Sides, Taken, MISSING};
+use crate::types::{begun, counts_fit, Carved, Local, Machine, Opened, Record, Refused, Sides, Taken, MISSING};
 use std::cmp::Reverse;
 use std::collections::{BinaryHeap, VecDeque};
 
@@ -11,7 +11,18 @@ fn negative(value: i16) -> bool {
     value < 0 && value != MISSING
 }
 
-impl Sides {
+/// Where voxels lie, by coordinates.
+trait Voxels {
+    fn place(&self, i: usize) -> (usize, usize, usize);
+    fn index(&self, x: usize, y: usize, z: usize) -> usize;
+    fn border(&self, i: usize) -> bool;
+    /// Visits the voxels of the grid that touch this one, and itself.
+    fn touching(&self, i: usize, visit: impl FnMut(usize));
+    /// The voxels of the grid that share a face with this one.
+    fn facing(self, i: usize) -> impl Iterator<Item = usize>;
+}
+
+impl Voxels for Sides {
     fn place(&self, i: usize) -> (usize, usize, usize) {
         (i % self.a, i / self.a % self.b, i / (self.a * self.b))
     }
@@ -25,7 +36,6 @@ impl Sides {
         x == 0 || y == 0 || z == 0 || x == self.a - 1 || y == self.b - 1 || z == self.c - 1
     }
 
-    /// Visits the voxels of the grid that touch this one, and itself.
     fn touching(&self, i: usize, mut visit: impl FnMut(usize)) {
         let (x, y, z) = self.place(i);
         for z in z.saturating_sub(1)..(z + 2).min(self.c) {
@@ -37,7 +47,6 @@ impl Sides {
         }
     }
 
-    /// The voxels of the grid that share a face with this one.
     fn facing(self, i: usize) -> impl Iterator<Item = usize> {
         let (x, y, z) = self.place(i);
         let layer = self.a * self.b;
@@ -137,10 +146,7 @@ fn fill_status(sides: Sides, inside: &[bool], status: &mut [u8]) {
 
 /// 1, 2, 7, 8.
 fn ready(given: &Record, dist: &[i32], status: &[u8]) -> Result<(), Refused> {
-    if !given.sides.fit() {
-        return Err(1);
-    }
-    let n = given.sides.size();
+    let Some(n) = given.sides.voxels() else { return Err(1) };
     if dist.len() != n || status.len() != n {
         return Err(2);
     }
@@ -150,7 +156,7 @@ fn ready(given: &Record, dist: &[i32], status: &[u8]) -> Result<(), Refused> {
         3 => dist[i] >= 0 && !given.sides.border(i),
         _ => false,
     };
-    if !given.counts_fit() || !(0..n).all(voxel_fit) {
+    if !counts_fit(given) || !(0..n).all(voxel_fit) {
         return Err(7);
     }
     if given.finished {
@@ -193,10 +199,7 @@ impl Machine for Plain {
     const NAME: &'static str = "(a) idiomatic Rust";
 
     fn begin(sides: Sides, allowed: u16, values: &[i16], dist: &mut [i32], status: &mut [u8]) -> Result<Record, Refused> {
-        if !sides.fit() {
-            return Err(1);
-        }
-        let n = sides.size();
+        let Some(n) = sides.voxels() else { return Err(1) };
         if values.len() != n || dist.len() != n || status.len() != n {
             return Err(2);
         }
@@ -209,7 +212,7 @@ impl Machine for Plain {
         let inside = inside(sides, values);
         fill_distances(values, &steps(sides, &inside), dist);
         fill_status(sides, &inside, status);
-        Ok(Record::new(sides, allowed))
+        Ok(begun(sides, allowed))
     }
 
     fn carve(given: Record, dist: &[i32], status: &mut [u8], limit: u32) -> Result<Carved, Refused> {
@@ -226,11 +229,8 @@ impl Machine for Plain {
                 remove(given.sides, dist, status, i, |j| pending.push((dist[j], Reverse(j))));
             }
         }
-        let next = Record {
-            removals: given.removals + u64::from(removed),
-            examinations: given.examinations + u64::from(examined),
-            ..given
-        };
+        let next =
+            Record { removals: given.removals + u64::from(removed), examinations: given.examinations + u64::from(examined), ..given };
         Ok(Carved { examined, removed, pending: !pending.is_empty(), next })
     }
 
@@ -267,12 +267,7 @@ impl Machine for Plain {
         };
         let Local { k, m, .. } = test_at(given.sides, status, index);
         remove(given.sides, dist, status, index, |_| ());
-        let next = Record {
-            openings: given.openings + 1,
-            removals: given.removals + 1,
-            euler: given.euler + k as i32 - m as i32,
-            ..given
-        };
+        let next = Record { openings: given.openings + 1, removals: given.removals + 1, euler: given.euler + k as i32 - m as i32, ..given };
         Ok(Opened { index, k, m, next })
     }
 

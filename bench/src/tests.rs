@@ -5,7 +5,7 @@ use crate::grids::{blocks, Random};
 use crate::local::{joined, ranked, searched, Whole};
 use crate::plain::Plain;
 use crate::tuned::Tuned;
-use crate::types::{Record, Sides, MISSING};
+use crate::types::{begun, size, Record, Sides, MISSING};
 use reference::{grid, local, machine};
 
 fn theirs(r: Record) -> grid::Record {
@@ -17,14 +17,14 @@ fn theirs(r: Record) -> grid::Record {
         removals: r.removals,
         examinations: r.examinations,
         euler: i64::from(r.euler),
-        finished: r.finished,
+        finished: u8::from(r.finished),
     }
 }
 
 fn random_values(random: &mut Random, sides: Sides) -> Vec<i16> {
     let dense = random.below(60);
     let scale = [1, 3, 1000, 32767][random.below(4) as usize];
-    let mut values: Vec<i16> = (0..sides.size())
+    let mut values: Vec<i16> = (0..size(sides))
         .map(|_| match random.below(100) {
             p if p < dense => -1 - random.below(scale) as i16,
             p if p > 94 => MISSING,
@@ -68,15 +68,15 @@ fn play(calls: &Calls, seed: u64) {
     let mut side = || 3 + random.below(7) as usize;
     let sides = Sides { a: side(), b: side(), c: side() };
     let values = random_values(&mut random, sides);
-    let n = sides.size();
+    let n = size(sides);
     let allowed = [0, 1, 5, 65535][random.below(4) as usize];
     let (mut dist, mut status) = (vec![7; n], vec![7; n]);
     let (mut their_dist, mut their_status) = (dist.clone(), status.clone());
-    let begun = (calls.begin)(sides, allowed, &values, &mut dist, &mut status);
-    let expected = grid::begin(theirs(Record::new(sides, allowed)).sides, allowed, &values, &mut their_dist, &mut their_status);
-    assert_eq!(begun.map(theirs), expected, "{} begin {seed}", calls.name);
+    let ours = (calls.begin)(sides, allowed, &values, &mut dist, &mut status);
+    let expected = grid::begin(theirs(begun(sides, allowed)).sides, allowed, &values, &mut their_dist, &mut their_status);
+    assert_eq!(ours.map(theirs), expected, "{} begin {seed}", calls.name);
     assert_eq!((&dist, &status), (&their_dist, &their_status), "{} begin {seed}", calls.name);
-    let Ok(mut record) = begun else { return };
+    let Ok(mut record) = ours else { return };
     for _ in 0..30 {
         if random.below(40) == 0 {
             spoil(&mut random, &mut record, &mut dist, &mut status);

@@ -2,7 +2,7 @@
 //! and the local test with a rank table.
 
 use crate::local::ranked;
-use crate::types::{Carved, Local, Machine, Opened, Record, Refused, Sides, Taken, MISSING};
+use crate::types::{begun, counts_fit, Carved, Local, Machine, Opened, Record, Refused, Sides, Taken, MISSING};
 use std::collections::BinaryHeap;
 
 pub struct Tuned;
@@ -122,10 +122,7 @@ fn fill_status(status: &mut [u8], sides: Sides) {
 
 /// 1, 2, 7, 8.
 fn ready(given: &Record, dist: &[i32], status: &[u8]) -> Result<(), Refused> {
-    if !given.sides.fit() {
-        return Err(1);
-    }
-    let n = given.sides.size();
+    let Some(n) = given.sides.voxels() else { return Err(1) };
     if dist.len() != n || status.len() != n {
         return Err(2);
     }
@@ -136,7 +133,7 @@ fn ready(given: &Record, dist: &[i32], status: &[u8]) -> Result<(), Refused> {
         let row = &status[at..at + a];
         bad |= if outer { row.iter().fold(0, |any, &s| any | s) } else { row[0] | row[a - 1] };
     });
-    if !given.counts_fit() || bad != 0 {
+    if !counts_fit(given) || bad != 0 {
         return Err(7);
     }
     if given.finished {
@@ -183,8 +180,7 @@ fn foremost(sides: Sides, dist: &[i32], status: &[u8]) -> u64 {
     let width = n - 2 * edge;
     let part = |from: usize| &status[from..from + width];
     let (here, d) = (part(edge), &dist[edge..edge + width]);
-    let (x0, x1, y0, y1, z0, z1) =
-        (part(edge - 1), part(edge + 1), part(edge - a), part(edge + a), part(edge - layer), part(edge + layer));
+    let (x0, x1, y0, y1, z0, z1) = (part(edge - 1), part(edge + 1), part(edge - a), part(edge + a), part(edge - layer), part(edge + layer));
     let mut best = 0;
     for i in 0..width {
         let bare = (x0[i] == 0) | (x1[i] == 0) | (y0[i] == 0) | (y1[i] == 0) | (z0[i] == 0) | (z1[i] == 0);
@@ -198,10 +194,7 @@ impl Machine for Tuned {
     const NAME: &'static str = "(b) tuned Rust";
 
     fn begin(sides: Sides, allowed: u16, values: &[i16], dist: &mut [i32], status: &mut [u8]) -> Result<Record, Refused> {
-        if !sides.fit() {
-            return Err(1);
-        }
-        let n = sides.size();
+        let Some(n) = sides.voxels() else { return Err(1) };
         if values.len() != n || dist.len() != n || status.len() != n {
             return Err(2);
         }
@@ -235,7 +228,7 @@ impl Machine for Tuned {
         sweep(status, sides);
         fill_distances(values, status, dist);
         fill_status(status, sides);
-        Ok(Record::new(sides, allowed))
+        Ok(begun(sides, allowed))
     }
 
     fn carve(given: Record, dist: &[i32], status: &mut [u8], limit: u32) -> Result<Carved, Refused> {
@@ -255,11 +248,8 @@ impl Machine for Tuned {
                 remove(&near, dist, status, i, |j| pending.push(word(dist[j], j)));
             }
         }
-        let next = Record {
-            removals: given.removals + u64::from(removed),
-            examinations: given.examinations + u64::from(examined),
-            ..given
-        };
+        let next =
+            Record { removals: given.removals + u64::from(removed), examinations: given.examinations + u64::from(examined), ..given };
         Ok(Carved { examined, removed, pending: !pending.is_empty(), next })
     }
 
@@ -297,12 +287,7 @@ impl Machine for Tuned {
         let index = (0x3FFFF - (best & 0x3FFFF)) as usize;
         let Local { k, m, .. } = ranked::test(bits_around(given.sides, status, index));
         remove(&touching(given.sides), dist, status, index, |_| ());
-        let next = Record {
-            openings: given.openings + 1,
-            removals: given.removals + 1,
-            euler: given.euler + k as i32 - m as i32,
-            ..given
-        };
+        let next = Record { openings: given.openings + 1, removals: given.removals + 1, euler: given.euler + k as i32 - m as i32, ..given };
         Ok(Opened { index, k, m, next })
     }
 

@@ -1,87 +1,28 @@
-//! What crosses between the harness and an implementation of the rules.
+//! What crosses between the harness and an implementation of the rules: the wrapper's own types, so that the C interface is declared once.
 
-pub const MISSING: i16 = i16::MIN;
+pub use wattlerugby::{Carved, LocalTest as Local, Opened, Record, Sides, Taken, MISSING};
 
-#[repr(C)]
-#[derive(Clone, Copy, Debug, PartialEq, Eq)]
-pub struct Sides {
-    pub a: usize,
-    pub b: usize,
-    pub c: usize,
+/// n, also where a side is not fit.
+pub fn size(sides: Sides) -> usize {
+    sides.a * sides.b * sides.c
 }
 
-impl Sides {
-    pub fn size(&self) -> usize {
-        self.a * self.b * self.c
-    }
-
-    pub fn fit(&self) -> bool {
-        [self.a, self.b, self.c].iter().all(|side| (3..=64).contains(side))
-    }
+/// The record that begin answers.
+pub fn begun(sides: Sides, allowed: u16) -> Record {
+    Record { sides, allowed, euler: 1, ..Record::default() }
 }
 
-#[repr(C)]
-#[derive(Clone, Copy, Debug, PartialEq, Eq)]
-pub struct Record {
-    pub sides: Sides,
-    pub allowed: u16,
-    pub openings: u32,
-    pub removals: u64,
-    pub examinations: u64,
-    pub euler: i32,
-    pub finished: bool,
-}
-
-impl Record {
-    pub fn new(sides: Sides, allowed: u16) -> Self {
-        Record { sides, allowed, openings: 0, removals: 0, examinations: 0, euler: 1, finished: false }
-    }
-
-    /// The counts of number 7.
-    pub fn counts_fit(&self) -> bool {
-        let n = self.sides.size() as u64;
-        self.openings <= u32::from(self.allowed)
-            && self.removals <= n
-            && self.examinations <= 27 * n
-            && u64::from(self.euler.unsigned_abs()) <= 8 * n
-    }
+/// The counts of number 7.
+pub fn counts_fit(record: &Record) -> bool {
+    let n = size(record.sides) as u64;
+    record.openings <= u32::from(record.allowed)
+        && record.removals <= n
+        && record.examinations <= 27 * n
+        && u64::from(record.euler.unsigned_abs()) <= 8 * n
 }
 
 /// A refusal's number.
 pub type Refused = u8;
-
-#[derive(Clone, Copy, Debug, PartialEq, Eq)]
-pub struct Carved {
-    pub examined: u32,
-    pub removed: u32,
-    pub pending: bool,
-    pub next: Record,
-}
-
-#[derive(Clone, Copy, Debug, PartialEq, Eq)]
-pub struct Taken {
-    pub k: u32,
-    pub m: u32,
-    pub next: Record,
-}
-
-#[derive(Clone, Copy, Debug, PartialEq, Eq)]
-pub struct Opened {
-    pub index: usize,
-    pub k: u32,
-    pub m: u32,
-    pub next: Record,
-}
-
-#[repr(C)]
-#[derive(Clone, Copy, Debug, Default, PartialEq, Eq)]
-pub struct Local {
-    pub k: u32,
-    pub m: u32,
-    pub corners: u32,
-    pub edges: u32,
-    pub faces: u32,
-}
 
 /// The five calls of the carving machine.
 pub trait Machine {

@@ -78,7 +78,14 @@ pub struct Record {
     pub removals: u64,
     pub examinations: u64,
     pub euler: i64,
-    pub finished: bool,
+    /// As a caller gives it: any byte but 0 is finished.
+    pub finished: u8,
+}
+
+impl Record {
+    pub fn finished(&self) -> bool {
+        self.finished != 0
+    }
 }
 
 pub type Refused = u8;
@@ -185,5 +192,5 @@ pub fn begin(sides: Sides, t: u16, values: &[i16], dist: &mut [i32], status: &mu
             1
         };
     }
-    Ok(Record { sides, t, openings: 0, removals: 0, examinations: 0, euler: 1, finished: false })
+    Ok(Record { sides, t, openings: 0, removals: 0, examinations: 0, euler: 1, finished: 0 })
 }

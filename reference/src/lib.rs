@@ -5,3 +5,4 @@ pub mod grid;
 pub mod local;
 pub mod machine;
 pub mod replay;
+pub mod words;

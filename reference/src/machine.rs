@@ -1,4 +1,5 @@
-//! The carving machine and surface points (document 01, "The carving machine", "Surface points", numbers 5 to 15).
+//! The carving machine and surface points (document 01, "The carving machine", "Surface points", numbers 5 to 15). `points`, every crossing in a
+//! row, is a call of this library and not of document 01.
 
 use crate::grid::{Record, Refused};
 use crate::local::{local_test, Local};
@@ -25,9 +26,7 @@ fn unfit(r: &Record, dist: &[i32], status: &[u8]) -> Option<Refused> {
     }
     let n = n as u64;
     let counts = r.openings > u64::from(r.t) || r.removals > n || r.examinations > 27 * n || r.euler.unsigned_abs() > 8 * n;
-    let voxel = |i: usize| {
-        !matches!(status[i], 0 | 1 | 3) || (r.sides.border(i) && status[i] != 0) || (dist[i] < 0 && status[i] != 1)
-    };
+    let voxel = |i: usize| !matches!(status[i], 0 | 1 | 3) || (r.sides.border(i) && status[i] != 0) || (dist[i] < 0 && status[i] != 1);
     if counts || (0..n as usize).any(voxel) {
         return Some(7);
     }
@@ -38,7 +37,7 @@ fn ready(r: &Record, dist: &[i32], status: &[u8]) -> Result<(), Refused> {
     if let Some(number) = unfit(r, dist, status) {
         return Err(number);
     }
-    if r.finished {
+    if r.finished() {
         return Err(8);
     }
     Ok(())
@@ -128,7 +127,7 @@ pub fn open(r: &mut Record, dist: &[i32], status: &mut [u8]) -> Result<Opening, 
     if r.openings == u64::from(r.t) {
         return Err(14);
     }
-    let bare = |i: usize| r.sides.face_neighbours(i).into_iter().any(|j| !j.is_some_and(|j| status[j] != 0));
+    let bare = |i: usize| r.sides.face_neighbours(i).into_iter().any(|j| j.is_none_or(|j| status[j] == 0));
     let Some(index) = foremost(dist, (0..status.len()).filter(|&i| status[i] != 0 && dist[i] >= 0 && bare(i))) else {
         return Err(15);
     };
@@ -149,7 +148,7 @@ pub fn finish(r: &mut Record, dist: &mut [i32], status: &[u8]) -> Result<(), Ref
             dist[i] = if dist[i] == 0 { -1 } else { -dist[i] };
         }
     }
-    r.finished = true;
+    r.finished = 1;
     Ok(())
 }
 
@@ -157,7 +156,7 @@ pub fn crossing(r: &Record, dist: &[i32], status: &[u8], index: u64, axis: u64) 
     if let Some(number) = unfit(r, dist, status) {
         return Err(number);
     }
-    if !r.finished {
+    if !r.finished() {
         return Err(9);
     }
     if index >= r.sides.n() as u64 {
@@ -166,7 +165,11 @@ pub fn crossing(r: &Record, dist: &[i32], status: &[u8], index: u64, axis: u64) 
     if axis > 2 {
         return Err(6);
     }
-    let (index, axis) = (index as usize, axis as usize);
+    point_at(r, dist, index as usize, axis as usize)
+}
+
+/// The point between a voxel and the next along an axis, if there is one; 6 where the next lies beyond the grid.
+fn point_at(r: &Record, dist: &[i32], index: usize, axis: usize) -> Result<Option<[f64; 3]>, Refused> {
     let here = r.sides.coordinates(index);
     let mut there = here;
     there[axis] += 1;
@@ -180,4 +183,33 @@ pub fn crossing(r: &Record, dist: &[i32], status: &[u8], index: u64, axis: u64) 
     let mut point = from.map(|v| v as f64);
     point[axis] = if towards > 0.0 { point[axis] + share } else { point[axis] - share };
     Ok(Some(point))
+}
+
+pub struct Points {
+    pub count: u64,
+    pub next: u64,
+}
+
+/// The points of all crossings from a position on, three doubles each, until there is no room for one more or the positions end. Position
+/// 3 i + k stands for the line from voxel i along axis k.
+pub fn points(r: &Record, dist: &[i32], status: &[u8], position: u64, out: &mut [f64]) -> Result<Points, Refused> {
+    if let Some(number) = unfit(r, dist, status) {
+        return Err(number);
+    }
+    if !r.finished() {
+        return Err(9);
+    }
+    let end = 3 * r.sides.n() as u64;
+    if position > end {
+        return Err(5);
+    }
+    let (mut next, mut written) = (position, 0);
+    while next < end && out.len() - written >= 3 {
+        if let Ok(Some(point)) = point_at(r, dist, (next / 3) as usize, (next % 3) as usize) {
+            out[written..written + 3].copy_from_slice(&point);
+            written += 3;
+        }
+        next += 1;
+    }
+    Ok(Points { count: written as u64 / 3, next })
 }

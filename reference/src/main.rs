@@ -1,35 +1,26 @@
 //! `reference` prints the line of the program carve for the grid file on standard input.
 //! `reference replay` runs the call script on standard input.
 
-use std::io::{BufRead, Read, Write};
+use std::io::Read;
+use std::process::ExitCode;
 
-fn main() {
+fn main() -> ExitCode {
     match std::env::args().nth(1).as_deref() {
-        None => {
-            let mut file = Vec::new();
-            std::io::stdin().read_to_end(&mut file).expect("standard input can be read");
-            println!("{}", reference::file::program_line(&file));
-        }
-        Some("replay") => replay(),
+        None => program(),
+        Some("replay") => reference::replay::standard_input(),
         Some(other) => {
             eprintln!("reference: unknown mode {other}; usage: reference [replay]");
-            std::process::exit(2);
+            ExitCode::from(2)
         }
     }
 }
 
-fn replay() {
-    let mut state = reference::replay::Replay::new();
-    let mut out = std::io::BufWriter::new(std::io::stdout().lock());
-    for (i, line) in std::io::stdin().lock().lines().enumerate() {
-        match state.line(&line.expect("standard input can be read")) {
-            Ok(None) => {}
-            Ok(Some(text)) => writeln!(out, "{text}").expect("standard output can be written"),
-            Err(wrong) => {
-                out.flush().expect("standard output can be written");
-                eprintln!("reference: line {}: {wrong}", i + 1);
-                std::process::exit(2);
-            }
-        }
+fn program() -> ExitCode {
+    let mut file = Vec::new();
+    if let Err(wrong) = std::io::stdin().read_to_end(&mut file) {
+        eprintln!("reference: the file cannot be read: {wrong}");
+        return ExitCode::from(2);
     }
+    println!("{}", reference::file::program_line(&file));
+    ExitCode::SUCCESS
 }

@@ -1,22 +1,26 @@
-//! Call scripts: one command a line in, one answer a line out for each call.
+//! Call scripts (docs/CALL-SCRIPTS.md): one command a line in, one answer a line out for each call.
 
 use crate::file::{layer, program_line, read};
 use crate::grid::{begin, Record, Refused, Sides};
 use crate::local::local_test;
-use crate::machine::{carve, crossing, finish, open, take};
+use crate::machine::{carve, crossing, finish, open, points, take};
+use crate::words::{Mistake, Words};
+use std::io::{BufRead, Write};
 
+/// What a script works on.
 pub struct Replay {
-    sides: Sides,
-    t: u16,
-    values: Vec<i16>,
-    dist: Vec<i32>,
-    status: Vec<u8>,
-    file: Vec<u8>,
-    record: Record,
+    pub sides: Sides,
+    pub t: u16,
+    pub values: Vec<i16>,
+    pub dist: Vec<i32>,
+    pub status: Vec<u8>,
+    pub file: Vec<u8>,
+    pub record: Record,
     hash_after_each: bool,
 }
 
-type Said = Result<Option<String>, String>;
+/// The longest buffer that `len` makes, and that `points` lends.
+const LONGEST: usize = 1 << 20;
 
 fn fnv(bytes: impl Iterator<Item = u8>) -> String {
     let mut h: u64 = 0xcbf2_9ce4_8422_2325;
@@ -26,45 +30,29 @@ fn fnv(bytes: impl Iterator<Item = u8>) -> String {
     format!("{h:016x}")
 }
 
-fn number(word: Option<&str>) -> Result<i128, String> {
-    let word = word.ok_or("a number is missing")?;
-    word.parse().map_err(|_| format!("not a number: {word}"))
-}
-
-fn hex(word: Option<&str>) -> Result<Vec<u8>, String> {
-    let word = word.unwrap_or("");
-    if word.len() % 2 != 0 {
-        return Err(format!("an odd number of hexadecimal digits: {word}"));
-    }
-    (0..word.len() / 2)
-        .map(|i| u8::from_str_radix(&word[2 * i..2 * i + 2], 16).map_err(|_| format!("not hexadecimal: {word}")))
-        .collect()
-}
-
 /// fill V, set I V, list V V .., len L
-fn edit<T: Copy>(buffer: &mut Vec<T>, zero: T, make: impl Fn(i128) -> T, words: &mut std::str::SplitWhitespace) -> Result<(), String> {
-    match words.next() {
-        Some("fill") => {
-            let v = make(number(words.next())?);
+fn edit<T: Copy + Default + TryFrom<i128>>(buffer: &mut Vec<T>, words: &mut Words) -> Result<(), Mistake> {
+    match words.word()? {
+        "fill" => {
+            let v = words.number()?;
             buffer.fill(v);
         }
-        Some("set") => {
-            let i = number(words.next())? as usize;
-            let v = make(number(words.next())?);
-            *buffer.get_mut(i).ok_or("set past the end")? = v;
+        "set" => {
+            let i: usize = words.number()?;
+            let v = words.number()?;
+            *buffer.get_mut(i).ok_or(format!("set past the end: {i}"))? = v;
         }
-        Some("list") => *buffer = words.map(|w| number(Some(w)).map(&make)).collect::<Result<_, _>>()?,
-        Some("len") => buffer.resize(number(words.next())? as usize, zero),
-        other => return Err(format!("unknown buffer command: {other:?}")),
+        "list" => *buffer = words.numbers()?,
+        "len" => {
+            let len: usize = words.number()?;
+            if len > LONGEST {
+                return Err(format!("out of range: {len}"));
+            }
+            buffer.resize(len, T::default());
+        }
+        other => return Err(format!("unknown buffer command: {other}")),
     }
     Ok(())
-}
-
-fn answer(name: &str, result: Result<String, Refused>) -> Said {
-    Ok(Some(match result {
-        Ok(text) => format!("{name} ok {text}"),
-        Err(n) => format!("{name} refused {n}"),
-    }))
 }
 
 fn shown(r: &Record) -> String {
@@ -78,24 +66,44 @@ fn shown(r: &Record) -> String {
         r.removals,
         r.examinations,
         r.euler,
-        u8::from(r.finished)
+        u8::from(r.finished())
     )
+}
+
+fn sides_from(words: &mut Words) -> Result<Sides, Mistake> {
+    Ok(Sides { a: words.number()?, b: words.number()?, c: words.number()? })
+}
+
+/// Replays a script; an error says which line is not of the language, or that no more can be written.
+pub fn replay(script: impl BufRead, mut answers: impl Write) -> Result<(), Mistake> {
+    let mut state = Replay::new();
+    for (i, line) in script.split(b'\n').enumerate() {
+        let line = line.map_err(|wrong| format!("the script cannot be read: {wrong}"))?;
+        let line = std::str::from_utf8(&line).map_err(|_| format!("line {}: not text", i + 1))?;
+        if let Some(said) = state.line(line).map_err(|wrong| format!("line {}: {wrong}", i + 1))? {
+            writeln!(answers, "{said}").map_err(|wrong| format!("an answer cannot be written: {wrong}"))?;
+        }
+    }
+    answers.flush().map_err(|wrong| format!("an answer cannot be written: {wrong}"))
+}
+
+/// Replays standard input; the status is 2 where that ends early.
+pub fn standard_input() -> std::process::ExitCode {
+    match replay(std::io::stdin().lock(), std::io::BufWriter::new(std::io::stdout().lock())) {
+        Ok(()) => std::process::ExitCode::SUCCESS,
+        Err(wrong) => {
+            eprintln!("reference: {wrong}");
+            std::process::ExitCode::from(2)
+        }
+    }
 }
 
 impl Replay {
     pub fn new() -> Self {
         let sides = Sides { a: 3, b: 3, c: 3 };
-        let record = Record { sides, t: 0, openings: 0, removals: 0, examinations: 0, euler: 1, finished: false };
-        let mut new = Replay {
-            sides,
-            t: 0,
-            values: vec![],
-            dist: vec![],
-            status: vec![],
-            file: vec![],
-            record,
-            hash_after_each: false,
-        };
+        let record = Record { sides, t: 0, openings: 0, removals: 0, examinations: 0, euler: 1, finished: 0 };
+        let (values, dist, status, file) = (vec![], vec![], vec![], vec![]);
+        let mut new = Replay { sides, t: 0, values, dist, status, file, record, hash_after_each: false };
         new.make_buffers();
         new
     }
@@ -114,142 +122,138 @@ impl Replay {
         format!("dist {} status {} values {}", fnv(dist), fnv(self.status.iter().copied()), fnv(values))
     }
 
-    fn sides_from(&mut self, words: &mut std::str::SplitWhitespace) -> Result<(), String> {
-        let mut side = || number(words.next()).map(|v| v as u64);
-        self.sides = Sides { a: side()?, b: side()?, c: side()? };
-        Ok(())
+    fn dump(&self, name: &str) -> Result<String, Mistake> {
+        Ok(match name {
+            "values" => format!("{:?}", self.values),
+            "dist" => format!("{:?}", self.dist),
+            "status" => format!("{:?}", self.status),
+            other => return Err(format!("unknown buffer: {other}")),
+        })
     }
 
-    fn poke(&mut self, words: &mut std::str::SplitWhitespace) -> Said {
-        let field = words.next().unwrap_or("").to_string();
-        let v = number(words.next())?;
+    /// One line of a script: what to print, if anything, or what is wrong with it.
+    pub fn line(&mut self, line: &str) -> Result<Option<String>, Mistake> {
+        let mut words = Words::of(line);
+        let command = match words.word() {
+            Ok(command) if !command.starts_with('#') => command,
+            _ => return Ok(None),
+        };
+        let said = self.command(command, &mut words)?;
+        words.end()?;
+        Ok(said)
+    }
+
+    fn command(&mut self, command: &str, words: &mut Words) -> Result<Option<String>, Mistake> {
+        match command {
+            "sides" => {
+                self.sides = sides_from(words)?;
+                self.make_buffers();
+            }
+            "rawsides" => self.sides = sides_from(words)?,
+            "T" => self.t = words.number()?,
+            "values" => edit(&mut self.values, words)?,
+            "dist" => edit(&mut self.dist, words)?,
+            "status" => edit(&mut self.status, words)?,
+            "rec" => return self.record_command(words),
+            "file" => self.file = words.bytes()?,
+            "append" => self.file.extend(words.bytes()?),
+            "autohash" => self.hash_after_each = flag(words)?,
+            "hash" => return Ok(Some(self.hashes())),
+            "dump" => return self.dump(words.word()?).map(Some),
+            "program" => return Ok(Some(program_line(&self.file))),
+            _ => {
+                let answer = match command {
+                    "points" => self.points(words)?,
+                    _ => match self.call(command, words)? {
+                        Ok(values) => format!("{command} ok {values}"),
+                        Err(number) => format!("{command} refused {number}"),
+                    },
+                };
+                return Ok(Some(if self.hash_after_each { format!("{answer} # {}", self.hashes()) } else { answer }));
+            }
+        }
+        Ok(None)
+    }
+
+    /// Sets a field of the record, within the range that the C interface gives it, or shows the record.
+    fn record_command(&mut self, words: &mut Words) -> Result<Option<String>, Mistake> {
         let r = &mut self.record;
-        match field.as_str() {
-            "a" => r.sides.a = v as u64,
-            "b" => r.sides.b = v as u64,
-            "c" => r.sides.c = v as u64,
-            "T" => r.t = v as u16,
-            "openings" => r.openings = v as u64,
-            "removals" => r.removals = v as u64,
-            "examinations" => r.examinations = v as u64,
-            "euler" => r.euler = v as i64,
-            "finished" => r.finished = v != 0,
-            "show" => return Ok(Some(shown(r))),
+        match words.word()? {
+            "a" => r.sides.a = words.number()?,
+            "b" => r.sides.b = words.number()?,
+            "c" => r.sides.c = words.number()?,
+            "T" => r.t = words.number()?,
+            "openings" => r.openings = words.number::<u32>()?.into(),
+            "removals" => r.removals = words.number()?,
+            "examinations" => r.examinations = words.number()?,
+            "euler" => r.euler = words.number::<i32>()?.into(),
+            "finished" => r.finished = words.number()?,
+            "show" if words.word()? == "0" => return Ok(Some(shown(r))),
             other => return Err(format!("unknown field of the record: {other}")),
         }
         Ok(None)
     }
 
-    /// One line of a script: what to print, if anything, or what is wrong with it.
-    pub fn line(&mut self, line: &str) -> Said {
-        let mut words = line.split_whitespace();
-        let Some(command) = words.next() else { return Ok(None) };
-        if command.starts_with('#') {
-            return Ok(None);
+    /// Lends a buffer that is told by its bytes, whatever the answer.
+    fn points(&self, words: &mut Words) -> Result<String, Mistake> {
+        let (position, capacity): (u64, usize) = (words.number()?, words.number()?);
+        if capacity > LONGEST {
+            return Err(format!("out of range: {capacity}"));
         }
-        let said = self.command(command, &mut words)?;
-        let is_call = said.as_ref().is_some_and(|s| s.contains(" ok ") || s.contains(" refused "));
-        Ok(said.map(|s| if self.hash_after_each && is_call { format!("{s} # {}", self.hashes()) } else { s }))
+        let mut out = vec![f64::from_bits(0x5A5A_5A5A_5A5A_5A5A); capacity];
+        let answer = match points(&self.record, &self.dist, &self.status, position, &mut out) {
+            Ok(all) => format!("ok count {} next {}", all.count, all.next),
+            Err(number) => format!("refused {number}"),
+        };
+        Ok(format!("points {answer} bytes {}", fnv(out.iter().flat_map(|d| d.to_bits().to_le_bytes()))))
     }
 
-    fn command(&mut self, command: &str, words: &mut std::str::SplitWhitespace) -> Said {
-        match command {
-            "sides" => {
-                self.sides_from(words)?;
-                self.make_buffers();
-            }
-            "rawsides" => self.sides_from(words)?,
-            "T" => self.t = number(words.next())? as u16,
-            "values" => edit(&mut self.values, 0, |v| v as i16, words)?,
-            "dist" => edit(&mut self.dist, 0, |v| v as i32, words)?,
-            "status" => edit(&mut self.status, 0, |v| v as u8, words)?,
-            "rec" => return self.poke(words),
-            "file" => self.file = hex(words.next())?,
-            "append" => self.file.extend(hex(words.next())?),
-            "autohash" => self.hash_after_each = number(words.next())? != 0,
-            "hash" => return Ok(Some(self.hashes())),
-            "dump" => return self.dump(words.next().unwrap_or("")),
-            "program" => return Ok(Some(program_line(&self.file))),
-            _ => return self.call(command, words),
-        }
-        Ok(None)
-    }
-
-    fn dump(&self, name: &str) -> Said {
-        Ok(Some(match name {
-            "values" => format!("{:?}", self.values),
-            "dist" => format!("{:?}", self.dist),
-            "status" => format!("{:?}", self.status),
-            other => return Err(format!("unknown buffer: {other}")),
-        }))
-    }
-
-    fn call(&mut self, name: &str, words: &mut std::str::SplitWhitespace) -> Said {
+    fn call(&mut self, name: &str, words: &mut Words) -> Result<Result<String, Refused>, Mistake> {
         let Replay { record: r, dist, status, .. } = self;
-        match name {
-            "begin" => {
-                let made = begin(self.sides, self.t, &self.values, dist, status);
-                if let Ok(new) = made {
-                    self.record = new;
-                }
-                answer(name, made.map(|new| shown(&new)))
-            }
-            "carve" => {
-                let limit = number(words.next())? as u64;
-                let c = carve(r, dist, status, limit);
-                let text = c.map(|c| format!("examined {} removed {} pending {} | {}", c.examined, c.removed, u8::from(c.pending), shown(r)));
-                answer(name, text)
-            }
-            "take" => {
-                let i = number(words.next())? as u64;
-                let t = take(r, dist, status, i);
-                answer(name, t.map(|t| format!("gone k {} m {} | {}", t.k, t.m, shown(r))))
-            }
-            "open" => {
-                let o = open(r, dist, status);
-                answer(name, o.map(|o| format!("opened {} k {} m {} | {}", o.index, o.local.k, o.local.m, shown(r))))
-            }
-            "finish" => {
-                let f = finish(r, dist, status);
-                answer(name, f.map(|()| shown(r)))
-            }
+        Ok(match name {
+            "begin" => begin(self.sides, self.t, &self.values, dist, status).map(|new| {
+                self.record = new;
+                shown(&new)
+            }),
+            "carve" => carve(r, dist, status, words.number::<u32>()?.into())
+                .map(|c| format!("examined {} removed {} pending {} | {}", c.examined, c.removed, u8::from(c.pending), shown(r))),
+            "take" => take(r, dist, status, words.number()?).map(|t| format!("gone k {} m {} | {}", t.k, t.m, shown(r))),
+            "open" => open(r, dist, status).map(|o| format!("opened {} k {} m {} | {}", o.index, o.local.k, o.local.m, shown(r))),
+            "finish" => finish(r, dist, status).map(|()| shown(r)),
             "crossing" => {
-                let (i, axis) = (number(words.next())? as u64, number(words.next())? as u64);
-                let c = crossing(r, dist, status, i, axis);
-                let text = c.map(|point| match point {
-                    None => "none".to_string(),
-                    Some([x, y, z]) => {
-                        format!("point {:016x} {:016x} {:016x} ({x}, {y}, {z})", x.to_bits(), y.to_bits(), z.to_bits())
-                    }
-                });
-                answer(name, text)
+                let (index, axis) = (words.number()?, words.number::<u32>()?);
+                let bits = |p: [f64; 3]| p.map(|v| format!("{:016x}", v.to_bits())).join(" ");
+                crossing(r, dist, status, index, axis.into())
+                    .map(|point| point.map_or("none".to_string(), |p| format!("point {}", bits(p))))
             }
             "local" => {
-                let bits = u32::from_str_radix(words.next().unwrap_or(""), 16).map_err(|_| "not hexadecimal")?;
+                let bits = words.bits()?;
                 let t = local_test(&std::array::from_fn(|p| bits >> p & 1 == 1));
-                answer(name, Ok(format!("k {} m {} corners {} edges {} faces {}", t.k, t.m, t.corners, t.edges, t.faces)))
+                Ok(format!("k {} m {} corners {} edges {} faces {}", t.k, t.m, t.corners, t.edges, t.faces))
             }
-            "readlayer" => {
-                let start = number(words.next())? as u64;
-                let found = layer(&self.sides, &self.file, start);
-                let file = &self.file;
-                let text = found.map(|l| format!("z {} from {} to {} bytes {}", l.z, l.from, l.to, fnv(file[l.from..l.to].iter().copied())));
-                answer(name, text)
-            }
-            "read" => {
-                let found = read(&self.file, &mut self.values, 64);
-                if let Ok((sides, t)) = found {
-                    (self.sides, self.t) = (sides, t);
-                }
-                answer(name, found.map(|(s, t)| format!("sides {} {} {} T {t}", s.a, s.b, s.c)))
-            }
-            other => Err(format!("unknown command: {other}")),
-        }
+            "readlayer" => layer(&self.sides, &self.file, words.number()?).map(|l| {
+                let bytes = self.file[l.from..l.to].iter().copied();
+                format!("z {} from {} to {} bytes {}", l.z, l.from, l.to, fnv(bytes))
+            }),
+            "read" => read(&self.file, &mut self.values, 64).map(|(sides, t)| {
+                (self.sides, self.t) = (sides, t);
+                format!("sides {} {} {} T {t}", sides.a, sides.b, sides.c)
+            }),
+            other => return Err(format!("unknown command: {other}")),
+        })
     }
 }
 
 impl Default for Replay {
     fn default() -> Self {
         Self::new()
+    }
+}
+
+fn flag(words: &mut Words) -> Result<bool, Mistake> {
+    match words.word()? {
+        "0" => Ok(false),
+        "1" => Ok(true),
+        other => Err(format!("neither 0 nor 1: {other}")),
     }
 }

@@ -1,6 +1,11 @@
-//! Grids, grid files and call scripts made from a seed: the same on every machine.
+//! Grids, grid files and call scripts, the same on every machine; what conformance/ must contain; and how a tool is compared.
 
+pub mod compare;
+pub mod conformance;
+pub mod demands;
+pub mod faults;
 pub mod files;
 pub mod grids;
+pub mod mutants;
 pub mod random;
 pub mod scripts;

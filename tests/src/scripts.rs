@@ -1,7 +1,14 @@
-//! Call scripts from seeds (docs/CALL-SCRIPTS.md): lists of calls from begin, crafted records, unfit ones, finished grids, files, blocks.
-//! A script is made along with a run of the reference, so that it can choose voxels by what they are at that moment.
+//! Call scripts (docs/CALL-SCRIPTS.md). Those from seeds: lists of calls from begin, crafted records, unfit ones, finished grids, files, blocks;
+//! each is made along with a run of the reference, so that it can choose voxels by what they are at that moment. And those written out, in the
+//! modules below: every fault, every worked case, and what chance leaves out.
 
+pub mod cases;
 mod crafted;
+mod damage;
+pub mod language;
+mod points;
+mod refusals;
+mod shapes;
 
 use crate::files::file;
 use crate::grids::{grid, Grid};
@@ -10,10 +17,36 @@ use reference::grid::{begin, Record, Sides};
 use reference::machine::{carve, finish, open, take};
 use std::fmt::{Display, Write};
 
-/// The kinds of scripts, each with the greatest side that keeps it small.
-pub const KINDS: [&str; 8] = ["lists", "takes", "openings", "crafted", "unfit", "crossings", "files", "blocks"];
+/// The kinds of scripts from seeds.
+pub const SEEDED: [&str; 8] = ["lists", "takes", "openings", "crafted", "unfit", "crossings", "files", "blocks"];
 
-/// The script that a kind and a seed name. It sets everything that it relies on.
+/// The kinds of scripts that are written out. What takes longest stands last.
+pub const WRITTEN: [&str; 6] = ["cases", "language", "refusals", "damage", "points", "shapes"];
+
+/// How many scripts of each seeded kind a second supplier is given.
+const GIVEN: u64 = 40;
+
+/// The scripts of a kind in conformance/, in order.
+pub fn conformance(kind: &str) -> Vec<String> {
+    if SEEDED.contains(&kind) {
+        // What carves needs room for ties and tunnels; the rest stays small.
+        let greatest = if ["lists", "takes", "openings", "crafted"].contains(&kind) { 9 } else { 5 };
+        return (1..=GIVEN).map(|seed| script(kind, seed, greatest)).collect();
+    }
+    let written = match kind {
+        "cases" => cases::scripts(),
+        "language" => language::scripts(),
+        "refusals" => refusals::scripts(),
+        "damage" => damage::scripts(),
+        "points" => points::scripts(),
+        "shapes" => shapes::scripts(),
+        _ => Vec::new(),
+    };
+    let numbered = |(i, script): (usize, String)| format!("# {kind} {}\nautohash 1\nsides 3 3 3\nT 0\n{script}", i + 1);
+    written.into_iter().enumerate().map(numbered).collect()
+}
+
+/// The script that a kind and a seed name, on grids up to a greatest side. It sets everything that it relies on.
 pub fn script(kind: &str, seed: u64, greatest: i64) -> String {
     let mut m = Maker::new(seed);
     m.say(format!("# {kind} {seed}"));
@@ -42,7 +75,7 @@ struct Maker {
 impl Maker {
     fn new(seed: u64) -> Self {
         let sides = Sides { a: 3, b: 3, c: 3 };
-        let record = Record { sides, t: 0, openings: 0, removals: 0, examinations: 0, euler: 1, finished: false };
+        let record = Record { sides, t: 0, openings: 0, removals: 0, examinations: 0, euler: 1, finished: 0 };
         Maker { r: Random::new(seed.wrapping_mul(0x9E37_79B9)), text: String::new(), record, dist: Vec::new(), status: Vec::new() }
     }
 
@@ -61,7 +94,7 @@ impl Maker {
         self.say(format!("autohash 1\nsides {a} {b} {c}\nT {t}"));
         self.dist = vec![0x5A5A_5A5A; sides.n()];
         self.status = vec![0x5A; sides.n()];
-        self.record = Record { sides, t, openings: 0, removals: 0, examinations: 0, euler: 1, finished: false };
+        self.record = Record { sides, t, openings: 0, removals: 0, examinations: 0, euler: 1, finished: 0 };
         self.show_record();
     }
 
@@ -69,7 +102,7 @@ impl Maker {
         let r = self.record;
         self.say(format!("rec a {}\nrec b {}\nrec c {}\nrec T {}\nrec openings {}", r.sides.a, r.sides.b, r.sides.c, r.t, r.openings));
         self.say(format!("rec removals {}\nrec examinations {}", r.removals, r.examinations));
-        self.say(format!("rec euler {}\nrec finished {}", r.euler, u8::from(r.finished)));
+        self.say(format!("rec euler {}\nrec finished {}", r.euler, r.finished));
     }
 
     // ---- calls, as the reference makes them
@@ -98,6 +131,18 @@ impl Maker {
         let index = self.voxel();
         let axis = if self.r.chance(95) { self.r.below(3) } else { self.r.pick(&[3, 7, 255, 256, 4294967295]) };
         self.say(format!("crossing {index} {axis}"));
+    }
+
+    /// All points from a position on, into a buffer of some length.
+    fn points(&mut self) {
+        let end = 3 * self.status.len() as u64;
+        let position = match self.r.below(10) {
+            0..=2 => 0,
+            3..=7 => self.r.below(end.max(1)),
+            _ => self.r.pick(&[end, end, end + 1, end.saturating_sub(1), 1 << 32, u64::MAX]),
+        };
+        let capacity = self.r.pick(&[0, 1, 2, 3, 4, 5, 6, 30, 100, 3000]);
+        self.say(format!("points {position} {capacity}"));
     }
 
     // ---- choices
@@ -158,7 +203,7 @@ impl Maker {
         }
     }
 
-    fn to_the_end(&mut self) {
+    fn and_finish(&mut self) {
         for _ in 0..self.r.between(1, 6) {
             self.carve(4294967295);
             self.open();
@@ -169,6 +214,9 @@ impl Maker {
             self.crossing();
         }
         self.say("carve 1\nopen\nfinish\ntake 0");
+        for _ in 0..3 {
+            self.points();
+        }
     }
 
     // ---- lists of calls from begin
@@ -210,7 +258,7 @@ impl Maker {
         let count = self.r.between(3, 40);
         self.calls(count, weights);
         if self.r.chance(60) {
-            self.to_the_end();
+            self.and_finish();
         }
         if self.r.chance(5) {
             self.say("dump status\ndump dist");
@@ -239,7 +287,7 @@ impl Maker {
         self.record = begin(sides, 65535, &values, &mut self.dist, &mut self.status).expect("no voxel of a walk is on the border");
         let count = self.r.between(3, 12);
         self.calls(count, [50, 20, 28, 0]);
-        self.to_the_end();
+        self.and_finish();
     }
 
     // ---- files
@@ -258,7 +306,8 @@ impl Maker {
         for _ in 0..4 {
             let record = 7 + layer * self.r.below(c + 1);
             let len = bytes.len() as u64;
-            let start = self.r.pick(&[record, record, record, record + 1, len, len + 1, len.saturating_sub(layer), u64::MAX, u64::MAX - layer]);
+            let start =
+                self.r.pick(&[record, record, record, record + 1, len, len + 1, len.saturating_sub(layer), u64::MAX, u64::MAX - layer]);
             self.say(format!("readlayer {start}"));
         }
         let (unfit, fit) = (self.r.pick(&[2, 65]), self.r.pick(&[3, 64]));
@@ -271,7 +320,7 @@ impl Maker {
     fn blocks(&mut self) {
         self.say("autohash 0");
         for _ in 0..60 {
-            let (x, y, z) = (self.r.next() as u32, self.r.next() as u32, self.r.next() as u32);
+            let (x, y, z) = (self.r.word() as u32, self.r.word() as u32, self.r.word() as u32);
             let block = self.r.pick(&[x, x & y, x | y, x & y & z, x | y | z, 1 << (x % 27), !(1 << (x % 27))]);
             self.say(format!("local {:x}", block & 0x07FF_FFFF));
         }

@@ -1,25 +1,57 @@
 //! A grid in work: a record with the two buffers that belong to it.
 
-use crate::{begin, carve, crossing, finish, open, read, take, Carved, Opened, Point, Record, Refusal, Sides, Taken};
+use crate::{begin, carve, crossing, finish, open, read, take, Carved, Opened, Point, Points, Record, Refusal, Sides, Taken, NO_LIMIT};
 
 /// A record with its worked distances and status bytes. After each call the record is the one for the next.
+///
+/// Crossings and the buffers only read, so threads may share a finished grid by `&Grid`.
+///
+/// ```
+/// use wattlerugby::{Grid, Refusal, Sides, GONE};
+///
+/// // a ring: eight voxels around an empty one, in the middle layer of 5 x 5 x 3
+/// let sides = Sides { a: 5, b: 5, c: 3 };
+/// let mut values = [4; 75];
+/// for i in [31, 32, 33, 36, 38, 41, 42, 43] {
+///     values[i] = -4;
+/// }
+///
+/// let mut closed = Grid::begin(sides, 0, &values)?;
+/// closed.carve_to_the_end()?;
+/// assert_eq!(closed.ended_by(), Some(Refusal::NO_OPENING_LEFT));
+/// assert_ne!(closed.status()[37], GONE); // the hole is filled
+///
+/// let mut ring = Grid::begin(sides, 2, &values)?;
+/// ring.carve_to_the_end()?;
+/// assert_eq!(ring.ended_by(), Some(Refusal::NOTHING_TO_OPEN));
+/// assert_eq!(ring.status()[37], GONE);
+/// assert_eq!((ring.record().openings, ring.record().euler), (1, 0)); // one tunnel
+/// # Ok::<(), Refusal>(())
+/// ```
 #[derive(Clone, Debug, PartialEq, Eq)]
 pub struct Grid {
     record: Record,
     dist: Vec<i32>,
     status: Vec<u8>,
+    ended_by: Option<Refusal>,
 }
 
 impl Grid {
-    /// See [`crate::begin`].
+    /// Starts a grid from n measured values. See [`crate::begin`].
     pub fn begin(sides: Sides, allowed: u16, values: &[i16]) -> Result<Grid, Refusal> {
         let n = sides.voxels().unwrap_or(0);
         let (mut dist, mut status) = (vec![0; n], vec![0; n]);
         let record = begin(sides, allowed, values, &mut dist, &mut status)?;
-        Ok(Grid { record, dist, status })
+        Ok(Grid { record, dist, status, ended_by: None })
     }
 
-    /// Reads a grid file and begins.
+    /// Reads a grid file and begins. See [`crate::read`] for the file's numbers.
+    ///
+    /// ```
+    /// use wattlerugby::{Grid, Refusal};
+    ///
+    /// assert_eq!(Grid::from_file(b"VH"), Err(Refusal::SHORT));
+    /// ```
     pub fn from_file(file: &[u8]) -> Result<Grid, Refusal> {
         let side = |i: usize| file.get(i).map_or(0, |&s| usize::from(s));
         let n = Sides { a: side(2), b: side(3), c: side(4) }.voxels().unwrap_or(0);
@@ -28,57 +60,125 @@ impl Grid {
         Grid::begin(sides, allowed, &values)
     }
 
+    /// Resumes a grid from its parts, as [`Grid::into_parts`] gave them. Parts that every call would refuse are refused here: 1, 2, 7.
+    ///
+    /// Parts that are taken are fit. That they are what the calls left, and so what the proofs promise of a list of calls, is the
+    /// caller's to see to.
+    ///
+    /// ```
+    /// use wattlerugby::{Grid, Refusal, Sides};
+    ///
+    /// let mut values = [6; 48];
+    /// (values[21], values[26]) = (-6, -6);
+    /// let mut grid = Grid::begin(Sides { a: 4, b: 4, c: 3 }, 0, &values)?;
+    /// grid.carve(1)?;
+    ///
+    /// let (record, dist, status) = grid.into_parts(); // store these, and later
+    /// let mut grid = Grid::from_parts(record, dist, status)?;
+    /// assert_eq!(grid.carve(1)?.removed, 1);
+    /// assert_eq!(grid.record().removals, 2);
+    ///
+    /// let (record, dist, mut status) = grid.into_parts();
+    /// status[0] = 9;
+    /// assert_eq!(Grid::from_parts(record, dist, status), Err(Refusal::UNFIT));
+    /// # Ok::<(), Refusal>(())
+    /// ```
+    pub fn from_parts(record: Record, dist: Vec<i32>, mut status: Vec<u8>) -> Result<Grid, Refusal> {
+        // a carve of no examinations checks 1, 2, 7, then 8, and writes nothing
+        match carve(record, &dist, &mut status, 0) {
+            Ok(_) | Err(Refusal::FINISHED) => Ok(Grid { record, dist, status, ended_by: None }),
+            Err(refused) => Err(refused),
+        }
+    }
+
+    /// The record, the worked distances and the status bytes, to be stored or lent to the functions of this crate.
+    pub fn into_parts(self) -> (Record, Vec<i32>, Vec<u8>) {
+        (self.record, self.dist, self.status)
+    }
+
+    /// The record for the next call.
     pub fn record(&self) -> Record {
         self.record
     }
 
+    /// The worked distances, by index. Before [`Grid::finish`] the negative ones are the inside; after it, all that is kept.
     pub fn distances(&self) -> &[i32] {
         &self.dist
     }
 
+    /// The status bytes, by index: [`crate::GONE`], [`crate::KEPT`] or [`crate::PENDING`].
     pub fn status(&self) -> &[u8] {
         &self.status
     }
 
-    /// See [`crate::carve`].
+    /// Examines pending voxels, `limit` of them at most. See [`crate::carve`].
     pub fn carve(&mut self, limit: u32) -> Result<Carved, Refusal> {
         let done = carve(self.record, &self.dist, &mut self.status, limit)?;
         self.record = done.next;
         Ok(done)
     }
 
-    /// See [`crate::take`].
+    /// Removes one voxel, if it may go. See [`crate::take`].
     pub fn take(&mut self, index: usize) -> Result<Taken, Refusal> {
         let done = take(self.record, &self.dist, &mut self.status, index)?;
         self.record = done.next;
         Ok(done)
     }
 
-    /// See [`crate::open`].
+    /// Opens the body at the farthest voxel. See [`crate::open`].
     pub fn open(&mut self) -> Result<Opened, Refusal> {
         let done = open(self.record, &self.dist, &mut self.status)?;
         self.record = done.next;
         Ok(done)
     }
 
-    /// See [`crate::finish`].
+    /// Makes what is kept the body. See [`crate::finish`].
     pub fn finish(&mut self) -> Result<(), Refusal> {
         self.record = finish(self.record, &mut self.dist, &self.status)?;
         Ok(())
     }
 
-    /// See [`crate::crossing`].
+    /// A point of the finished body's surface. See [`crate::crossing`].
     pub fn crossing(&self, index: usize, axis: u32) -> Result<Option<Point>, Refusal> {
         crossing(self.record, &self.dist, &self.status, index, axis)
     }
 
-    /// Carves to empty and opens in turn until open refuses, then finishes.
+    /// All points of the finished body's surface, in rising order of 3 index + axis. See [`crate::points`].
+    ///
+    /// ```
+    /// use wattlerugby::{Grid, Refusal, Sides};
+    ///
+    /// let mut values = [5; 27];
+    /// values[13] = -5;
+    /// let mut grid = Grid::begin(Sides { a: 3, b: 3, c: 3 }, 0, &values)?;
+    /// assert_eq!(grid.points().err(), Some(Refusal::NOT_FINISHED));
+    /// grid.carve_to_the_end()?;
+    /// let along_z: Vec<f64> = grid.points()?.filter(|p| (p.x, p.y) == (1.0, 1.0)).map(|p| p.z).collect();
+    /// assert_eq!(along_z, [0.5, 1.5]);
+    /// # Ok::<(), Refusal>(())
+    /// ```
+    pub fn points(&self) -> Result<Points<'_>, Refusal> {
+        Points::of(self)
+    }
+
+    /// Carves to empty and opens in turn until open refuses, then finishes: the standard loop. [`Grid::ended_by`] has the number that
+    /// ended it.
     pub fn carve_to_the_end(&mut self) -> Result<(), Refusal> {
         loop {
-            self.carve(u32::MAX)?;
-            if self.open().is_err() {
-                return self.finish();
+            self.carve(NO_LIMIT)?;
+            if let Err(refused) = self.open() {
+                self.finish()?;
+                self.ended_by = Some(refused);
+                return Ok(());
             }
         }
+    }
+
+    /// The number by which open ended [`Grid::carve_to_the_end`]; nothing where that was not called, or was refused.
+    ///
+    /// [`Refusal::NOTHING_TO_OPEN`]: all that could be removed was, with openings to spare. [`Refusal::NO_OPENING_LEFT`]: as many openings
+    /// as were allowed have been made, and what is still kept outside, if anything, is filled.
+    pub fn ended_by(&self) -> Option<Refusal> {
+        self.ended_by
     }
 }

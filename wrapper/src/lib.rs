@@ -4,28 +4,41 @@
 //! and has written nothing. Any input at all gets an answer. [`Grid`] keeps a record and its two buffers together.
 //!
 //! ```
-//! use wattlerugby::{Grid, Sides};
+//! use wattlerugby::{Grid, Sides, NO_LIMIT};
 //!
 //! let sides = Sides { a: 3, b: 3, c: 3 };
 //! let mut values = [5; 27];
 //! values[13] = -5;
 //! let mut grid = Grid::begin(sides, 0, &values)?;
-//! grid.carve(u32::MAX)?;
+//! grid.carve(NO_LIMIT)?;
 //! grid.finish()?;
 //! let point = grid.crossing(13, 0)?.expect("the surface lies between voxels 13 and 14");
 //! assert_eq!((point.x, point.y, point.z), (1.5, 1.0, 1.0));
+//! assert_eq!(grid.points()?.count(), 6);
 //! # Ok::<(), wattlerugby::Refusal>(())
 //! ```
+//!
+//! The library is the archive that `rt staticlib capi` writes, for x86-64 Linux: build.rs looks for it in the folder that the variable
+//! `WATTLERUGBY_ARCHIVE` names (as libwattlerugby.a or libcapi.a), otherwise in target/staticlib. `cargo doc` and `cargo check` need none.
+//! Rounding must be to nearest, as it is where nobody changed it.
+//!
+//! What a result means is told in docs/RESULT.md, and the rules in docs/RULES.md.
+
+#![warn(missing_docs)]
 
 mod grid;
 pub mod raw;
 mod refusal;
+mod surface;
 
 pub use grid::Grid;
 pub use refusal::Refusal;
+pub use surface::Points;
 
 /// The value of a missing range point. Measured values are -32,767 to 32,767; negative is inside the body.
 pub const MISSING: i16 = -32768;
+/// A limit that no carve reaches.
+pub const NO_LIMIT: u32 = u32::MAX;
 /// A status byte of a voxel that is not kept.
 pub const GONE: u8 = 0;
 /// A status byte of a voxel that is kept.
@@ -37,13 +50,22 @@ pub const PENDING: u8 = 3;
 #[repr(C)]
 #[derive(Clone, Copy, Debug, Default, PartialEq, Eq)]
 pub struct Sides {
+    /// Voxels along x.
     pub a: usize,
+    /// Voxels along y.
     pub b: usize,
+    /// Voxels along z.
     pub c: usize,
 }
 
 impl Sides {
     /// n, the number of voxels; nothing where a side is outside 3 to 64.
+    ///
+    /// ```
+    /// # use wattlerugby::Sides;
+    /// assert_eq!(Sides { a: 5, b: 5, c: 3 }.voxels(), Some(75));
+    /// assert_eq!(Sides { a: 5, b: 5, c: 2 }.voxels(), None);
+    /// ```
     pub fn voxels(&self) -> Option<usize> {
         let fit = [self.a, self.b, self.c].iter().all(|side| (3..=64).contains(side));
         fit.then(|| self.a * self.b * self.c)
@@ -54,17 +76,23 @@ impl Sides {
 ///
 /// A record is unfit, number 7, where openings > allowed, removals > n, examinations > 27 n or |euler| > 8 n; and with its buffers where a
 /// status is not 0, 1 or 3, a border voxel's status is not 0, or a voxel of negative worked distance has a status other than 1.
-#[repr(C)]
+///
+/// It is plain data, and may be stored field by field with its buffers; [`Grid::from_parts`] resumes. [`raw::Record`] is the same as C has it.
 #[derive(Clone, Copy, Debug, Default, PartialEq, Eq)]
 pub struct Record {
+    /// The grid's sides.
     pub sides: Sides,
     /// T, how many openings are allowed.
     pub allowed: u16,
+    /// Openings made so far.
     pub openings: u32,
+    /// Voxels removed so far, by carve, take and open.
     pub removals: u64,
+    /// Voxels examined so far, by carve.
     pub examinations: u64,
-    /// The Euler number of the kept voxels.
+    /// The Euler number of the kept voxels: 1 at first, and then pieces less tunnels.
     pub euler: i32,
+    /// Whether finish was called.
     pub finished: bool,
 }
 
@@ -72,55 +100,84 @@ pub struct Record {
 #[repr(C)]
 #[derive(Clone, Copy, Debug, Default, PartialEq)]
 pub struct Point {
+    /// Along x.
     pub x: f64,
+    /// Along y.
     pub y: f64,
+    /// Along z.
     pub z: f64,
 }
 
 /// What [`carve`] did.
 #[derive(Clone, Copy, Debug, PartialEq, Eq)]
 pub struct Carved {
+    /// Voxels examined by this call.
     pub examined: u32,
+    /// Voxels removed by this call.
     pub removed: u32,
     /// Whether any voxel is still pending.
     pub pending: bool,
+    /// The record for the next call.
     pub next: Record,
 }
 
 /// What [`take`] removed, with the local test's numbers, which are both 1.
 #[derive(Clone, Copy, Debug, PartialEq, Eq)]
 pub struct Taken {
+    /// Groups of touched cells.
     pub k: u32,
+    /// Groups of bare cells.
     pub m: u32,
+    /// The record for the next call.
     pub next: Record,
 }
 
 /// Which voxel [`open`] removed, with the local test's numbers there: k - m was added to the Euler number.
 #[derive(Clone, Copy, Debug, PartialEq, Eq)]
 pub struct Opened {
+    /// The voxel that was removed.
     pub index: usize,
+    /// Groups of touched cells.
     pub k: u32,
+    /// Groups of bare cells.
     pub m: u32,
+    /// The record for the next call.
     pub next: Record,
+}
+
+/// What [`points`] found.
+#[derive(Clone, Copy, Debug, PartialEq, Eq)]
+pub struct Filled {
+    /// Points written, three doubles each, from the buffer's start on.
+    pub count: usize,
+    /// The position to go on from; 3 n where all were looked at.
+    pub next: usize,
 }
 
 /// The local test: groups of touched cells and of bare ones, and the touched corners, edges and faces.
 #[repr(C)]
 #[derive(Clone, Copy, Debug, PartialEq, Eq)]
 pub struct LocalTest {
+    /// Groups of touched cells.
     pub k: u32,
+    /// Groups of bare cells.
     pub m: u32,
+    /// Touched corners.
     pub corners: u32,
+    /// Touched edges.
     pub edges: u32,
+    /// Touched faces.
     pub faces: u32,
 }
 
 /// A layer of a grid file: its z, and its values' bytes, low byte first, where they stand in the file.
 #[derive(Clone, Copy, Debug, PartialEq, Eq)]
 pub struct Layer<'a> {
+    /// Which layer it is.
     pub z: u8,
     /// Where in the file the values begin.
     pub from: usize,
+    /// The values, two bytes each.
     pub bytes: &'a [u8],
 }
 
@@ -149,58 +206,108 @@ pub fn begin(sides: Sides, allowed: u16, values: &[i16], dist: &mut [i32], statu
             status.len(),
         )
     };
-    done(r.refusal, r.next)
+    done(r.refusal, r.next.into())
 }
 
 /// Examines pending voxels, `limit` of them at most: each time the one with the greatest worked distance, of equals the one with the
-/// smallest index. Those that pass the local test are gone.
+/// smallest index. Those that pass the local test are gone. Many small calls leave what one large call leaves.
 ///
 /// Checks: 1, 2, 7, 8.
-pub fn carve(given: Record, dist: &[i32], status: &mut [u8], limit: u32) -> Result<Carved, Refusal> {
+///
+/// ```
+/// use wattlerugby::{begin, carve, Sides, NO_LIMIT};
+///
+/// let mut values = [6; 48];
+/// (values[21], values[26]) = (-6, -6); // two voxels that touch in an edge: the box around them has two more
+/// let (mut dist, mut status) = ([0; 48], [0; 48]);
+/// let record = begin(Sides { a: 4, b: 4, c: 3 }, 0, &values, &mut dist, &mut status)?;
+/// let done = carve(record, &dist, &mut status, NO_LIMIT)?;
+/// assert_eq!((done.examined, done.removed, done.pending), (2, 2, false));
+/// # Ok::<(), wattlerugby::Refusal>(())
+/// ```
+pub fn carve(given: impl Into<raw::Record>, dist: &[i32], status: &mut [u8], limit: u32) -> Result<Carved, Refusal> {
     // SAFETY: as in `begin`.
-    let r = unsafe { raw::wattlerugby_carve(given, dist.as_ptr(), dist.len(), status.as_mut_ptr(), status.len(), limit) };
-    done(r.refusal, Carved { examined: r.examined, removed: r.removed, pending: r.pending, next: r.next })
+    let r = unsafe { raw::wattlerugby_carve(given.into(), dist.as_ptr(), dist.len(), status.as_mut_ptr(), status.len(), limit) };
+    done(r.refusal, Carved { examined: r.examined, removed: r.removed, pending: r.pending, next: r.next.into() })
 }
 
 /// Removes the voxel of that index, pending or not, if it is kept, outside, and passes the local test.
 ///
 /// Checks: 1, 2, 7, 8, 5, 10, 11, 12.
-pub fn take(given: Record, dist: &[i32], status: &mut [u8], index: usize) -> Result<Taken, Refusal> {
+pub fn take(given: impl Into<raw::Record>, dist: &[i32], status: &mut [u8], index: usize) -> Result<Taken, Refusal> {
     // SAFETY: as in `begin`.
-    let r = unsafe { raw::wattlerugby_take(given, dist.as_ptr(), dist.len(), status.as_mut_ptr(), status.len(), index) };
-    done(r.refusal, Taken { k: r.k, m: r.m, next: r.next })
+    let r = unsafe { raw::wattlerugby_take(given.into(), dist.as_ptr(), dist.len(), status.as_mut_ptr(), status.len(), index) };
+    done(r.refusal, Taken { k: r.k, m: r.m, next: r.next.into() })
 }
 
 /// Removes the kept outside voxel with a face neighbour not kept that has the greatest worked distance, of equals the smallest index.
 ///
 /// Checks: 1, 2, 7, 8, 13, 14, 15.
-pub fn open(given: Record, dist: &[i32], status: &mut [u8]) -> Result<Opened, Refusal> {
+pub fn open(given: impl Into<raw::Record>, dist: &[i32], status: &mut [u8]) -> Result<Opened, Refusal> {
     // SAFETY: as in `begin`.
-    let r = unsafe { raw::wattlerugby_open(given, dist.as_ptr(), dist.len(), status.as_mut_ptr(), status.len()) };
-    done(r.refusal, Opened { index: r.index, k: r.k, m: r.m, next: r.next })
+    let r = unsafe { raw::wattlerugby_open(given.into(), dist.as_ptr(), dist.len(), status.as_mut_ptr(), status.len()) };
+    done(r.refusal, Opened { index: r.index, k: r.k, m: r.m, next: r.next.into() })
 }
 
 /// Makes every kept voxel part of the body: a worked distance w of 0 or more becomes -w, or -1 where w is 0.
 ///
 /// Checks: 1, 2, 7, 8, 13.
-pub fn finish(given: Record, dist: &mut [i32], status: &[u8]) -> Result<Record, Refusal> {
+pub fn finish(given: impl Into<raw::Record>, dist: &mut [i32], status: &[u8]) -> Result<Record, Refusal> {
     // SAFETY: as in `begin`.
-    let r = unsafe { raw::wattlerugby_finish(given, dist.as_mut_ptr(), dist.len(), status.as_ptr(), status.len()) };
-    done(r.refusal, r.next)
+    let r = unsafe { raw::wattlerugby_finish(given.into(), dist.as_mut_ptr(), dist.len(), status.as_ptr(), status.len()) };
+    done(r.refusal, r.next.into())
 }
 
 /// Where the surface of a finished body crosses the line from the voxel of that index to the next along an axis (0, 1, 2), if it does.
 ///
 /// Checks: 1, 2, 7, 9, 5, 6.
-pub fn crossing(given: Record, dist: &[i32], status: &[u8], index: usize, axis: u32) -> Result<Option<Point>, Refusal> {
+pub fn crossing(given: impl Into<raw::Record>, dist: &[i32], status: &[u8], index: usize, axis: u32) -> Result<Option<Point>, Refusal> {
     // SAFETY: as in `begin`.
-    let r = unsafe { raw::wattlerugby_crossing(given, dist.as_ptr(), dist.len(), status.as_ptr(), status.len(), index, axis) };
+    let r = unsafe { raw::wattlerugby_crossing(given.into(), dist.as_ptr(), dist.len(), status.as_ptr(), status.len(), index, axis) };
     done(r.refusal, r.crosses.then_some(r.point))
+}
+
+/// The points of all crossings of a finished body from a position on, three doubles a point, until there is no room in `out` for one more
+/// or the positions end. Position 3 i + k stands for [`crossing`] from voxel i along axis k, and each point is that call's; a position
+/// without one gives none. The rest of `out` stays as it was. Answers how many, and the position to go on from: 3 n at the end.
+///
+/// The grid is checked once a call, so `out` should be large. [`Grid::points`] gives them all.
+///
+/// Checks: 1, 2 (`dist` and `status`), 7, 9, 5 (the position is over 3 n).
+pub fn points(given: impl Into<raw::Record>, dist: &[i32], status: &[u8], position: usize, out: &mut [f64]) -> Result<Filled, Refusal> {
+    // SAFETY: as in `begin`.
+    let r = unsafe {
+        raw::wattlerugby_points(
+            given.into(),
+            dist.as_ptr(),
+            dist.len(),
+            status.as_ptr(),
+            status.len(),
+            position,
+            out.as_mut_ptr(),
+            out.len(),
+        )
+    };
+    done(r.refusal, Filled { count: r.count, next: r.next })
 }
 
 /// Reads a whole grid file into n values, and answers sides and T. Bytes 2, 3 and 4 of the file tell how many values to lend.
 ///
 /// Checks: 21 (header), 22, 1, 2; for each layer record in turn 21, 22, 23, 24; at the end 25.
+///
+/// ```
+/// use wattlerugby::{read, Sides};
+///
+/// let mut file = vec![0x56, 0x48, 3, 3, 3, 2, 0];
+/// for z in [0, 2, 1] {
+///     file.extend([0x56, 0x4C, z]);
+///     file.extend([z, 0].repeat(9));
+/// }
+/// let mut values = [0; 27];
+/// assert_eq!(read(&file, &mut values)?, (Sides { a: 3, b: 3, c: 3 }, 2));
+/// assert_eq!((values[0], values[9], values[18]), (0, 1, 2));
+/// # Ok::<(), wattlerugby::Refusal>(())
+/// ```
 pub fn read(file: &[u8], values: &mut [i16]) -> Result<(Sides, u16), Refusal> {
     // SAFETY: as in `begin`.
     let r = unsafe { raw::wattlerugby_read(file.as_ptr(), file.len(), values.as_mut_ptr(), values.len()) };
@@ -218,6 +325,15 @@ pub fn read_layer(sides: Sides, file: &[u8], start: usize) -> Result<Layer<'_>, 
 
 /// The test of a block: bit (dx + 1) + 3 (dy + 1) + 9 (dz + 1) of `kept` says whether the voxel at (dx, dy, dz) from the middle is kept.
 /// The middle's own, bit 13, and bits from 27 on are not regarded. The middle voxel may go exactly when k and m are both 1.
+///
+/// ```
+/// use wattlerugby::local_test;
+///
+/// let below = local_test(1 << 4); // one face neighbour: the voxel is a bump
+/// assert_eq!((below.k, below.m), (1, 1));
+/// let between = local_test(1 << 4 | 1 << 22); // two opposite ones: it is a bridge
+/// assert_eq!((between.k, between.m), (2, 1));
+/// ```
 pub fn local_test(kept: u32) -> LocalTest {
     // SAFETY: numbers alone cross.
     unsafe { raw::wattlerugby_local_test(kept) }

@@ -1,7 +1,36 @@
 //! include/wattlerugby.h in Rust. The tests compare every size and offset with the header's, and every field with what the library
-//! answers.
+//! answers. The header says what each field and each call is; every pointer and length is one buffer's, as the header demands.
 
-use crate::{Point, Record, Sides};
+#![allow(missing_docs)]
+
+use crate::{Point, Sides};
+
+/// A record as C has it: `finished` is any byte, and any but 0 is finished.
+#[repr(C)]
+#[derive(Clone, Copy, Debug, Default, PartialEq, Eq)]
+pub struct Record {
+    pub sides: Sides,
+    pub allowed: u16,
+    pub openings: u32,
+    pub removals: u64,
+    pub examinations: u64,
+    pub euler: i32,
+    pub finished: u8,
+}
+
+impl From<crate::Record> for Record {
+    fn from(r: crate::Record) -> Self {
+        let crate::Record { sides, allowed, openings, removals, examinations, euler, finished } = r;
+        Record { sides, allowed, openings, removals, examinations, euler, finished: u8::from(finished) }
+    }
+}
+
+impl From<Record> for crate::Record {
+    fn from(r: Record) -> Self {
+        let Record { sides, allowed, openings, removals, examinations, euler, finished } = r;
+        crate::Record { sides, allowed, openings, removals, examinations, euler, finished: finished != 0 }
+    }
+}
 
 #[repr(C)]
 pub struct BeginAnswer {
@@ -46,6 +75,13 @@ pub struct CrossingAnswer {
     pub refusal: u8,
     pub crosses: bool,
     pub point: Point,
+}
+
+#[repr(C)]
+pub struct PointsAnswer {
+    pub refusal: u8,
+    pub count: usize,
+    pub next: usize,
 }
 
 #[repr(C)]
@@ -106,6 +142,17 @@ extern "C" {
         index: usize,
         axis: u32,
     ) -> CrossingAnswer;
+
+    pub fn wattlerugby_points(
+        given: Record,
+        dist: *const i32,
+        dist_len: usize,
+        status: *const u8,
+        status_len: usize,
+        position: usize,
+        out: *mut f64,
+        out_len: usize,
+    ) -> PointsAnswer;
 
     pub fn wattlerugby_read(file: *const u8, file_len: usize, values: *mut i16, values_len: usize) -> ReadAnswer;
 

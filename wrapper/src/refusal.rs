@@ -1,34 +1,77 @@
 //! What a call refuses with.
 
 /// A call's refusal, by its number. Nothing was written, and the record given still holds for the next call.
-#[derive(Clone, Copy, Debug, PartialEq, Eq)]
+///
+/// Each number has a name here, the same as in the C header, and a reason:
+///
+/// ```
+/// use wattlerugby::{Grid, Refusal, Sides};
+///
+/// let refused = Grid::begin(Sides { a: 3, b: 3, c: 3 }, 0, &[5; 27]).unwrap_err();
+/// assert_eq!(refused, Refusal::NO_NEGATIVE);
+/// assert_eq!(refused.0, 4);
+/// assert_eq!(refused.to_string(), "refused 4: no voxel is measured negative");
+/// assert_eq!(format!("{refused:?}"), "Refusal(4, NO_NEGATIVE: no voxel is measured negative)");
+/// ```
+#[derive(Clone, Copy, PartialEq, Eq, PartialOrd, Ord, Hash)]
 pub struct Refusal(pub u8);
 
-impl Refusal {
-    /// What the number says.
-    pub fn reason(&self) -> &'static str {
-        match self.0 {
-            1 => "a side is outside 3 to 64",
-            2 => "a lent buffer's length is not the number of voxels",
-            3 => "a border voxel is measured negative",
-            4 => "no voxel is measured negative",
-            5 => "the index is beyond the grid",
-            6 => "the axis is over 2, or the next voxel lies beyond the grid",
-            7 => "the record does not fit its buffers",
-            8 => "the grid is finished",
-            9 => "the grid is not finished",
-            10 => "the voxel is gone already",
-            11 => "the voxel's worked distance is negative",
-            12 => "the voxel does not pass the local test",
-            13 => "a voxel is pending",
-            14 => "as many openings as were allowed have been made",
-            15 => "there is no voxel to open",
-            21 => "the file is too short",
-            22 => "a mark in the file is wrong",
-            23 => "a layer's z is beyond the grid",
-            24 => "a layer's z came before",
-            25 => "bytes are left after the last layer",
-            _ => "no number of this library",
+/// The numbers with their names and reasons, in one table.
+macro_rules! numbers {
+    ($($number:literal $name:ident $reason:literal)+) => {
+        impl Refusal {
+            $(#[doc = concat!(stringify!($number), ": ", $reason, ".")] pub const $name: Refusal = Refusal($number);)+
+
+            /// Every number that a call can refuse with, rising.
+            pub const ALL: &'static [Refusal] = &[$(Refusal::$name),+];
+
+            /// The number's name; nothing for a number that no call refuses with.
+            pub fn name(&self) -> Option<&'static str> {
+                match self.0 {
+                    $($number => Some(stringify!($name)),)+
+                    _ => None,
+                }
+            }
+
+            /// What the number says.
+            pub fn reason(&self) -> &'static str {
+                match self.0 {
+                    $($number => $reason,)+
+                    _ => "no number of this library",
+                }
+            }
+        }
+    };
+}
+
+numbers! {
+    1 SIDE "a side is outside 3 to 64"
+    2 LENGTH "a lent buffer's length is not the number of voxels"
+    3 BORDER_NEGATIVE "a border voxel is measured negative"
+    4 NO_NEGATIVE "no voxel is measured negative"
+    5 INDEX "the index is beyond the grid"
+    6 AXIS "the axis is over 2, or the next voxel lies beyond the grid"
+    7 UNFIT "the record does not fit its buffers"
+    8 FINISHED "the grid is finished"
+    9 NOT_FINISHED "the grid is not finished"
+    10 GONE_ALREADY "the voxel is gone already"
+    11 INSIDE "the voxel's worked distance is negative"
+    12 NOT_PASSED "the voxel does not pass the local test"
+    13 STILL_PENDING "a voxel is pending"
+    14 NO_OPENING_LEFT "as many openings as were allowed have been made"
+    15 NOTHING_TO_OPEN "there is no voxel to open"
+    21 SHORT "the file is too short"
+    22 MARK "a mark in the file is wrong"
+    23 LAYER "a layer's z is beyond the grid"
+    24 LAYER_TWICE "a layer's z came before"
+    25 BYTES_LEFT "bytes are left after the last layer"
+}
+
+impl std::fmt::Debug for Refusal {
+    fn fmt(&self, f: &mut std::fmt::Formatter<'_>) -> std::fmt::Result {
+        match self.name() {
+            Some(name) => write!(f, "Refusal({}, {name}: {})", self.0, self.reason()),
+            None => write!(f, "Refusal({}: {})", self.0, self.reason()),
         }
     }
 }

@@ -2,7 +2,7 @@
 //! the library's own declaration would show.
 
 use wattlerugby::raw::*;
-use wattlerugby::{Record, Sides};
+use wattlerugby::Sides;
 
 const SIDES: Sides = Sides { a: 3, b: 4, c: 5 };
 const N: usize = 60;
@@ -15,16 +15,16 @@ const UNFIT: Record = Record {
     removals: 0x0102_0304_0506_0708,
     examinations: 0x1112_1314_1516_1718,
     euler: -0x2122_2324,
-    finished: true,
+    finished: 1,
 };
 
 #[test]
 fn the_record_given_comes_back() {
     let (mut dist, mut status) = ([0i32; N], [0u8; N]);
     let (d, s) = (dist.as_mut_ptr(), status.as_mut_ptr());
-    for finished in [true, false] {
+    for finished in [0, 1, 2, 255] {
         let given = Record { finished, ..UNFIT };
-        // SAFETY: the pointers are those of two live arrays of N elements.
+        // SAFETY: the pointers are those of two live arrays of N elements, or null with length 0.
         unsafe {
             let carved = wattlerugby_carve(given, d, N, s, N, 9);
             assert_eq!((carved.refusal, carved.examined, carved.removed, carved.pending, carved.next), (7, 0, 0, false, given));
@@ -36,6 +36,8 @@ fn the_record_given_comes_back() {
             assert_eq!((closed.refusal, closed.next), (7, given));
             let crossed = wattlerugby_crossing(given, d, N, s, N, 9, 1);
             assert_eq!((crossed.refusal, crossed.crosses, crossed.point.x), (7, false, 0.0));
+            let filled = wattlerugby_points(given, d, N, s, N, 9, std::ptr::null_mut(), 0);
+            assert_eq!((filled.refusal, filled.count, filled.next), (7, 0, 0));
         }
     }
 }
@@ -45,15 +47,8 @@ fn the_record_given_comes_back() {
 fn each_count_is_read_from_its_place() {
     let (dist, mut status) = ([0i32; N], [0u8; N]);
     let n = N as u64;
-    let fit = Record {
-        sides: SIDES,
-        allowed: 0x1234,
-        openings: 0x1234,
-        removals: n,
-        examinations: 27 * n,
-        euler: -8 * N as i32,
-        finished: false,
-    };
+    let fit =
+        Record { sides: SIDES, allowed: 0x1234, openings: 0x1234, removals: n, examinations: 27 * n, euler: -8 * N as i32, finished: 0 };
     let unfit = [
         Record { sides: Sides { a: 4, ..SIDES }, ..fit },
         Record { sides: Sides { b: 3, ..SIDES }, ..fit },
@@ -63,7 +58,7 @@ fn each_count_is_read_from_its_place() {
         Record { removals: n + 1, ..fit },
         Record { examinations: 27 * n + 1, ..fit },
         Record { euler: -8 * N as i32 - 1, ..fit },
-        Record { finished: true, ..fit },
+        Record { finished: 1, ..fit },
     ];
     let numbers = [2, 2, 2, 7, 7, 7, 7, 7, 8];
     assert!(wattlerugby::carve(fit, &dist, &mut status, 1).is_ok());
@@ -99,9 +94,14 @@ fn a_point_has_three_coordinates() {
     let begun = wattlerugby::begin(SIDES, 0, &values, &mut dist, &mut status).unwrap();
     let closed = wattlerugby::finish(begun, &mut dist, &status).unwrap();
     // SAFETY: the pointers are those of two live arrays of N elements.
-    let crossed = unsafe { wattlerugby_crossing(closed, dist.as_ptr(), N, status.as_ptr(), N, 43, 0) };
+    let crossed = unsafe { wattlerugby_crossing(closed.into(), dist.as_ptr(), N, status.as_ptr(), N, 43, 0) };
     assert_eq!((crossed.refusal, crossed.crosses), (0, true));
     assert_eq!((crossed.point.x, crossed.point.y, crossed.point.z), (1.5, 2.0, 3.0));
+    let mut out = [9.0; 8];
+    // SAFETY: as above, and of an array of 8 doubles.
+    let filled = unsafe { wattlerugby_points(closed.into(), dist.as_ptr(), N, status.as_ptr(), N, 3 * 43, out.as_mut_ptr(), 8) };
+    assert_eq!((filled.refusal, filled.count, filled.next), (0, 2, 3 * 43 + 2));
+    assert_eq!(out, [1.5, 2.0, 3.0, 1.0, 2.5, 3.0, 9.0, 9.0]);
 }
 
 #[test]

@@ -1,10 +1,10 @@
-//! The header against this package's declarations, and the C example against what it is to print.
+//! The header against this package's declarations and numbers, and what C programs print over it, the example among them.
 
 use std::mem::{offset_of, size_of};
 use std::path::{Path, PathBuf};
 use std::process::Command;
 use wattlerugby::raw::*;
-use wattlerugby::{LocalTest, Point, Record, Sides};
+use wattlerugby::{Grid, LocalTest, Point, Refusal, Sides};
 
 fn root() -> PathBuf {
     Path::new(env!("CARGO_MANIFEST_DIR")).join("..")
@@ -15,8 +15,8 @@ fn archive() -> PathBuf {
     folder.join("libcapi.a")
 }
 
-/// Compiles a C file against the header and the archive, with every warning an error, and gives what it prints.
-fn printed(compiler: &str, language: &[&str], source: &Path, name: &str) -> String {
+/// Compiles a C file against the header and the archive, with every warning an error, and gives what it prints when run.
+fn printed(compiler: &str, language: &[&str], source: &Path, name: &str, arguments: &[&str]) -> String {
     let program = Path::new(env!("CARGO_TARGET_TMPDIR")).join(name);
     let built = Command::new(compiler)
         .args(["-pedantic", "-Wall", "-Wextra", "-Werror", "-I"])
@@ -30,9 +30,24 @@ fn printed(compiler: &str, language: &[&str], source: &Path, name: &str) -> Stri
         .output()
         .unwrap_or_else(|e| panic!("{compiler} does not run: {e}"));
     assert!(built.status.success(), "{}", String::from_utf8_lossy(&built.stderr));
-    let out = Command::new(&program).output().expect("the compiled program runs");
+    let out = Command::new(&program).args(arguments).output().expect("the compiled program runs");
     assert!(out.status.success(), "{} ended with {}", source.display(), out.status);
     String::from_utf8(out.stdout).expect("the program prints text")
+}
+
+/// A compiler and the words that choose its language: C, and C++ unless tests/run has said that there is no compiler for it.
+fn compilers() -> Vec<(&'static str, &'static [&'static str])> {
+    let mut all = vec![("cc", &["-std=c99"][..])];
+    if std::env::var_os("WATTLERUGBY_WITHOUT_CXX").is_none() {
+        all.push(("c++", &["-x", "c++", "-std=c++11"]));
+    }
+    all
+}
+
+/// What a C file prints as each compiler makes it.
+fn printed_by_each(source: &Path, name: &str, arguments: &[&str]) -> Vec<String> {
+    let one = |(compiler, language)| printed(compiler, language, source, &format!("{name}-{compiler}"), arguments);
+    compilers().into_iter().map(one).collect()
 }
 
 fn size_of_field<T, F>(_: fn(&T) -> &F) -> usize {
@@ -58,20 +73,66 @@ fn sizes_and_offsets() {
     lay_out!(ours, "open_answer", OpenAnswer, refusal index k m next);
     lay_out!(ours, "finish_answer", FinishAnswer, refusal next);
     lay_out!(ours, "crossing_answer", CrossingAnswer, refusal crosses point);
+    lay_out!(ours, "points_answer", PointsAnswer, refusal count next);
     lay_out!(ours, "read_answer", ReadAnswer, refusal sides allowed);
     lay_out!(ours, "read_layer_answer", ReadLayerAnswer, refusal z from to);
     lay_out!(ours, "local_answer", LocalTest, k m corners edges faces);
-    let layout = root().join("wrapper/tests/layout.c");
-    let header = printed("cc", &["-std=c99"], &layout, "layout-c");
-    assert_eq!(header.lines().collect::<Vec<_>>(), ours);
-    let header = printed("c++", &["-x", "c++", "-std=c++11"], &layout, "layout-cpp");
-    assert_eq!(header.lines().collect::<Vec<_>>(), ours);
+    for header in printed_by_each(&root().join("wrapper/tests/layout.c"), "layout", &[]) {
+        assert_eq!(header.lines().collect::<Vec<_>>(), ours);
+    }
+}
+
+/// Each call's answers, null pointers, padding.
+#[test]
+fn calls() {
+    let source = root().join("wrapper/tests/calls.c");
+    let wanted = std::fs::read_to_string(root().join("wrapper/tests/calls.out")).expect("calls.out can be read");
+    for said in printed_by_each(&source, "calls", &[]) {
+        assert_eq!(said, wanted);
+    }
+}
+
+#[test]
+fn version_and_numbers() {
+    let mut ours = vec![concat!("version ", env!("CARGO_PKG_VERSION")).to_string()];
+    ours.extend(Refusal::ALL.iter().map(|r| format!("{} {} {}", r.name().expect("it has a name"), r.0, r.reason())));
+    ours.push(format!("255 {}", Refusal(255).reason()));
+    let source = root().join("wrapper/tests/calls.c");
+    for header in printed_by_each(&source, "numbers", &["numbers"]) {
+        assert_eq!(header.lines().collect::<Vec<_>>(), ours);
+    }
+    let text = std::fs::read_to_string(root().join("include/wattlerugby.h")).expect("the header can be read");
+    let number = |part: &str| text.lines().find_map(|l| l.strip_prefix(&format!("#define WATTLERUGBY_VERSION_{part} "))).expect("a number");
+    assert_eq!([number("MAJOR"), number("MINOR"), number("PATCH")].join("."), env!("CARGO_PKG_VERSION"));
+}
+
+/// Every crossing of a file's body, in rising order of 3 index + axis.
+fn points_of(file: &Path) -> Vec<[f64; 3]> {
+    let mut grid = Grid::from_file(&std::fs::read(file).expect("the sample can be read")).expect("the sample is taken");
+    grid.carve_to_the_end().expect("a begun grid is carved");
+    let crossings = (0..grid.status().len()).flat_map(|i| (0..3).map(move |axis| (i, axis)));
+    crossings
+        .filter_map(|(i, axis)| match grid.crossing(i, axis) {
+            Err(Refusal::AXIS) => None, // the last plane
+            point => point.expect("a finished grid is looked at").map(|p| [p.x, p.y, p.z]),
+        })
+        .collect()
 }
 
 #[test]
 fn example() {
     let source = root().join("examples/carve_grid.c");
+    let sample = root().join("samples/torus-1.grid");
     let wanted = std::fs::read_to_string(root().join("examples/carve_grid.out")).expect("examples/carve_grid.out can be read");
-    assert_eq!(printed("cc", &["-std=c99"], &source, "example-c"), wanted);
-    assert_eq!(printed("c++", &["-x", "c++", "-std=c++11"], &source, "example-cpp"), wanted);
+    for (compiler, language) in compilers() {
+        let points = Path::new(env!("CARGO_TARGET_TMPDIR")).join(format!("example-{compiler}.xyz"));
+        let arguments = [sample.to_str().expect("a path"), points.to_str().expect("a path")];
+        assert_eq!(printed(compiler, language, &source, &format!("example-{compiler}"), &arguments), wanted);
+        let text = std::fs::read_to_string(&points).expect("the example wrote its points");
+        let read = text.lines().map(|line| {
+            let numbers: Vec<f64> = line.split(' ').map(|word| word.parse().expect("a number")).collect();
+            <[f64; 3]>::try_from(numbers).expect("three numbers")
+        });
+        assert!(read.collect::<Vec<_>>() == points_of(&sample), "{} has other points than crossing gives", points.display());
+    }
 }

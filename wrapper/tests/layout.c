@@ -51,6 +51,10 @@ int main(void)
     FIELD(crossing_answer, refusal);
     FIELD(crossing_answer, crosses);
     FIELD(crossing_answer, point);
+    STRUCT(points_answer);
+    FIELD(points_answer, refusal);
+    FIELD(points_answer, count);
+    FIELD(points_answer, next);
     STRUCT(read_answer);
     FIELD(read_answer, refusal);
     FIELD(read_answer, sides);

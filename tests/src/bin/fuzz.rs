@@ -1,77 +1,145 @@
-//! Holds a replay tool to the reference, on call scripts from seeds.
+//! Holds a replay tool to the reference. A tool is named with its arguments in one word: 'reference replay'.
 //!
-//! usage: fuzz run REPLAY COUNT [FIRST SEED]      COUNT random scripts
-//!        fuzz write FOLDER                       the conformance scripts, with the reference's answers
-//!        fuzz check REPLAY FOLDER                those scripts against those answers
-//!        fuzz blocks REPLAY [FIRST COUNT]        the local test on blocks; on all 2^26 if no others are named
+//! usage: fuzz check REPLAY FOLDER                 the conformance scripts against their answers, and the lines that a tool must refuse
+//!        fuzz show FOLDER KIND NUMBER             prints one conformance script
+//!        fuzz program PROGRAM FOLDER              the program's line for each file of the conformance scripts
+//!        fuzz write FOLDER                        makes the conformance files; fails where one of the list's entries is missing
+//!        fuzz list                                that list, with how many calls meet each entry
+//!        fuzz run REPLAY COUNT [FIRST SEED]       COUNT random scripts
+//!        fuzz script KIND SEED GREATEST           prints the script of a seed, on grids up to a greatest side
+//!        fuzz blocks REPLAY [FIRST COUNT]         the local test on blocks; on all 2^26 if no others are named
 
 use reference::replay::Replay;
 use std::collections::BTreeMap;
-use std::io::Write;
 use std::path::Path;
-use std::process::{exit, Command, Stdio};
-use tests::scripts::{script, KINDS};
+use std::process::ExitCode;
+use tests::compare::{line_of, prints, read_kind, reference_lines, Differences, Script, Tool};
+use tests::conformance::{kinds, Made, MISTAKES_FILE};
+use tests::scripts::{script, SEEDED};
 
-fn main() {
+const USAGE: &str = "usage: fuzz check REPLAY FOLDER | show FOLDER KIND NUMBER | program PROGRAM FOLDER | write FOLDER | list | \
+                     run REPLAY COUNT [FIRST SEED] | script KIND SEED GREATEST | blocks REPLAY [FIRST COUNT]";
+
+/// Whether all is the same; an error where that could not be found out.
+type Same = Result<bool, String>;
+
+fn main() -> ExitCode {
     let args: Vec<String> = std::env::args().skip(1).collect();
     let words: Vec<&str> = args.iter().map(String::as_str).collect();
-    let number = |word: &str| word.parse::<u64>().unwrap_or_else(|_| usage());
-    let same = match words[..] {
-        ["run", replay, count] => run(replay, number(count), 1),
-        ["run", replay, count, first] => run(replay, number(count), number(first)),
-        ["write", folder] => write(Path::new(folder)),
-        ["check", replay, folder] => check(replay, Path::new(folder)),
-        ["blocks", replay] => blocks(replay, 0, 1 << 26),
-        ["blocks", replay, first, count] => blocks(replay, number(first), number(count)),
-        _ => usage(),
-    };
-    if !same {
-        exit(1);
-    }
-}
-
-fn usage() -> ! {
-    eprintln!("usage: fuzz run REPLAY COUNT [FIRST SEED] | write FOLDER | check REPLAY FOLDER | blocks REPLAY [FIRST COUNT]");
-    exit(2);
-}
-
-/// The lines of the reference, each with the command that it answers.
-fn reference_lines(script: &str) -> Vec<(String, String)> {
-    let mut replay = Replay::new();
-    let mut lines = Vec::new();
-    for command in script.lines() {
-        match replay.line(command) {
-            Ok(Some(said)) => lines.push((command.to_string(), said)),
-            Ok(None) => {}
-            Err(wrong) => panic!("the reference does not take {command:?}: {wrong}"),
+    match command(&words) {
+        Ok(true) => ExitCode::SUCCESS,
+        Ok(false) => ExitCode::FAILURE,
+        Err(wrong) => {
+            eprintln!("fuzz: {wrong}");
+            ExitCode::from(2)
         }
     }
-    lines
 }
 
-/// What the tool prints for a script.
-fn replayed(replay: &str, script: String) -> Vec<String> {
-    let child = Command::new(replay).stdin(Stdio::piped()).stdout(Stdio::piped()).spawn();
-    let mut child = child.unwrap_or_else(|e| panic!("{replay} does not start: {e}"));
-    let mut input = child.stdin.take().expect("standard input is a pipe");
-    let writer = std::thread::spawn(move || input.write_all(script.as_bytes()));
-    let out = child.wait_with_output().expect("the tool ends");
-    let wrote = writer.join().expect("the writer ends");
-    assert!(out.status.success() && wrote.is_ok(), "{replay} ended before the script did: {}", out.status);
-    String::from_utf8(out.stdout).expect("the tool prints text").lines().map(str::to_string).collect()
+fn command(words: &[&str]) -> Same {
+    let number = |word: &str| word.parse::<u64>().map_err(|_| format!("not a number: {word}\n{USAGE}"));
+    match words {
+        ["check", replay, folder] => check(&Tool::named(replay), Path::new(folder)),
+        ["show", folder, kind, which] => show(Path::new(folder), kind, which),
+        ["program", program, folder] => program_lines(program, Path::new(folder)),
+        ["write", folder] => Made::new()?.write(Path::new(folder)).map(|()| true),
+        ["list"] => list(),
+        ["run", replay, count] => run(&Tool::named(replay), number(count)?, 1),
+        ["run", replay, count, first] => run(&Tool::named(replay), number(count)?, number(first)?),
+        ["script", kind, seed, greatest] => {
+            print!("{}", script(kind, number(seed)?, number(greatest)? as i64));
+            Ok(true)
+        }
+        ["blocks", replay] => blocks(&Tool::named(replay), 0, 1 << 26),
+        ["blocks", replay, first, count] => blocks(&Tool::named(replay), number(first)?, number(count)?),
+        _ => Err(USAGE.to_string()),
+    }
 }
 
-/// Whether the tool's lines are the wanted ones; says where they first are not.
-fn agree(name: &str, wanted: &[(String, String)], said: &[String]) -> bool {
-    for (i, (command, line)) in wanted.iter().enumerate() {
-        let found = said.get(i).map_or("nothing", String::as_str);
-        if found != line {
-            println!("{name}, {command}:\n  wanted {line}\n  but it said {found}");
-            return false;
+/// This program as it was called, for what it says to run.
+fn this() -> String {
+    std::env::args().next().unwrap_or("fuzz".to_string())
+}
+
+fn list() -> Same {
+    for (entry, met, least) in Made::new()?.counts() {
+        println!("{met} of {least}  {entry}");
+    }
+    Ok(true)
+}
+
+// ---- conformance
+
+fn check(replay: &Tool, folder: &Path) -> Same {
+    let (mut tally, mut found, mut scripts) = (Tally::default(), Differences::default(), 0);
+    for kind in kinds() {
+        let given = read_kind(folder, kind)?;
+        given.iter().flat_map(|script| &script.answers).for_each(|line| tally.count(line));
+        found.of(replay, &given, |script| format!("{} show {} {}", this(), folder.display(), script.name))?;
+        scripts += given.len();
+    }
+    let taken = mistakes_taken(replay, folder)?;
+    println!(
+        "{scripts} conformance scripts, {} calls: {} lines differ in {} scripts, {taken} mistakes are taken",
+        tally.total(),
+        found.lines,
+        found.scripts
+    );
+    Ok(found.lines == 0 && taken == 0)
+}
+
+/// How many of the lines that are not of the language a tool takes.
+fn mistakes_taken(replay: &Tool, folder: &Path) -> Result<u64, String> {
+    let path = folder.join(MISTAKES_FILE);
+    let lines = std::fs::read_to_string(&path).map_err(|wrong| format!("{} cannot be read: {wrong}", path.display()))?;
+    let mut taken = 0;
+    for line in lines.lines() {
+        let run = replay.run(line)?;
+        if run.status != Some(2) || !run.lines.is_empty() {
+            let how = run.wrong.unwrap_or("ended well".to_string());
+            println!("{} takes {line:?}, which is not of the language: it {how}, with {} lines", replay.name(), run.lines.len());
+            println!("  see it: printf '%s\\n' '{line}' | {}", replay.name());
+            taken += 1;
         }
     }
-    wanted.len() == said.len()
+    Ok(taken)
 }
+
+fn show(folder: &Path, kind: &str, which: &str) -> Same {
+    let name = format!("{kind} {which}");
+    let scripts = read_kind(folder, kind)?;
+    let found = scripts.iter().find(|script| script.name == name).ok_or(format!("{} has no script {name}", folder.display()))?;
+    print!("{}", found.text);
+    Ok(true)
+}
+
+/// Gives the program itself every file for which a script asks its line.
+fn program_lines(program: &str, folder: &Path) -> Same {
+    let (mut files, mut differ) = (0, 0);
+    for kind in kinds() {
+        for script in read_kind(folder, kind)? {
+            let mut state = Replay::new();
+            let mut answers = script.answers.iter();
+            for command in script.text.lines() {
+                let wanted = prints(command).then(|| answers.next()).flatten();
+                if let Some(wanted) = wanted.filter(|_| command.trim() == "program") {
+                    files += 1;
+                    let said = line_of(program, &state.file)?;
+                    if said != format!("{wanted}\n") {
+                        differ += 1;
+                        println!("{}, program: wanted {wanted:?}, {program} said {said:?}", script.name);
+                    }
+                } else if command.starts_with("file") || command.starts_with("append") {
+                    state.line(command)?;
+                }
+            }
+        }
+    }
+    println!("{files} files of the conformance scripts, {differ} lines of the program differ");
+    Ok(differ == 0)
+}
+
+// ---- scripts from seeds
 
 /// How often each call was answered, and refused with which number.
 #[derive(Default)]
@@ -94,77 +162,42 @@ impl Tally {
 
     fn print(&self) {
         for (call, numbers) in &self.0 {
-            let parts: Vec<String> = numbers.iter().map(|(n, count)| if *n == 0 { format!("done {count}") } else { format!("{n}: {count}") }).collect();
-            println!("  {call:<9} {}", parts.join(", "));
+            let part = |(n, count): (&u64, &u64)| if *n == 0 { format!("done {count}") } else { format!("{n}: {count}") };
+            println!("  {call:<9} {}", numbers.iter().map(part).collect::<Vec<_>>().join(", "));
         }
     }
 }
 
-/// The script of a seed: kinds in turn, small grids mostly.
-fn numbered(seed: u64) -> (String, String) {
-    let kind = if seed % 331 == 0 { "large" } else { KINDS[(seed % KINDS.len() as u64) as usize] };
+/// The script of a seed: kinds in turn, small grids mostly. Its kind, its text and its greatest side.
+fn numbered(seed: u64) -> (&'static str, String, i64) {
+    let kind = if seed.is_multiple_of(331) { "large" } else { SEEDED[(seed % SEEDED.len() as u64) as usize] };
     let greatest = match seed / 8 % 16 {
         0 => 20,
         1..=6 => 12,
         _ => 7,
     };
-    (format!("{kind} {seed}"), script(kind, seed, greatest))
+    (kind, script(kind, seed, greatest), greatest)
 }
 
-fn run(replay: &str, count: u64, first: u64) -> bool {
-    let mut tally = Tally::default();
-    let mut differ = 0;
+fn run(replay: &Tool, count: u64, first: u64) -> Same {
+    let (mut tally, mut found) = (Tally::default(), Differences::default());
     let seeds: Vec<u64> = (first..first + count).collect();
     for batch in seeds.chunks(100) {
-        let scripts: Vec<(String, String)> = batch.iter().map(|&seed| numbered(seed)).collect();
-        let said = replayed(replay, scripts.iter().map(|(_, text)| text.as_str()).collect());
-        let mut at = 0;
-        for (name, text) in &scripts {
-            let wanted = reference_lines(text);
-            let end = (at + wanted.len()).min(said.len());
-            differ += u64::from(!agree(name, &wanted, &said[at.min(end)..end]));
-            at += wanted.len();
-            wanted.iter().for_each(|(_, line)| tally.count(line));
+        let mut scripts = Vec::new();
+        for &seed in batch {
+            let (kind, text, greatest) = numbered(seed);
+            let answers = reference_lines(&text)?;
+            answers.iter().for_each(|line| tally.count(line));
+            scripts.push(Script { name: format!("{kind} {seed} {greatest}"), first_line: 1, text, answers });
         }
-        if at != said.len() {
-            println!("seeds {} on: {} lines wanted, {} said", batch[0], at, said.len());
-            differ += 1;
-        }
+        found.of(replay, &scripts, |script| format!("{} script {}", this(), script.name))?;
     }
-    println!("{count} scripts, {} calls, {differ} scripts differ", tally.total());
+    println!("{count} scripts, {} calls: {} lines differ in {} scripts", tally.total(), found.lines, found.scripts);
     tally.print();
-    differ == 0
+    Ok(found.lines == 0)
 }
 
-/// How many scripts of each kind a second supplier is given.
-const GIVEN: u64 = 40;
-
-fn write(folder: &Path) -> bool {
-    std::fs::create_dir_all(folder).expect("the folder can be made");
-    for kind in KINDS {
-        // What carves needs room for ties and tunnels; the rest stays small.
-        let greatest = if ["lists", "takes", "openings", "crafted"].contains(&kind) { 9 } else { 5 };
-        let text: String = (1..=GIVEN).map(|seed| script(kind, seed, greatest)).collect();
-        let answers: String = reference_lines(&text).iter().map(|(_, line)| format!("{line}\n")).collect();
-        std::fs::write(folder.join(format!("{kind}.script")), text).expect("a script can be written");
-        std::fs::write(folder.join(format!("{kind}.answers")), answers).expect("answers can be written");
-    }
-    true
-}
-
-fn check(replay: &str, folder: &Path) -> bool {
-    let mut tally = Tally::default();
-    let mut differ = 0;
-    for kind in KINDS {
-        let read = |end: &str| std::fs::read_to_string(folder.join(format!("{kind}.{end}"))).expect("a conformance file can be read");
-        let (script, answers) = (read("script"), read("answers"));
-        let wanted: Vec<(String, String)> = answers.lines().enumerate().map(|(i, line)| (format!("answer {}", i + 1), line.to_string())).collect();
-        wanted.iter().for_each(|(_, line)| tally.count(line));
-        differ += u64::from(!agree(kind, &wanted, &replayed(replay, script)));
-    }
-    println!("{} conformance files, {} calls, {differ} files differ", KINDS.len(), tally.total());
-    differ == 0
-}
+// ---- blocks
 
 /// A block's bits without the middle's.
 fn block(number: u64) -> u64 {
@@ -174,25 +207,31 @@ fn block(number: u64) -> u64 {
 /// How many blocks a tool is given at once.
 const CHUNK: u64 = 1 << 18;
 
-fn same_blocks(replay: &str, from: u64, to: u64) -> bool {
-    let script: String = (from..to).map(|i| format!("local {:x}\n", block(i))).collect();
-    let said = replayed(replay, script.clone());
-    agree(&format!("blocks {from} on"), &reference_lines(&script), &said)
+/// How many of the blocks differ.
+fn other_blocks(replay: &Tool, from: u64, to: u64) -> Result<u64, String> {
+    let text: String = (from..to).map(|i| format!("local {:x}\n", block(i))).collect();
+    let (wanted, said) = (reference_lines(&text)?, replay.run(&text)?.lines);
+    let differ = (0..wanted.len().max(said.len())).filter(|&i| wanted.get(i) != said.get(i));
+    if let Some(first) = differ.clone().next() {
+        println!("local {:x}: wanted {:?}, but got {:?}", block(from + first as u64), wanted.get(first), said.get(first));
+    }
+    Ok(differ.count() as u64)
 }
 
 /// In as many threads as there are processors.
-fn blocks(replay: &str, first: u64, count: u64) -> bool {
+fn blocks(replay: &Tool, first: u64, count: u64) -> Same {
     let end = first + count;
     let threads = std::thread::available_parallelism().map_or(1, |n| n.get() as u64);
-    let same = std::thread::scope(|scope| {
+    let differ: Result<u64, String> = std::thread::scope(|scope| {
         let workers: Vec<_> = (0..threads)
             .map(|worker| {
                 let starts = (first..end).step_by(CHUNK as usize).skip(worker as usize).step_by(threads as usize);
-                scope.spawn(move || starts.map(|from| same_blocks(replay, from, end.min(from + CHUNK))).all(|same| same))
+                scope.spawn(move || starts.map(|from| other_blocks(replay, from, end.min(from + CHUNK))).sum::<Result<u64, String>>())
             })
             .collect();
-        workers.into_iter().map(|worker| worker.join().expect("a worker ends")).all(|same| same)
+        workers.into_iter().map(|worker| worker.join().expect("a worker ends")).sum()
     });
-    println!("{count} blocks, {}", if same { "all the same" } else { "not all the same" });
-    same
+    let differ = differ?;
+    println!("{count} blocks, {differ} differ");
+    Ok(differ == 0)
 }

@@ -2,40 +2,42 @@
 //! usage: match_program PROGRAM COUNT [FIRST SEED]
 
 use std::collections::BTreeMap;
-use std::io::Write;
-use std::process::{Command, Stdio};
+use std::process::ExitCode;
+use tests::compare::line_of;
 
-fn line_of(program: &str, file: &[u8]) -> String {
-    let mut child = Command::new(program).stdin(Stdio::piped()).stdout(Stdio::piped()).spawn().expect("the program starts");
-    // A program that has seen enough may stop reading: then the rest of the file is not its business.
-    let _ = child.stdin.take().expect("standard input is a pipe").write_all(file);
-    let out = child.wait_with_output().expect("the program ends");
-    String::from_utf8_lossy(&out.stdout).into_owned()
+fn main() -> ExitCode {
+    let args: Vec<String> = std::env::args().collect();
+    let number = |i: usize| args.get(i).and_then(|n| n.parse::<u64>().ok());
+    let (Some(program), Some(count)) = (args.get(1), number(2)) else {
+        eprintln!("usage: match_program PROGRAM COUNT [FIRST SEED]");
+        return ExitCode::from(2);
+    };
+    match differences(program, count, number(3).unwrap_or(1)) {
+        Ok(0) => ExitCode::SUCCESS,
+        Ok(_) => ExitCode::FAILURE,
+        Err(wrong) => {
+            eprintln!("match_program: {wrong}");
+            ExitCode::from(2)
+        }
+    }
 }
 
-fn main() {
-    let args: Vec<String> = std::env::args().collect();
-    let (Some(program), Some(count)) = (args.get(1), args.get(2).and_then(|n| n.parse::<u64>().ok())) else {
-        eprintln!("usage: match_program PROGRAM COUNT [FIRST SEED]");
-        std::process::exit(2);
-    };
-    let first = args.get(3).and_then(|n| n.parse().ok()).unwrap_or(1);
+/// How many lines differ, each of them printed.
+fn differences(program: &str, count: u64, first: u64) -> Result<u64, String> {
     let mut kinds: BTreeMap<String, u64> = BTreeMap::new();
     let mut differ = 0;
     for seed in first..first + count {
-        let file = tests::files::file(seed, if seed % 8 == 0 { 24 } else { 10 });
+        let file = tests::files::file(seed, if seed.is_multiple_of(8) { 24 } else { 10 });
         let wanted = format!("{}\n", reference::file::program_line(&file));
-        let said = line_of(program, &file);
+        let said = line_of(program, &file)?;
         if said != wanted {
             differ += 1;
-            eprintln!("seed {seed}: wanted {wanted:?}, the program said {said:?}");
+            println!("seed {seed}: wanted {wanted:?}, the program said {said:?}");
         }
         let kind = if wanted.starts_with("refused") { wanted.trim().to_string() } else { "carved".to_string() };
         *kinds.entry(kind).or_default() += 1;
     }
     let kinds: Vec<String> = kinds.iter().map(|(k, n)| format!("{k}: {n}")).collect();
     println!("{count} files, {differ} lines differ ({})", kinds.join(", "));
-    if differ > 0 {
-        std::process::exit(1);
-    }
+    Ok(differ)
 }

@@ -9,7 +9,7 @@ impl Maker {
         match wide {
             0 => self.r.between(-2, 4) as i32,
             1 => self.r.between(-40, 300) as i32,
-            2 => self.r.next() as i32,
+            2 => self.r.word() as i32,
             _ => self.r.pick(&[i32::MIN, i32::MIN + 1, -1, 0, 1, 3, i32::MAX - 1, i32::MAX]),
         }
     }
@@ -39,7 +39,7 @@ impl Maker {
         self.record.removals = up_to(&mut self.r, n);
         self.record.examinations = up_to(&mut self.r, 27 * n);
         self.record.euler = up_to(&mut self.r, 8 * n) as i64 * self.r.pick(&[1, -1]);
-        self.record.finished = finished;
+        self.record.finished = u8::from(finished);
         self.show_record();
         let (dist, status) = (self.dist.clone(), self.status.clone());
         self.list_of("dist", &dist);
@@ -52,7 +52,7 @@ impl Maker {
         let weights = self.r.pick(&[[35, 35, 20, 5], [10, 10, 70, 3], [5, 85, 5, 1]]);
         self.calls(count, weights);
         if self.r.chance(40) {
-            self.to_the_end();
+            self.and_finish();
         }
     }
 
@@ -62,6 +62,13 @@ impl Maker {
             self.crossing();
         }
         self.say("carve 3\ntake 0\nopen\nfinish");
+        for _ in 0..10 {
+            self.points();
+        }
+        let byte = self.r.pick(&[2, 3, 128, 254, 255]);
+        self.say(format!("rec finished {byte}\ncarve 1\ntake 0\nopen\nfinish\nrec show 0"));
+        self.crossing();
+        self.points();
     }
 
     // ---- unfit records, one clause at a time
@@ -146,5 +153,6 @@ impl Maker {
         let (limit, index) = (self.limit(), self.any_voxel());
         let axis = self.r.below(4);
         self.say(format!("carve {limit}\ntake {index}\nopen\nfinish\ncrossing {index} {axis}"));
+        self.points();
     }
 }

@@ -1,7 +1,8 @@
 //! A script's state, and what each line does to it.
 
 use crate::words::{hash, Words};
-use wattlerugby::{begin, carve, crossing, finish, local_test, open, read, read_layer, take, Grid, Record, Refusal, Sides};
+use wattlerugby::raw::Record;
+use wattlerugby::{begin, carve, crossing, finish, local_test, open, points, read, read_layer, take, Grid, Refusal, Sides};
 
 pub struct State {
     sides: Sides,
@@ -21,16 +22,8 @@ impl State {
     pub fn new() -> Self {
         let sides = Sides { a: 3, b: 3, c: 3 };
         let record = Record { sides, euler: 1, ..Record::default() };
-        let mut state = State {
-            sides,
-            allowed: 0,
-            values: Vec::new(),
-            dist: Vec::new(),
-            status: Vec::new(),
-            file: Vec::new(),
-            record,
-            hashes: false,
-        };
+        let mut state =
+            State { sides, allowed: 0, values: Vec::new(), dist: Vec::new(), status: Vec::new(), file: Vec::new(), record, hashes: false };
         state.make_buffers();
         state
     }
@@ -41,28 +34,37 @@ impl State {
         if command.starts_with('#') {
             return Ok(None);
         }
+        let said = self.command(command, &mut words)?;
+        words.end()?;
+        Ok(said)
+    }
+
+    fn command(&mut self, command: &str, words: &mut Words) -> Said {
         match command {
             "sides" | "rawsides" => {
-                self.sides = Sides { a: words.usize()?, b: words.usize()?, c: words.usize()? };
+                self.sides = Sides { a: words.number()?, b: words.number()?, c: words.number()? };
                 if command == "sides" {
                     self.make_buffers();
                 }
             }
-            "T" => self.allowed = words.number()? as u16,
-            "values" => edit(&mut self.values, |v| v as i16, &mut words)?,
-            "dist" => edit(&mut self.dist, |v| v as i32, &mut words)?,
-            "status" => edit(&mut self.status, |v| v as u8, &mut words)?,
-            "rec" => return self.poke(&mut words),
+            "T" => self.allowed = words.number()?,
+            "values" => edit(&mut self.values, words)?,
+            "dist" => edit(&mut self.dist, words)?,
+            "status" => edit(&mut self.status, words)?,
+            "rec" => return self.poke(words),
             "file" => self.file = words.bytes()?,
             "append" => self.file.extend(words.bytes()?),
-            "autohash" => self.hashes = words.number()? != 0,
+            "autohash" => self.hashes = words.yes_or_no()?,
             "hash" => return Ok(Some(self.buffers())),
             "dump" => return self.dump(words.word()?),
             "program" => return Ok(Some(program(&self.file))),
             _ => {
-                let said = match self.call(command, &mut words)? {
-                    Ok(text) => format!("{command} ok {text}"),
-                    Err(Refusal(number)) => format!("{command} refused {number}"),
+                let said = match command {
+                    "points" => self.points(words)?,
+                    _ => match self.call(command, words)? {
+                        Ok(text) => format!("{command} ok {text}"),
+                        Err(Refusal(number)) => format!("{command} refused {number}"),
+                    },
                 };
                 return Ok(Some(if self.hashes { format!("{said} # {}", self.buffers()) } else { said }));
             }
@@ -82,16 +84,19 @@ impl State {
         let field = words.word()?;
         let r = &mut self.record;
         match field {
-            "a" => r.sides.a = words.usize()?,
-            "b" => r.sides.b = words.usize()?,
-            "c" => r.sides.c = words.usize()?,
-            "T" => r.allowed = words.number()? as u16,
-            "openings" => r.openings = words.u32()?,
-            "removals" => r.removals = words.usize()? as u64,
-            "examinations" => r.examinations = words.usize()? as u64,
-            "euler" => r.euler = words.within(i32::MIN.into(), i32::MAX.into())? as i32,
-            "finished" => r.finished = words.number()? != 0,
-            "show" => return Ok(Some(shown(r))),
+            "a" => r.sides.a = words.number()?,
+            "b" => r.sides.b = words.number()?,
+            "c" => r.sides.c = words.number()?,
+            "T" => r.allowed = words.number()?,
+            "openings" => r.openings = words.number()?,
+            "removals" => r.removals = words.number()?,
+            "examinations" => r.examinations = words.number()?,
+            "euler" => r.euler = words.number()?,
+            "finished" => r.finished = words.number()?,
+            "show" => {
+                let zero = words.word()?;
+                return if zero == "0" { Ok(Some(shown(r))) } else { Err(format!("rec show 0, and not {zero}")) };
+            }
             _ => return Err(format!("the record has no {field}")),
         }
         Ok(None)
@@ -113,35 +118,45 @@ impl State {
     }
 
     /// The record that a call answered holds from then on.
-    fn goes_on(&mut self, next: Record) -> String {
-        self.record = next;
-        shown(&next)
+    fn goes_on(&mut self, next: wattlerugby::Record) -> String {
+        self.record = next.into();
+        shown(&self.record)
+    }
+
+    /// All points from a position on, into a buffer whose every byte is told, written or not.
+    fn points(&mut self, words: &mut Words) -> Result<String, String> {
+        let (position, capacity) = (words.number()?, words.number()?);
+        if capacity > LONGEST {
+            return Err(format!("longer than {LONGEST}: {capacity}"));
+        }
+        let mut out = vec![f64::from_bits(0x5A5A_5A5A_5A5A_5A5A); capacity];
+        let answer = match points(self.record, &self.dist, &self.status, position, &mut out) {
+            Ok(filled) => format!("ok count {} next {}", filled.count, filled.next),
+            Err(Refusal(number)) => format!("refused {number}"),
+        };
+        Ok(format!("points {answer} bytes {}", hash(out.iter().flat_map(|d| d.to_bits().to_le_bytes()))))
     }
 
     fn call(&mut self, name: &str, words: &mut Words) -> Result<Result<String, Refusal>, String> {
         let (given, dist, status) = (self.record, &mut self.dist, &mut self.status);
         Ok(match name {
             "begin" => begin(self.sides, self.allowed, &self.values, dist, status).map(|next| self.goes_on(next)),
-            "carve" => carve(given, dist, status, words.u32()?).map(|c| {
+            "carve" => carve(given, dist, status, words.number()?).map(|c| {
                 let next = self.goes_on(c.next);
                 format!("examined {} removed {} pending {} | {next}", c.examined, c.removed, u8::from(c.pending))
             }),
-            "take" => take(given, dist, status, words.usize()?).map(|t| format!("gone k {} m {} | {}", t.k, t.m, self.goes_on(t.next))),
-            "open" => open(given, dist, status)
-                .map(|o| format!("opened {} k {} m {} | {}", o.index, o.k, o.m, self.goes_on(o.next))),
+            "take" => take(given, dist, status, words.number()?).map(|t| format!("gone k {} m {} | {}", t.k, t.m, self.goes_on(t.next))),
+            "open" => open(given, dist, status).map(|o| format!("opened {} k {} m {} | {}", o.index, o.k, o.m, self.goes_on(o.next))),
             "finish" => finish(given, dist, status).map(|next| self.goes_on(next)),
-            "crossing" => crossing(given, dist, status, words.usize()?, words.u32()?).map(|point| match point {
+            "crossing" => crossing(given, dist, status, words.number()?, words.number()?).map(|point| match point {
                 None => "none".to_string(),
-                Some(p) => {
-                    let bits = [p.x, p.y, p.z].map(|v| format!("{:016x}", v.to_bits()));
-                    format!("point {} ({}, {}, {})", bits.join(" "), p.x, p.y, p.z)
-                }
+                Some(p) => format!("point {:016x} {:016x} {:016x}", p.x.to_bits(), p.y.to_bits(), p.z.to_bits()),
             }),
             "local" => {
                 let t = local_test(words.hexadecimal()?);
                 Ok(format!("k {} m {} corners {} edges {} faces {}", t.k, t.m, t.corners, t.edges, t.faces))
             }
-            "readlayer" => read_layer(self.sides, &self.file, words.usize()?).map(|l| {
+            "readlayer" => read_layer(self.sides, &self.file, words.number()?).map(|l| {
                 let to = l.from + l.bytes.len();
                 format!("z {} from {} to {to} bytes {}", l.z, l.from, hash(l.bytes.iter().copied()))
             }),
@@ -154,17 +169,23 @@ impl State {
     }
 }
 
+/// The longest buffer that `len` makes and `points` lends: longer than any grid's, and short enough to be made.
+const LONGEST: usize = 1 << 20;
+
 /// fill V, set I V, list V V .., len L
-fn edit<T: Copy + Default>(buffer: &mut Vec<T>, made: impl Fn(i128) -> T, words: &mut Words) -> Result<(), String> {
+fn edit<T: Copy + Default + TryFrom<i128>>(buffer: &mut Vec<T>, words: &mut Words) -> Result<(), String> {
     match words.word()? {
-        "fill" => buffer.fill(made(words.number()?)),
+        "fill" => buffer.fill(words.number()?),
         "set" => {
-            let place = words.usize()?;
-            let value = made(words.number()?);
+            let place: usize = words.number()?;
+            let value = words.number()?;
             *buffer.get_mut(place).ok_or_else(|| format!("the buffer ends before {place}"))? = value;
         }
-        "list" => *buffer = words.rest()?.into_iter().map(made).collect(),
-        "len" => buffer.resize(words.usize()?, T::default()),
+        "list" => *buffer = words.rest()?,
+        "len" => match words.number()? {
+            len if len <= LONGEST => buffer.resize(len, T::default()),
+            len => return Err(format!("longer than {LONGEST}: {len}")),
+        },
         other => return Err(format!("a buffer is not changed by {other}")),
     }
     Ok(())
@@ -173,8 +194,10 @@ fn edit<T: Copy + Default>(buffer: &mut Vec<T>, made: impl Fn(i128) -> T, words:
 fn shown(r: &Record) -> String {
     let Record { sides, allowed, openings, removals, examinations, euler, finished } = r;
     let Sides { a, b, c } = sides;
-    let finished = u8::from(*finished);
-    format!("rec {a} {b} {c} T {allowed} openings {openings} removals {removals} examinations {examinations} euler {euler} finished {finished}")
+    let finished = u8::from(*finished != 0);
+    format!(
+        "rec {a} {b} {c} T {allowed} openings {openings} removals {removals} examinations {examinations} euler {euler} finished {finished}"
+    )
 }
 
 /// The line of the program `carve`, by calls of the library: a side over 24 is refused with 1 in its place.

@@ -1,32 +1,32 @@
 //! The words of a script's line, and how bytes are hashed.
 
-pub struct Words<'a>(std::str::SplitWhitespace<'a>);
+pub struct Words<'a>(std::str::SplitAsciiWhitespace<'a>);
 
 impl<'a> Words<'a> {
     pub fn of(line: &'a str) -> Self {
-        Words(line.split_whitespace())
+        Words(line.split_ascii_whitespace())
     }
 
     pub fn word(&mut self) -> Result<&'a str, String> {
         self.0.next().ok_or_else(|| "a word is missing".to_string())
     }
 
-    pub fn number(&mut self) -> Result<i128, String> {
-        let word = self.word()?;
-        word.parse().map_err(|_| format!("not a number: {word}"))
+    /// A number that its place in a call can hold: what is beyond it cannot be called with, and is a mistake.
+    pub fn number<T: TryFrom<i128>>(&mut self) -> Result<T, String> {
+        number(self.word()?)
     }
 
-    /// A number as a call's type holds it: beyond the type, the nearest that it holds.
-    pub fn within(&mut self, low: i128, high: i128) -> Result<i128, String> {
-        Ok(self.number()?.clamp(low, high))
+    /// All the numbers up to the end of the line.
+    pub fn rest<T: TryFrom<i128>>(&mut self) -> Result<Vec<T>, String> {
+        self.0.by_ref().map(number).collect()
     }
 
-    pub fn usize(&mut self) -> Result<usize, String> {
-        Ok(self.within(0, usize::MAX as i128)? as usize)
-    }
-
-    pub fn u32(&mut self) -> Result<u32, String> {
-        Ok(self.within(0, u32::MAX.into())? as u32)
+    pub fn yes_or_no(&mut self) -> Result<bool, String> {
+        match self.word()? {
+            "0" => Ok(false),
+            "1" => Ok(true),
+            word => Err(format!("not 0 or 1: {word}")),
+        }
     }
 
     /// Bytes as hexadecimal digits; no word is no bytes.
@@ -41,12 +41,23 @@ impl<'a> Words<'a> {
 
     pub fn hexadecimal(&mut self) -> Result<u32, String> {
         let word = self.word()?;
-        u32::from_str_radix(word, 16).map_err(|_| format!("not a block in hexadecimal: {word}"))
+        let add = |sum: u32, c: char| Some(sum.checked_mul(16)? + c.to_digit(16)?);
+        word.chars().try_fold(0, add).ok_or_else(|| format!("not a block in hexadecimal: {word}"))
     }
 
-    pub fn rest(&mut self) -> Result<Vec<i128>, String> {
-        self.0.by_ref().map(|word| word.parse().map_err(|_| format!("not a number: {word}"))).collect()
+    /// Nothing may follow on the line.
+    pub fn end(&mut self) -> Result<(), String> {
+        match self.0.next() {
+            None => Ok(()),
+            Some(word) => Err(format!("one word too many: {word}")),
+        }
     }
+}
+
+fn number<T: TryFrom<i128>>(word: &str) -> Result<T, String> {
+    // Rust's own reading also takes a plus sign, which the language has not.
+    let value: Option<i128> = if word.starts_with('+') { None } else { word.parse().ok() };
+    value.and_then(|v| T::try_from(v).ok()).ok_or_else(|| format!("not a number that can stand here: {word}"))
 }
 
 /// FNV-1a, 64 bits.

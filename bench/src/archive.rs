@@ -1,0 +1,168 @@
+//! The product through its C interface as the wrapper declares it: the archive as it is now, and that of another commit where build.rs was
+//! given one.
+
+use crate::types::{Carved, Local, Machine, Opened, Record, Refused, Sides, Taken};
+use wattlerugby::raw::{CrossingAnswer, PointsAnswer, ReadAnswer, ReadLayerAnswer};
+
+fn answered<T>(refusal: u8, answer: T) -> Result<T, Refused> {
+    match refusal {
+        0 => Ok(answer),
+        number => Err(number),
+    }
+}
+
+type Points = fn(Record, &[i32], &[u8], usize, &mut [f64]) -> PointsAnswer;
+
+/// The calls of an archive that the two Rust programs have not.
+#[derive(Clone, Copy)]
+pub struct Others {
+    pub crossing: fn(Record, &[i32], &[u8], usize, u32) -> CrossingAnswer,
+    /// Older archives have no such call.
+    pub points: Option<Points>,
+    pub read: fn(&[u8], &mut [i16]) -> ReadAnswer,
+    pub read_layer: fn(Sides, &[u8], usize) -> ReadLayerAnswer,
+}
+
+/// An archive's calls by slices, from a module that declares them.
+// SAFETY, of each call: the pointers and lengths are those of slices that are borrowed for the call.
+macro_rules! archive {
+    ($module:ident, $type:ident, $name:literal, $points:expr, $($raw:tt)+) => {
+        pub mod $module {
+            use super::*;
+            use $($raw)+ as raw;
+
+            pub struct $type;
+
+            pub fn local_test(kept: u32) -> Local {
+                // SAFETY: numbers alone cross.
+                unsafe { raw::wattlerugby_local_test(kept) }
+            }
+
+            fn crossing(given: Record, dist: &[i32], status: &[u8], index: usize, axis: u32) -> CrossingAnswer {
+                unsafe { raw::wattlerugby_crossing(given.into(), dist.as_ptr(), dist.len(), status.as_ptr(), status.len(), index, axis) }
+            }
+
+            fn read(file: &[u8], values: &mut [i16]) -> ReadAnswer {
+                unsafe { raw::wattlerugby_read(file.as_ptr(), file.len(), values.as_mut_ptr(), values.len()) }
+            }
+
+            fn read_layer(sides: Sides, file: &[u8], start: usize) -> ReadLayerAnswer {
+                unsafe { raw::wattlerugby_read_layer(sides, file.as_ptr(), file.len(), start) }
+            }
+
+            pub const OTHERS: Others = Others { crossing, points: $points, read, read_layer };
+
+            impl Machine for $type {
+                const NAME: &'static str = $name;
+
+                fn begin(sides: Sides, allowed: u16, values: &[i16], dist: &mut [i32], status: &mut [u8]) -> Result<Record, Refused> {
+                    let (v, d, s) = (values.as_ptr(), dist.as_mut_ptr(), status.as_mut_ptr());
+                    let r = unsafe { raw::wattlerugby_begin(sides, allowed, v, values.len(), d, dist.len(), s, status.len()) };
+                    answered(r.refusal, r.next.into())
+                }
+
+                fn carve(given: Record, dist: &[i32], status: &mut [u8], limit: u32) -> Result<Carved, Refused> {
+                    let (d, s) = (dist.as_ptr(), status.as_mut_ptr());
+                    let r = unsafe { raw::wattlerugby_carve(given.into(), d, dist.len(), s, status.len(), limit) };
+                    answered(r.refusal, Carved { examined: r.examined, removed: r.removed, pending: r.pending, next: r.next.into() })
+                }
+
+                fn take(given: Record, dist: &[i32], status: &mut [u8], index: usize) -> Result<Taken, Refused> {
+                    let (d, s) = (dist.as_ptr(), status.as_mut_ptr());
+                    let r = unsafe { raw::wattlerugby_take(given.into(), d, dist.len(), s, status.len(), index) };
+                    answered(r.refusal, Taken { k: r.k, m: r.m, next: r.next.into() })
+                }
+
+                fn open(given: Record, dist: &[i32], status: &mut [u8]) -> Result<Opened, Refused> {
+                    let r = unsafe { raw::wattlerugby_open(given.into(), dist.as_ptr(), dist.len(), status.as_mut_ptr(), status.len()) };
+                    answered(r.refusal, Opened { index: r.index, k: r.k, m: r.m, next: r.next.into() })
+                }
+
+                fn finish(given: Record, dist: &mut [i32], status: &[u8]) -> Result<Record, Refused> {
+                    let r = unsafe { raw::wattlerugby_finish(given.into(), dist.as_mut_ptr(), dist.len(), status.as_ptr(), status.len()) };
+                    answered(r.refusal, r.next.into())
+                }
+            }
+        }
+    };
+}
+
+fn points_now(given: Record, dist: &[i32], status: &[u8], position: usize, out: &mut [f64]) -> PointsAnswer {
+    let (d, s, o) = (dist.as_ptr(), status.as_ptr(), out.as_mut_ptr());
+    // SAFETY: as in the macro.
+    unsafe { wattlerugby::raw::wattlerugby_points(given.into(), d, dist.len(), s, status.len(), position, o, out.len()) }
+}
+
+archive!(now, Ours, "ours", Some(points_now), wattlerugby::raw);
+
+/// The same calls under the names that build.rs gave those of the other archive.
+#[cfg(before)]
+#[allow(clashing_extern_declarations)]
+mod prefixed {
+    use crate::types::{Local, Sides};
+    use wattlerugby::raw::{
+        BeginAnswer, CarveAnswer, CrossingAnswer, FinishAnswer, OpenAnswer, ReadAnswer, ReadLayerAnswer, Record, TakeAnswer,
+    };
+
+    extern "C" {
+        #[link_name = "before_wattlerugby_begin"]
+        pub fn wattlerugby_begin(
+            sides: Sides,
+            allowed: u16,
+            values: *const i16,
+            values_len: usize,
+            dist: *mut i32,
+            dist_len: usize,
+            status: *mut u8,
+            status_len: usize,
+        ) -> BeginAnswer;
+        #[link_name = "before_wattlerugby_carve"]
+        pub fn wattlerugby_carve(given: Record, dist: *const i32, dl: usize, status: *mut u8, sl: usize, limit: u32) -> CarveAnswer;
+        #[link_name = "before_wattlerugby_take"]
+        pub fn wattlerugby_take(given: Record, dist: *const i32, dl: usize, status: *mut u8, sl: usize, index: usize) -> TakeAnswer;
+        #[link_name = "before_wattlerugby_open"]
+        pub fn wattlerugby_open(given: Record, dist: *const i32, dl: usize, status: *mut u8, sl: usize) -> OpenAnswer;
+        #[link_name = "before_wattlerugby_finish"]
+        pub fn wattlerugby_finish(given: Record, dist: *mut i32, dl: usize, status: *const u8, sl: usize) -> FinishAnswer;
+        #[link_name = "before_wattlerugby_crossing"]
+        pub fn wattlerugby_crossing(
+            given: Record,
+            dist: *const i32,
+            dl: usize,
+            status: *const u8,
+            sl: usize,
+            index: usize,
+            axis: u32,
+        ) -> CrossingAnswer;
+        #[cfg(before_points)]
+        #[link_name = "before_wattlerugby_points"]
+        pub fn wattlerugby_points(
+            given: Record,
+            dist: *const i32,
+            dl: usize,
+            status: *const u8,
+            sl: usize,
+            position: usize,
+            out: *mut f64,
+            ol: usize,
+        ) -> wattlerugby::raw::PointsAnswer;
+        #[link_name = "before_wattlerugby_read"]
+        pub fn wattlerugby_read(file: *const u8, file_len: usize, values: *mut i16, values_len: usize) -> ReadAnswer;
+        #[link_name = "before_wattlerugby_read_layer"]
+        pub fn wattlerugby_read_layer(sides: Sides, file: *const u8, file_len: usize, start: usize) -> ReadLayerAnswer;
+        #[link_name = "before_wattlerugby_local_test"]
+        pub fn wattlerugby_local_test(kept: u32) -> Local;
+    }
+}
+
+#[cfg(before_points)]
+fn points_before(given: Record, dist: &[i32], status: &[u8], position: usize, out: &mut [f64]) -> PointsAnswer {
+    let (d, s, o) = (dist.as_ptr(), status.as_ptr(), out.as_mut_ptr());
+    // SAFETY: as in the macro.
+    unsafe { prefixed::wattlerugby_points(given.into(), d, dist.len(), s, status.len(), position, o, out.len()) }
+}
+
+#[cfg(before_points)]
+archive!(before, Before, "before", Some(points_before), super::prefixed);
+#[cfg(all(before, not(before_points)))]
+archive!(before, Before, "before", None, super::prefixed);

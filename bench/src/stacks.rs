@@ -1,0 +1,49 @@
+//! The stack of each of our calls.
+
+use crate::singles::{archives, Scene};
+use crate::{case, named, GRIDS};
+use bench::archive::now::local_test;
+use bench::contest::State;
+use bench::grids::Shape;
+use bench::stack::{used, LEAST};
+use std::hint::black_box;
+
+const CALLS: [&str; 10] = ["begin", "carve", "take", "open", "finish", "crossing", "points", "read", "read_layer", "local test"];
+
+/// Prints the table; the answer is the most that any call takes, in bytes.
+pub fn measure() -> f64 {
+    println!("\n## Stack of our calls, bytes\n\n| grid | {} |\n|---|{}", CALLS.join(" | "), "---|".repeat(CALLS.len()));
+    let mut most = 0;
+    for sides in GRIDS {
+        let found = on(&Scene::of(case(sides, Shape::Torus)));
+        let cells = found.map(|bytes| if bytes == LEAST { format!("under {bytes}") } else { bytes.to_string() });
+        println!("| {} | {} |", named(sides), cells.join(" | "));
+        most = most.max(found.into_iter().max().unwrap_or(0));
+    }
+    most as f64
+}
+
+/// In the order of `CALLS`.
+fn on(scene: &Scene) -> [usize; 10] {
+    let ours = &archives()[0];
+    let (calls, others, case) = (&ours.calls, &ours.others, &scene.case);
+    let (mut blank, done) = (State::blank(case), &scene.finished);
+    let [mut begun, mut to_take] = [(); 2].map(|()| scene.begun.clone());
+    let [mut to_open, mut to_finish] = [(); 2].map(|()| scene.carved.clone());
+    let pending = begun.status.iter().position(|&s| s == 3).expect("a pending voxel");
+    let (mut values, mut out) = (case.values.clone(), vec![0.0; 3 * scene.crossings]);
+    let (index, axis) = (scene.crossing / 3, (scene.crossing % 3) as u32);
+    let points = others.points.expect("ours has it");
+    [
+        used(|| _ = (calls.begin)(case.sides, case.allowed, &case.values, &mut blank.dist, &mut blank.status).expect("begin")),
+        used(|| _ = (calls.carve)(begun.record, &begun.dist, &mut begun.status, u32::MAX).expect("carve")),
+        used(|| _ = (calls.take)(to_take.record, &to_take.dist, &mut to_take.status, pending)),
+        used(|| _ = (calls.open)(to_open.record, &to_open.dist, &mut to_open.status).expect("open")),
+        used(|| _ = (calls.finish)(to_finish.record, &mut to_finish.dist, &to_finish.status).expect("finish")),
+        used(|| assert!((others.crossing)(done.record, &done.dist, &done.status, index, axis).crosses)),
+        used(|| assert_eq!(points(done.record, &done.dist, &done.status, 0, &mut out).count, scene.crossings)),
+        used(|| assert_eq!((others.read)(&scene.file, &mut values).refusal, 0)),
+        used(|| assert_eq!((others.read_layer)(case.sides, &scene.file, 7).refusal, 0)),
+        used(|| _ = black_box(local_test(black_box(0x07BE_8BEF)))),
+    ]
+}

@@ -1,0 +1,120 @@
+//! Makes conformance/ from its scripts, and holds it to the list of what it must contain.
+
+use crate::compare::prints;
+use crate::demands::{list, worked_case, Before};
+use crate::scripts::{cases, conformance, language::MISTAKES, SEEDED, WRITTEN};
+use reference::replay::Replay;
+use std::collections::BTreeMap;
+use std::path::Path;
+
+/// The file of lines that a tool must refuse.
+pub const MISTAKES_FILE: &str = "mistakes.lines";
+
+/// The kinds, each a file of scripts and one of answers.
+pub fn kinds() -> impl Iterator<Item = &'static str> {
+    SEEDED.into_iter().chain(WRITTEN)
+}
+
+/// The scripts, their answers, and how many calls meet each entry of the list.
+pub struct Made {
+    files: Vec<(String, String)>,
+    met: BTreeMap<String, usize>,
+}
+
+impl Made {
+    pub fn new() -> Result<Self, String> {
+        let mut made = Made { files: Vec::new(), met: BTreeMap::new() };
+        for kind in kinds() {
+            made.kind(kind)?;
+        }
+        made.files.push((MISTAKES_FILE.to_string(), MISTAKES.iter().map(|line| format!("{line}\n")).collect()));
+        Ok(made)
+    }
+
+    fn kind(&mut self, kind: &str) -> Result<(), String> {
+        let scripts = conformance(kind);
+        let mut state = Replay::new();
+        let mut answers = String::new();
+        for (i, script) in scripts.iter().enumerate() {
+            let case = cases::SCRIPTS.get(i).filter(|_| kind == "cases").map(|(name, _)| *name);
+            for (line, command) in script.lines().enumerate() {
+                let told = |wrong: String| format!("{kind} {}, line {} of it, {command}: {wrong}", i + 1, line + 1);
+                if let Some(answer) = self.line(&mut state, command, case).map_err(told)? {
+                    answers += &answer;
+                    answers.push('\n');
+                }
+            }
+        }
+        self.files.push((format!("{kind}.script"), scripts.concat()));
+        self.files.push((format!("{kind}.answers"), answers));
+        Ok(())
+    }
+
+    fn line(&mut self, state: &mut Replay, command: &str, case: Option<&str>) -> Result<Option<String>, String> {
+        let before = Before::of(state, command);
+        let answer = state.line(command)?;
+        if answer.is_some() != prints(command) {
+            return Err("compare::prints is wrong about it".to_string());
+        }
+        if let Some(said) = &answer {
+            let worked = case.map(|case| worked_case(case, said));
+            for entry in before.entries(said)?.into_iter().chain(worked) {
+                *self.met.entry(entry).or_default() += 1;
+            }
+        }
+        Ok(answer)
+    }
+
+    /// Each entry with how many calls meet it, and how many must.
+    pub fn counts(&self) -> impl Iterator<Item = (String, usize, usize)> + '_ {
+        list().into_iter().map(|(entry, least)| {
+            let met = self.met.get(&entry).copied().unwrap_or(0);
+            (entry, met, least)
+        })
+    }
+
+    /// Writes the files; an error where an entry of the list is not met.
+    pub fn write(&self, folder: &Path) -> Result<(), String> {
+        let missing: Vec<String> = self
+            .counts()
+            .filter(|(_, met, least)| met < least)
+            .map(|(entry, met, least)| format!("missing in conformance: {entry} ({met} of {least})"))
+            .collect();
+        if !missing.is_empty() {
+            return Err(missing.join("\n"));
+        }
+        std::fs::create_dir_all(folder).map_err(|wrong| format!("{} cannot be made: {wrong}", folder.display()))?;
+        for (name, text) in &self.files {
+            let path = folder.join(name);
+            std::fs::write(&path, text).map_err(|wrong| format!("{} cannot be written: {wrong}", path.display()))?;
+        }
+        Ok(())
+    }
+}
+
+#[cfg(test)]
+mod tests {
+    use super::*;
+
+    #[test]
+    fn what_is_missing_is_told_and_nothing_is_written() {
+        let folder = std::env::temp_dir().join(format!("wattlerugby-nothing-{}", std::process::id()));
+        let nothing = Made { files: vec![("lists.script".to_string(), String::new())], met: BTreeMap::new() };
+        let told = nothing.write(&folder).expect_err("no entry is met");
+        assert_eq!(told.lines().count(), list().len());
+        for entry in ["begin refused: 1 (0 of 2)", "read: 1 before 2 (0 of 2)", "begin on 64 64 64 (0 of 1)"] {
+            assert!(told.lines().any(|line| line == format!("missing in conformance: {entry}")), "{entry}");
+        }
+        assert!(!folder.exists());
+    }
+
+    #[test]
+    fn an_answer_out_of_the_order_of_checks_is_told() {
+        let mut state = Replay::new();
+        state.line("rawsides 2 3 3").expect("a line of the language");
+        let entries = |answer: &str| Before::of(&state, "begin").entries(answer);
+        assert!(entries("begin refused 1").is_ok_and(|met| met.contains(&"begin: 1 before 2".to_string())));
+        assert!(entries("begin refused 2").is_err());
+        assert!(entries("begin ok rec 2 3 3 T 0 openings 0 removals 0 examinations 0 euler 1 finished 0").is_err());
+    }
+}

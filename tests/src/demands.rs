@@ -1,0 +1,273 @@
+//! What conformance/ must contain, as a list of entries, and which entries a call meets. `fuzz write` fails where an entry is not met.
+//! A request that brings a call adds its checks to `faults::order`, its causes and impossible pairs here, and its own entries to `ALSO`.
+
+use crate::faults::{faults, order, Check, Fault};
+use reference::replay::Replay;
+use std::collections::BTreeMap;
+
+/// The calls that can be refused.
+const CALLS: [&str; 10] = ["begin", "carve", "take", "open", "finish", "crossing", "points", "readlayer", "read", "program"];
+
+/// Pairs of faults that no input has together, and why.
+const IMPOSSIBLE: &[(&str, Check, Check, &str)] = &[
+    ("begin", "3", "4", "a negative border voxel is a negative voxel"),
+    ("take", "5", "10", "there is no such voxel"),
+    ("take", "5", "11", "there is no such voxel"),
+    ("take", "5", "12", "there is no such voxel"),
+    ("take", "10", "11", "a voxel that is negative and gone is unfit"),
+    ("read", "header 21", "21", "a file shorter than its header has no records"),
+    ("read", "header 21", "22", "a file shorter than its header has no records"),
+    ("read", "header 21", "23", "a file shorter than its header has no records"),
+    ("read", "header 21", "24", "a file shorter than its header has no records"),
+    ("read", "header 21", "25", "a file shorter than its header has no records"),
+    ("read", "21", "25", "after a record that is cut off nothing is left"),
+    ("read", "23", "24", "a z that is too large was refused where it came before"),
+    ("program", "header 21", "21", "a file shorter than its header has no records"),
+    ("program", "header 21", "22", "a file shorter than its header has no records"),
+    ("program", "header 21", "23", "a file shorter than its header has no records"),
+    ("program", "header 21", "24", "a file shorter than its header has no records"),
+    ("program", "header 21", "25", "a file shorter than its header has no records"),
+    ("program", "header 21", "3", "a file shorter than its header has no values"),
+    ("program", "header 21", "4", "a file shorter than its header has no values"),
+    ("program", "21", "25", "after a record that is cut off nothing is left"),
+    ("program", "23", "24", "a z that is too large was refused where it came before"),
+    ("program", "3", "4", "a negative border voxel is a negative voxel"),
+];
+
+/// Faults of two records: of the first, then of the second.
+const EARLIER: [Check; 3] = ["22", "23", "24"];
+const LATER: [Check; 4] = ["21", "22", "23", "24"];
+
+const SIDES: &[&str] = &["a under 3", "a over 64", "b under 3", "b over 64", "c under 3", "c over 64"];
+const FILE_SIDES: &[&str] = &[
+    "a under 3",
+    "a is 25",
+    "a of 26 to 64",
+    "a over 64",
+    "b under 3",
+    "b is 25",
+    "b of 26 to 64",
+    "b over 64",
+    "c under 3",
+    "c is 25",
+    "c of 26 to 64",
+    "c over 64",
+];
+const LENGTHS: &[&str] = &["dist short", "dist long", "status short", "status long"];
+const UNFIT: &[&str] = &[
+    "openings over T",
+    "removals over n",
+    "examinations over 27n",
+    "Euler number over 8n",
+    "Euler number under -8n",
+    "status not 0, 1 or 3",
+    "border kept",
+    "negative and gone",
+    "negative and pending",
+];
+const BORDER: &[&str] = &["x is 0", "x is last", "y is 0", "y is last", "z is 0", "z is last"];
+const MARK: &[&str] = &["first byte", "second byte"];
+const Z: &[&str] = &["z is c", "z over c"];
+
+/// Each number's clauses, for those that have more than one: a call must be refused for each of them alone.
+fn causes(call: &str, check: Check) -> &'static [&'static str] {
+    match (call, check) {
+        ("program", "1") => FILE_SIDES,
+        (_, "1") => SIDES,
+        ("begin", "2") => &["values short", "values long", "dist short", "dist long", "status short", "status long"],
+        ("read", "2") => &["values short", "values long"],
+        (_, "2") => LENGTHS,
+        (_, "3") => BORDER,
+        (_, "4") => &["none below 0", "missing ones alone"],
+        ("points", "5") => &["one over", "far over"],
+        (_, "6") => &["axis over 2", "beyond along x", "beyond along y", "beyond along z"],
+        (_, "7") => UNFIT,
+        ("readlayer", "21") => &["start past the end", "start at the end", "cut off"],
+        (_, "21") => &["nothing left", "cut off"],
+        (_, "22" | "header 22") => MARK,
+        (_, "23") => Z,
+        _ => &[],
+    }
+}
+
+/// Entries besides refusals: what a call does when it is done, with how many such calls there must be.
+const ALSO: &[(&str, usize)] = &[
+    // begin
+    ("begin: M raised to 1, a 0 beside S", 1),
+    ("begin: M raised to 1, only missing points beside S", 1),
+    ("begin: a discarded group", 5),
+    ("begin: two largest groups of one size", 2),
+    ("begin: a value of -32767", 1),
+    ("begin: a missing border voxel", 5),
+    ("begin: T of 65535", 1),
+    // the carving machine
+    ("carve: limit 0 with a voxel pending", 1),
+    ("carve: limit over 16 bits", 1),
+    ("carve: limit 4294967295", 10),
+    ("carve: something still pending", 50),
+    ("carve: a removal", 50),
+    ("carve: counts at their limits", 1),
+    ("take: pending", 50),
+    ("take: not pending", 10),
+    ("open: k is 2 or more", 8),
+    ("open: m is 2 or more", 10),
+    ("open: k and m are 1", 5),
+    ("finish: a distance of 0 kept", 1),
+    ("finish: a distance of 2147483647 kept", 1),
+    // surface points
+    ("crossing: negative above along x", 1000),
+    ("crossing: negative above along y", 1000),
+    ("crossing: negative above along z", 1000),
+    ("crossing: negative above, where the lower plus 1 - t has other bits", 150),
+    ("crossing: negative below", 1000),
+    ("crossing: none, both negative", 10),
+    ("crossing: none, neither negative", 10),
+    ("crossing: q is 0", 10),
+    ("crossing: p is 2147483648", 10),
+    ("crossing: p + q is 4294967295", 1),
+    // finished is a byte
+    ("carve refused: 8, finished 2", 1),
+    ("carve refused: 8, finished 255", 1),
+    ("take refused: 8, finished 2", 1),
+    ("open refused: 8, finished 2", 1),
+    ("finish refused: 8, finished 2", 1),
+    ("crossing: finished 2", 1),
+    ("crossing: finished 255", 1),
+    ("points: finished 2", 1),
+    ("points: finished 255", 1),
+    // all points
+    ("points: capacity 0", 2),
+    ("points: capacity 2", 2),
+    ("points: capacity 3", 5),
+    ("points: capacity 5", 5),
+    ("points: position 0, all in one call", 20),
+    ("points: position 0, the buffer full before the end", 20),
+    ("points: the buffer full with the last point", 5),
+    ("points: room for one more point at the end", 20),
+    ("points: from the middle", 50),
+    ("points: from the middle of a voxel's three", 50),
+    ("points: position 3n", 5),
+    ("points: position 3n, capacity 0", 1),
+    ("points: none left", 5),
+    ("points: a capacity that is no multiple of 3", 20),
+    ("points: 1000 or more in one call", 2),
+    // sizes
+    ("begin on 64 64 64", 1),
+    ("carve on 64 64 64", 1),
+    ("take on 64 64 64", 1),
+    ("open on 64 64 64", 1),
+    ("finish on 64 64 64", 1),
+    ("crossing on 64 64 64", 1),
+    ("points on 64 64 64", 1),
+    ("begin on three different sides", 20),
+    ("carve on three different sides", 20),
+    ("take on three different sides", 20),
+    ("open on three different sides", 20),
+    ("finish on three different sides", 10),
+    ("crossing on three different sides", 20),
+    ("points on three different sides", 20),
+    // files
+    ("read: a side of 64", 3),
+    ("read: three different sides", 5),
+    ("read: layers out of order", 5),
+    ("read: T over 255", 2),
+    ("readlayer: not the first record", 5),
+    ("program: a side of 24", 3),
+    ("program: three different sides", 5),
+    ("program: an opening", 2),
+    ("program: two openings", 1),
+    ("program: a removal", 5),
+    // the local test
+    ("local", 2400),
+    ("local: bits from 27 on", 1),
+    ("local: the middle kept", 100),
+];
+
+/// Every entry with the least number of calls that must meet it.
+pub fn list() -> BTreeMap<String, usize> {
+    let mut entries: BTreeMap<String, usize> = ALSO.iter().map(|&(entry, least)| (entry.to_string(), least)).collect();
+    for call in CALLS {
+        entries.insert(format!("{call} done"), 10);
+        let checks = order(call).unwrap_or(&[]);
+        for (i, first) in checks.iter().enumerate() {
+            entries.insert(format!("{call} refused: {first}"), 2);
+            entries.extend(causes(call, first).iter().map(|cause| (format!("{call} refused: {first}, {cause} alone"), 1)));
+            let second = checks[i + 1..].iter().filter(|second| !impossible(call, first, second));
+            entries.extend(second.map(|second| (format!("{call}: {first} before {second}"), 2)));
+        }
+        if checks.contains(&"24") {
+            let both = EARLIER.iter().flat_map(|first| LATER.iter().map(move |second| (first, second)));
+            entries.extend(both.map(|(first, second)| (format!("{call}: {first} before a later record's {second}"), 1)));
+        }
+    }
+    for (case, lines) in crate::scripts::cases::LINES {
+        entries.extend(lines.iter().map(|line| (worked(case, line), 1)));
+    }
+    entries
+}
+
+fn worked(case: &str, line: &str) -> String {
+    format!("case {case}: {line}")
+}
+
+fn impossible(call: &str, first: &str, second: &str) -> bool {
+    IMPOSSIBLE.iter().any(|&(c, f, s, _)| (c, f, s) == (call, first, second))
+}
+
+/// What is seen of a call before it is made.
+pub struct Before {
+    call: String,
+    faults: Option<Vec<Fault>>,
+    seen: Vec<String>,
+}
+
+impl Before {
+    pub fn of(state: &Replay, command: &str) -> Self {
+        let words: Vec<&str> = command.split_ascii_whitespace().collect();
+        let call = words.first().unwrap_or(&"").to_string();
+        let seen = if order(&call).is_some() || call == "local" { sights::of(state, &call, &words) } else { Vec::new() };
+        Before { call, faults: faults(state, command), seen }
+    }
+
+    /// The entries that the call meets by its answer; an error where the answer is not that of the first fault.
+    pub fn entries(self, answer: &str) -> Result<Vec<String>, String> {
+        let said = answer.split(" # ").next().unwrap_or("");
+        let Some(faults) = self.faults else { return Ok(if self.call == "local" { self.seen } else { Vec::new() }) };
+        let refused = said.trim_start_matches(&self.call).trim_start().strip_prefix("refused ");
+        let refused = refused.map(|number| number.split(' ').next().unwrap_or(number));
+        if refused != faults.first().map(Fault::number) {
+            let by_faults = faults.first().map_or("done".to_string(), |fault| format!("refused {}", fault.number()));
+            return Err(format!("the answer {said:?} is not what the order of checks gives: {by_faults}"));
+        }
+        let Some(first) = faults.first() else {
+            let seen = self.seen.into_iter().chain(sights::answered(&self.call, said));
+            return Ok(seen.chain([format!("{} done", self.call)]).collect());
+        };
+        let seen = self.seen.iter().filter_map(|seen| seen.strip_prefix("if refused 8: ").filter(|_| first.check == "8"));
+        Ok(refusals(&self.call, first, &faults).into_iter().chain(seen.map(str::to_string)).collect())
+    }
+}
+
+fn refusals(call: &str, first: &Fault, faults: &[Fault]) -> Vec<String> {
+    let mut entries = vec![format!("{call} refused: {}", first.check)];
+    let same = |fault: &Fault| fault.check == first.check && fault.record == first.record;
+    if faults.iter().filter(|fault| same(fault)).all(|fault| fault.cause == first.cause) {
+        entries.push(format!("{call} refused: {}, {} alone", first.check, first.cause));
+    }
+    let others: Vec<&Fault> = faults.iter().filter(|fault| !same(fault)).collect();
+    for second in others {
+        let later = first.record.is_some() && second.record > first.record;
+        let later = if later { "a later record's " } else { "" };
+        entries.push(format!("{call}: {} before {later}{}", first.check, second.check));
+    }
+    entries.sort_unstable();
+    entries.dedup();
+    entries
+}
+
+/// The entry that an answer of a worked case meets: its line is the one that document 01 has.
+pub fn worked_case(case: &str, line: &str) -> String {
+    worked(case, line)
+}
+
+mod sights;

@@ -1,0 +1,351 @@
+//! Every fault that a call has, each by itself and whether or not another one is answered first. From document 01's numbers, and docs/RULES.md
+//! for `points`, which is ours, with the order of
+//! checks beside them, and not from the reference's code: so the kit can be asked for every pair of faults, and the reference is held to the order.
+
+use reference::grid::Sides;
+use reference::local::local_test;
+use reference::replay::Replay;
+
+/// A check of a call in its place of the order: a number, or for a file's header `header N`.
+pub type Check = &'static str;
+
+pub struct Fault {
+    /// Place in the order of checks; the lowest is answered.
+    rank: usize,
+    pub check: Check,
+    /// Which clause of the number it is.
+    pub cause: &'static str,
+    /// The layer record, for those of a file.
+    pub record: Option<usize>,
+}
+
+impl Fault {
+    pub fn number(&self) -> &'static str {
+        self.check.trim_start_matches("header ")
+    }
+}
+
+/// A call's checks in their order (document 01, the last two sentences of "Numbers that come from the state").
+pub fn order(call: &str) -> Option<&'static [Check]> {
+    Some(match call {
+        "begin" => &["1", "2", "3", "4"],
+        "carve" => &["1", "2", "7", "8"],
+        "take" => &["1", "2", "7", "8", "5", "10", "11", "12"],
+        "open" => &["1", "2", "7", "8", "13", "14", "15"],
+        "finish" => &["1", "2", "7", "8", "13"],
+        "crossing" => &["1", "2", "7", "9", "5", "6"],
+        "points" => &["1", "2", "7", "9", "5"],
+        "readlayer" => &["1", "21", "22", "23"],
+        "read" => &["header 21", "header 22", "1", "2", "21", "22", "23", "24", "25"],
+        "program" => &["header 21", "header 22", "1", "21", "22", "23", "24", "25", "3", "4"],
+        _ => return None,
+    })
+}
+
+/// The faults of a call in the state before it, the one to be answered first; nothing where the line is no call that can be refused.
+pub fn faults(state: &Replay, command: &str) -> Option<Vec<Fault>> {
+    let words: Vec<&str> = command.split_ascii_whitespace().collect();
+    let call = *words.first()?;
+    let mut found = Found { order: order(call)?, list: Vec::new() };
+    let argument = |i: usize| words.get(i).and_then(|word| word.parse::<u64>().ok()).unwrap_or(0);
+    match call {
+        "begin" => {
+            found.sides(&state.sides, 64);
+            found.lengths(&state.sides, &[("values", state.values.len()), ("dist", state.dist.len()), ("status", state.status.len())]);
+            found.values(&state.sides, &state.values);
+        }
+        "readlayer" => found.layer(&state.sides, &state.file, argument(1)),
+        "read" => {
+            found.header(&state.file, 64);
+            found.lent(&state.file, state.values.len());
+            found.records(&state.file);
+        }
+        "program" => {
+            found.header(&state.file, 24);
+            found.records(&state.file);
+            let (sides, values) = contents(&state.file);
+            found.values(&sides, &values);
+        }
+        "points" => {
+            found.record(state);
+            found.position(&state.record.sides, argument(1));
+        }
+        _ => {
+            found.record(state);
+            found.argument(call, state, argument(1), argument(2));
+        }
+    }
+    found.list.sort_by_key(|fault| fault.rank);
+    Some(found.list)
+}
+
+/// n, whatever the sides are.
+fn size(sides: &Sides) -> u128 {
+    u128::from(sides.a).saturating_mul(sides.b.into()).saturating_mul(sides.c.into())
+}
+
+fn place(sides: &Sides, i: usize) -> [u128; 3] {
+    let (i, a, b) = (i as u128, u128::from(sides.a), u128::from(sides.b));
+    [i % a, i / a % b, i / (a * b)]
+}
+
+const PLANES: [[&str; 2]; 3] = [["x is 0", "x is last"], ["y is 0", "y is last"], ["z is 0", "z is last"]];
+
+/// The border planes that a voxel lies on.
+fn planes(sides: &Sides, i: usize) -> Vec<&'static str> {
+    let at = place(sides, i);
+    let last = [sides.a, sides.b, sides.c].map(|side| u128::from(side) - 1);
+    let on = |k: usize| [(at[k] == 0).then_some(PLANES[k][0]), (at[k] == last[k]).then_some(PLANES[k][1])];
+    (0..3).flat_map(on).flatten().collect()
+}
+
+/// Whether the voxel at some steps from another is kept; none beyond the grid or the buffer is.
+fn kept(sides: &Sides, status: &[u8], i: usize, steps: [i64; 3]) -> bool {
+    let (at, ends) = (place(sides, i), [sides.a, sides.b, sides.c]);
+    let to = |k: usize| u64::try_from(at[k] as i64 + steps[k]).ok().filter(|&v| v < ends[k]);
+    let (Some(x), Some(y), Some(z)) = (to(0), to(1), to(2)) else { return false };
+    let j = u128::from(x) + u128::from(ends[0]) * (u128::from(y) + u128::from(ends[1]) * u128::from(z));
+    usize::try_from(j).ok().and_then(|j| status.get(j)).is_some_and(|&s| s != 0)
+}
+
+fn passes(sides: &Sides, status: &[u8], i: usize) -> bool {
+    let step = |p: usize| [p % 3, p / 3 % 3, p / 9].map(|digit| digit as i64 - 1);
+    local_test(&std::array::from_fn(|p| kept(sides, status, i, step(p)))).passes()
+}
+
+fn bare(sides: &Sides, status: &[u8], i: usize) -> bool {
+    let steps = [[-1, 0, 0], [1, 0, 0], [0, -1, 0], [0, 1, 0], [0, 0, -1], [0, 0, 1]];
+    steps.into_iter().any(|step| !kept(sides, status, i, step))
+}
+
+fn negative(value: i16) -> bool {
+    value < 0 && value != i16::MIN
+}
+
+/// The three side bytes of a file, as far as it has them.
+fn side_bytes(file: &[u8]) -> Vec<u64> {
+    file.iter().skip(2).take(3).map(|&s| u64::from(s)).collect()
+}
+
+fn file_sides(file: &[u8]) -> Option<Sides> {
+    match side_bytes(file)[..] {
+        [a, b, c] => Some(Sides { a, b, c }),
+        _ => None,
+    }
+}
+
+/// What the whole layer records of a file hold.
+fn contents(file: &[u8]) -> (Sides, Vec<i16>) {
+    let sides = file_sides(file).unwrap_or(Sides { a: 0, b: 0, c: 0 });
+    let layer = (sides.a * sides.b) as usize;
+    let mut values = vec![0; sides.n()];
+    for record in file.get(7..).unwrap_or(&[]).chunks_exact(3 + 2 * layer) {
+        let z = usize::from(record[2]);
+        if (z as u64) < sides.c {
+            let words = record[3..].chunks(2).map(|pair| i16::from_le_bytes([pair[0], pair[1]]));
+            values.splice(z * layer..(z + 1) * layer, words);
+        }
+    }
+    (sides, values)
+}
+
+/// Faults as they are found, of any number: those that the call does not check are dropped.
+struct Found {
+    order: &'static [Check],
+    list: Vec<Fault>,
+}
+
+impl Found {
+    fn add(&mut self, check: &str, cause: &'static str) {
+        if let Some(rank) = self.order.iter().position(|&c| c == check) {
+            self.list.push(Fault { rank, check: self.order[rank], cause, record: None });
+        }
+    }
+
+    /// Records are checked one after the other, and what follows them after all of them.
+    fn add_record(&mut self, record: usize, check: &str, cause: &'static str) {
+        if let Some(place) = self.order.iter().position(|&c| c == check) {
+            let rank = 100 * (record + 1) + place;
+            self.list.push(Fault { rank, check: self.order[place], cause, record: Some(record) });
+        }
+    }
+
+    fn add_last(&mut self, check: &str, cause: &'static str) {
+        self.add(check, cause);
+        if let Some(fault) = self.list.last_mut().filter(|fault| fault.check == check) {
+            fault.rank += 1_000_000;
+        }
+    }
+
+    fn if_so(&mut self, is: bool, check: &str, cause: &'static str) {
+        if is {
+            self.add(check, cause);
+        }
+    }
+
+    /// `most` is 64, or the program's 24.
+    fn side(&mut self, k: usize, side: u64, most: u64) {
+        const CAUSES: [[&str; 4]; 3] = [
+            ["a under 3", "a over 64", "a is 25", "a of 26 to 64"],
+            ["b under 3", "b over 64", "b is 25", "b of 26 to 64"],
+            ["c under 3", "c over 64", "c is 25", "c of 26 to 64"],
+        ];
+        self.if_so(side < 3, "1", CAUSES[k][0]);
+        self.if_so(side > 64, "1", CAUSES[k][1]);
+        self.if_so(side == 25 && side > most, "1", CAUSES[k][2]);
+        self.if_so((26..=64).contains(&side) && side > most, "1", CAUSES[k][3]);
+    }
+
+    fn sides(&mut self, sides: &Sides, most: u64) {
+        for (k, side) in [sides.a, sides.b, sides.c].into_iter().enumerate() {
+            self.side(k, side, most);
+        }
+    }
+
+    fn lengths(&mut self, sides: &Sides, buffers: &[(&str, usize)]) {
+        let n = size(sides);
+        for &(buffer, len) in buffers {
+            let (short, long) = match buffer {
+                "values" => ("values short", "values long"),
+                "dist" => ("dist short", "dist long"),
+                _ => ("status short", "status long"),
+            };
+            self.if_so((len as u128) < n, "2", short);
+            self.if_so(len as u128 > n, "2", long);
+        }
+    }
+
+    /// 3 and 4.
+    fn values(&mut self, sides: &Sides, values: &[i16]) {
+        let n = size(sides).min(values.len() as u128) as usize;
+        let mut causes: Vec<&str> = Vec::new();
+        for i in (0..n).filter(|&i| negative(values[i])) {
+            causes.extend(planes(sides, i));
+        }
+        causes.sort_unstable();
+        causes.dedup();
+        causes.into_iter().for_each(|cause| self.add_last("3", cause));
+        if !values.iter().any(|&v| negative(v)) {
+            let missing = values.contains(&i16::MIN);
+            self.add_last("4", if missing { "missing ones alone" } else { "none below 0" });
+        }
+    }
+
+    /// 1, 2, 7, 8 and 9.
+    fn record(&mut self, state: &Replay) {
+        let (r, dist, status) = (&state.record, &state.dist, &state.status);
+        self.sides(&r.sides, 64);
+        self.lengths(&r.sides, &[("dist", dist.len()), ("status", status.len())]);
+        let n = size(&r.sides);
+        self.if_so(r.openings > u64::from(r.t), "7", "openings over T");
+        self.if_so(u128::from(r.removals) > n, "7", "removals over n");
+        self.if_so(u128::from(r.examinations) > 27 * n.min(1 << 64), "7", "examinations over 27n");
+        self.if_so(r.euler > 0 && r.euler as u128 > 8 * n.min(1 << 64), "7", "Euler number over 8n");
+        self.if_so(r.euler < 0 && u128::from(r.euler.unsigned_abs()) > 8 * n.min(1 << 64), "7", "Euler number under -8n");
+        for i in 0..n.min(dist.len().min(status.len()) as u128) as usize {
+            let (d, s) = (dist[i], status[i]);
+            self.if_so(![0, 1, 3].contains(&s), "7", "status not 0, 1 or 3");
+            self.if_so([1, 3].contains(&s) && !planes(&r.sides, i).is_empty(), "7", "border kept");
+            self.if_so(d < 0 && s == 0, "7", "negative and gone");
+            self.if_so(d < 0 && s == 3, "7", "negative and pending");
+        }
+        self.if_so(r.finished(), "8", "");
+        self.if_so(!r.finished(), "9", "");
+    }
+
+    /// 5, 6, 10 to 15.
+    fn argument(&mut self, call: &str, state: &Replay, index: u64, axis: u64) {
+        let (r, dist, status) = (&state.record, &state.dist, &state.status);
+        let n = size(&r.sides);
+        let within = u128::from(index) < n;
+        self.if_so(!within, "5", "");
+        let i = index as usize;
+        if within && i < dist.len().min(status.len()) {
+            self.if_so(status[i] == 0, "10", "");
+            self.if_so(dist[i] < 0, "11", "");
+            self.if_so(call == "take" && !passes(&r.sides, status, i), "12", "");
+        }
+        self.if_so(axis > 2, "6", "axis over 2");
+        if within && axis <= 2 {
+            let k = axis as usize;
+            const BEYOND: [&str; 3] = ["beyond along x", "beyond along y", "beyond along z"];
+            let last = [r.sides.a, r.sides.b, r.sides.c][k] - 1;
+            self.if_so(place(&r.sides, i)[k] == u128::from(last), "6", BEYOND[k]);
+        }
+        self.if_so(status.contains(&3), "13", "");
+        self.if_so(r.openings == u64::from(r.t), "14", "");
+        let voxels = n.min(dist.len().min(status.len()) as u128) as usize;
+        let to_open = |i: usize| status[i] != 0 && dist[i] >= 0 && bare(&r.sides, status, i);
+        self.if_so(call == "open" && !(0..voxels).any(to_open), "15", "");
+    }
+
+    /// 5 of `points`.
+    fn position(&mut self, sides: &Sides, position: u64) {
+        let end = 3 * size(sides).min(1 << 70);
+        self.if_so(u128::from(position) == end + 1, "5", "one over");
+        self.if_so(u128::from(position) > end + 1, "5", "far over");
+    }
+
+    // ---- files
+
+    fn header(&mut self, file: &[u8], most: u64) {
+        self.if_so(file.len() < 7, "header 21", "");
+        self.if_so(file.first().is_some_and(|&b| b != 0x56), "header 22", "first byte");
+        self.if_so(file.get(1).is_some_and(|&b| b != 0x48), "header 22", "second byte");
+        for (k, side) in side_bytes(file).into_iter().enumerate() {
+            self.side(k, side, most);
+        }
+    }
+
+    fn lent(&mut self, file: &[u8], len: usize) {
+        if let Some(sides) = file_sides(file) {
+            self.lengths(&sides, &[("values", len)]);
+        }
+    }
+
+    /// The records of a file up to the first that is not whole, and what is left after the last.
+    fn records(&mut self, file: &[u8]) {
+        let Some(sides) = file_sides(file).filter(|_| file.len() >= 7) else { return };
+        let length = 3 + 2 * (sides.a * sides.b) as usize;
+        let mut seen: Vec<u8> = Vec::new();
+        for (record, start) in (0..sides.c as usize).map(|i| (i, 7 + i * length)) {
+            let left = &file[start..];
+            self.mark_and_z(left, sides.c, |found, check, cause| found.add_record(record, check, cause));
+            if left.get(2).is_some_and(|z| seen.contains(z)) {
+                self.add_record(record, "24", "");
+            }
+            if left.len() < length {
+                let cause = if left.is_empty() { "nothing left" } else { "cut off" };
+                return self.add_record(record, "21", cause);
+            }
+            seen.push(left[2]);
+        }
+        if file.len() > 7 + length * sides.c as usize {
+            self.add_last("25", "");
+        }
+    }
+
+    fn mark_and_z(&mut self, left: &[u8], c: u64, mut add: impl FnMut(&mut Self, &str, &'static str)) {
+        if left.first().is_some_and(|&b| b != 0x56) {
+            add(self, "22", "first byte");
+        }
+        if left.get(1).is_some_and(|&b| b != 0x4C) {
+            add(self, "22", "second byte");
+        }
+        if let Some(&z) = left.get(2).filter(|&&z| u64::from(z) >= c) {
+            add(self, "23", if u64::from(z) == c { "z is c" } else { "z over c" });
+        }
+    }
+
+    fn layer(&mut self, sides: &Sides, file: &[u8], start: u64) {
+        self.sides(sides, 64);
+        let length = (2 * u128::from(sides.a)).saturating_mul(sides.b.into()).saturating_add(3);
+        let len = file.len() as u128;
+        let begins = u128::from(start);
+        self.if_so(begins > len, "21", "start past the end");
+        self.if_so(begins == len, "21", "start at the end");
+        self.if_so(begins < len && length > len - begins, "21", "cut off");
+        let left = usize::try_from(start).ok().and_then(|start| file.get(start..)).unwrap_or(&[]);
+        self.mark_and_z(left, sides.c, |found, check, cause| found.add(check, cause));
+    }
+}

@@ -1,0 +1,140 @@
+//! What a script may say, at the ends of every range; and lines that are not of the language.
+
+/// Scripts of the language itself: what prints, what a refused call leaves, and the ends of the ranges.
+const SCRIPTS: &[&str] = &[
+    "# blanks, comments, leading zeros and both cases of hexadecimal digits\n\n   \t \n  # a comment after blanks\n#another\nsides 003 3 3\n\
+     values   fill\t-0\nvalues set 013 -05\nbegin\nlocal 7FfDfFf\nlocal 0000000000000010\nlocal ffffffff\nlocal f8000000\nfile 5648\nappend\n\
+     append 03\nappend 0303fFfF\nread\nfile\nread\nprogram\n",
+    "# the ends of the buffers' ranges, and len and fill and list\nvalues list -32768 -32767 -1 0 1 32767\nhash\ndump values\nvalues len 8\n\
+     dump values\nvalues len 2\ndump values\nvalues fill 7\ndump values\nvalues list\ndump values\ndist list -2147483648 -1 0 2147483647\n\
+     dist len 5\ndump dist\nstatus list 0 1 3 255\nstatus set 3 2\ndump status\nhash\n",
+    "# sides make buffers; rawsides do not\nsides 4 3 5\nhash\ndump dist\ndump status\nrawsides 5 5 5\nhash\nbegin\nsides 65 3 3\nhash\nsides 0 3 3\n\
+     hash\nsides 18446744073709551615 3 3\nhash\nbegin\nsides 64 3 2\nhash\n",
+    "# the ends of the record's ranges\nrec a 18446744073709551615\nrec b 0\nrec c 64\nrec T 65535\nrec openings 4294967295\n\
+     rec removals 18446744073709551615\nrec examinations 18446744073709551615\nrec euler -2147483648\nrec finished 255\nrec show 0\n\
+     rec euler 2147483647\nrec finished 0\nrec show 0\ncarve 4294967295\ntake 18446744073709551615\nopen\nfinish\n\
+     crossing 18446744073709551615 4294967295\nreadlayer 18446744073709551615\npoints 18446744073709551615 1048576\nrec show 0\n",
+    "# after a refused begin the record is what it was; after a refused read so are sides and T\nvalues fill 5\nvalues set 13 -5\nT 65535\nbegin\n\
+     rec examinations 3\nvalues fill 5\nbegin\nrec show 0\ncarve 0\nfile 5648030303\nread\nvalues set 13 -1\nbegin\nfinish\nbegin\nrec show 0\n\
+     values fill 5\nbegin\nrec show 0\ncarve 1\n",
+    "# autohash is for calls alone\nautohash 0\nvalues set 13 -5\nbegin\nlocal 0\nautohash 1\ncarve 1\nlocal 0\nread\nreadlayer 0\nrec show 0\nhash\n\
+     dump status\nprogram\nautohash 0\ncarve 1\nautohash 1\n",
+];
+
+/// Lines that a tool must refuse, each a script by itself: it prints nothing, and its status is 2.
+pub const MISTAKES: &[&str] = &[
+    "unknown",
+    "Begin",
+    "begin 1",
+    "open 0",
+    "finish 0",
+    "read 0",
+    "hash 0",
+    "program 0",
+    "carve",
+    "carve 1 2",
+    "carve -1",
+    "carve 4294967296",
+    "carve +1",
+    "carve 1.0",
+    "carve 0x1",
+    "carve one",
+    "carve -",
+    "carve 1000000000000000000000000000000000000000000",
+    "take",
+    "take -1",
+    "take 18446744073709551616",
+    "take 0 0",
+    "crossing 0",
+    "crossing 0 0 0",
+    "crossing 0 4294967296",
+    "crossing 0 -1",
+    "crossing 18446744073709551616 0",
+    "points",
+    "points 0",
+    "points 0 3 3",
+    "points -1 3",
+    "points 18446744073709551616 3",
+    "points 0 -1",
+    "points 0 1048577",
+    "points all 3",
+    "readlayer",
+    "readlayer -1",
+    "readlayer 18446744073709551616",
+    "readlayer 7 7",
+    "local",
+    "local g",
+    "local +1",
+    "local -1",
+    "local 100000000",
+    "local 1 1",
+    "sides 3 3",
+    "sides 3 3 3 3",
+    "sides -3 3 3",
+    "sides 18446744073709551616 3 3",
+    "rawsides 3 3",
+    "rawsides 3 3 3 3",
+    "T",
+    "T -1",
+    "T 65536",
+    "T 1 1",
+    "values",
+    "values fill",
+    "values fill 32768",
+    "values fill -32769",
+    "values fill 1 1",
+    "values set 27 0",
+    "values set -1 0",
+    "values set 0",
+    "values set 0 32768",
+    "values set 0 0 0",
+    "values list 1 x",
+    "values list 32768",
+    "values len",
+    "values len -1",
+    "values len 1048577",
+    "values len 1 1",
+    "values add 1",
+    "dist fill 2147483648",
+    "dist set 0 -2147483649",
+    "status fill 256",
+    "status set 0 -1",
+    "rec",
+    "rec a",
+    "rec a -1",
+    "rec a 18446744073709551616",
+    "rec a 3 3",
+    "rec d 3",
+    "rec T 65536",
+    "rec openings 4294967296",
+    "rec openings -1",
+    "rec removals 18446744073709551616",
+    "rec examinations -1",
+    "rec euler 2147483648",
+    "rec euler -2147483649",
+    "rec finished 256",
+    "rec finished -1",
+    "rec show",
+    "rec show 1",
+    "rec show 0 0",
+    "file 5",
+    "file 5g",
+    "file +5",
+    "file 56 48",
+    "append 123",
+    "append é0",
+    "autohash",
+    "autohash 2",
+    "autohash 1 1",
+    "dump",
+    "dump file",
+    "dump values 0",
+];
+
+/// The state that the tools start with, said: so that each script can stand anywhere.
+const START: &str =
+    "rec a 3\nrec b 3\nrec c 3\nrec T 0\nrec openings 0\nrec removals 0\nrec examinations 0\nrec euler 1\nrec finished 0\nfile\n";
+
+pub fn scripts() -> Vec<String> {
+    SCRIPTS.iter().map(|script| format!("{START}{script}")).collect()
+}

@@ -1,0 +1,126 @@
+//! The command line, taken apart by the table in help.rs.
+
+use crate::help::{overview, Command, COMMANDS};
+use crate::Failure;
+use std::ffi::{OsStr, OsString};
+use std::path::{Path, PathBuf};
+
+pub enum Request {
+    Help(String),
+    Run(Args),
+}
+
+pub struct Args {
+    pub command: &'static str,
+    pub files: Vec<PathBuf>,
+    pub output: Option<PathBuf>,
+    /// Options with their words, empty where the option takes none.
+    options: Vec<(&'static str, String)>,
+}
+
+impl Args {
+    pub fn parse(words: &[OsString]) -> Result<Request, Failure> {
+        let Some((first, rest)) = words.split_first() else {
+            return Err(Failure::unusable("no command is given; `wattle help` lists them"));
+        };
+        match first.to_string_lossy().as_ref() {
+            "help" | "--help" | "-h" => match rest.first() {
+                None => Ok(Request::Help(overview())),
+                Some(name) => Ok(Request::Help(command(name)?.help.to_string())),
+            },
+            "--version" => Ok(Request::Help(format!("wattle {}\n", env!("CARGO_PKG_VERSION")))),
+            _ => Args::of_command(command(first)?, rest),
+        }
+    }
+
+    fn of_command(command: &'static Command, words: &[OsString]) -> Result<Request, Failure> {
+        let mut args = Args { command: command.name, files: Vec::new(), output: None, options: Vec::new() };
+        let mut words = words.iter();
+        while let Some(word) = words.next() {
+            let text = word.to_string_lossy();
+            match text.as_ref() {
+                "--help" | "-h" => return Ok(Request::Help(command.help.to_string())),
+                "-o" => args.output = Some(PathBuf::from(value_of("-o", words.next())?)).filter(|o| o != Path::new("-")),
+                "--force" => args.options.push(("--force", String::new())),
+                "-" => args.files.push(PathBuf::from("-")),
+                option if option.starts_with('-') => args.add_option(command, option, &mut words)?,
+                _ => args.files.push(PathBuf::from(word)),
+            }
+        }
+        let (due, given) = (if command.files == 1 { "one file" } else { "two files" }, args.files.len());
+        if given != command.files {
+            let line = format!("{} takes {due}, not {given}; see `wattle help {}`", command.name, command.name);
+            return Err(Failure::unusable(line));
+        }
+        Ok(Request::Run(args))
+    }
+
+    fn add_option<'a>(&mut self, command: &Command, given: &str, words: &mut impl Iterator<Item = &'a OsString>) -> Result<(), Failure> {
+        let known = command.options.iter().find(|o| o.trim_end_matches('=') == given);
+        let Some(known) = known else {
+            return Err(Failure::unusable(format!("{0} has no option {given}; see `wattle help {0}`", command.name)));
+        };
+        let name = known.trim_end_matches('=');
+        let value = match known.ends_with('=') {
+            true => value_of(name, words.next())?.to_string_lossy().into_owned(),
+            false => String::new(),
+        };
+        self.options.push((name, value));
+        Ok(())
+    }
+
+    pub fn has(&self, option: &str) -> bool {
+        self.value(option).is_some()
+    }
+
+    /// The word given with an option; of several the last.
+    pub fn value(&self, option: &str) -> Option<&str> {
+        self.options.iter().rev().find(|(name, _)| *name == option).map(|(_, value)| value.as_str())
+    }
+
+    /// A number given with an option, within bounds.
+    pub fn number(&self, option: &str, least: usize, most: usize) -> Result<Option<usize>, Failure> {
+        let Some(word) = self.value(option) else { return Ok(None) };
+        match word.parse() {
+            Ok(number) if (least..=most).contains(&number) => Ok(Some(number)),
+            _ => Err(Failure::unusable(format!("{option} takes a number from {least} to {most}, not {word}"))),
+        }
+    }
+
+    /// Which of two formats is wanted: by an option, otherwise by the output's ending, otherwise the first.
+    pub fn format(&self, options: [&'static str; 2]) -> Result<&'static str, Failure> {
+        let [first, second] = options;
+        match (self.has(first), self.has(second)) {
+            (true, true) => Err(Failure::unusable(format!("{first} and {second} are given; choose one"))),
+            (true, false) => Ok(first),
+            (false, true) => Ok(second),
+            (false, false) => {
+                let ending = self.output.as_deref().and_then(Path::extension).map(|e| e.to_ascii_lowercase());
+                let named = options.into_iter().find(|o| ending.as_deref() == Some(OsStr::new(&o[2..])));
+                Ok(named.unwrap_or(first))
+            }
+        }
+    }
+
+    /// Refuses an output that is there already before any work is done, and one that is the grid file itself even with --force.
+    pub fn check_output(&self) -> Result<(), Failure> {
+        let Some(output) = &self.output else { return Ok(()) };
+        let same = |file: &PathBuf| matches!((file.canonicalize(), output.canonicalize()), (Ok(f), Ok(o)) if f == o);
+        if self.files.iter().any(same) {
+            return Err(Failure::unusable(format!("{} is the grid file itself, and is not overwritten", output.display())));
+        }
+        if output.exists() && !self.has("--force") {
+            return Err(Failure::unusable(format!("{} is there already; --force overwrites it", output.display())));
+        }
+        Ok(())
+    }
+}
+
+fn command(name: &OsStr) -> Result<&'static Command, Failure> {
+    let found = COMMANDS.iter().find(|c| OsStr::new(c.name) == name);
+    found.ok_or_else(|| Failure::unusable(format!("there is no command {}; `wattle help` lists them", name.to_string_lossy())))
+}
+
+fn value_of<'a>(option: &str, word: Option<&'a OsString>) -> Result<&'a OsString, Failure> {
+    word.ok_or_else(|| Failure::unusable(format!("{option} needs a word after it")))
+}

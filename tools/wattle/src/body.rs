@@ -1,0 +1,157 @@
+//! What carving leaves of a scan, and what each voxel has become.
+
+use crate::file::{is_negative, Scan};
+use crate::progress::Progress;
+use wattlerugby::{Grid, Opened, Refusal, GONE, MISSING};
+
+/// Examinations between two looks at the clock. Each call of carve checks the whole grid, so fewer would cost more.
+const SLICE: u32 = 200_000;
+
+/// What a voxel is in pictures. The first five are of a carved grid, in the order of their numbers in `volume`; the others of one that
+/// is refused for its values.
+#[derive(Clone, Copy, Debug, PartialEq, Eq)]
+#[repr(u8)]
+pub enum Kind {
+    Gone,
+    Inside,
+    Filled,
+    FilledMissing,
+    Opened,
+    Outside,
+    Negative,
+    Missing,
+    NegativeOnBorder,
+}
+
+impl Kind {
+    /// Every kind, by its number.
+    pub const ALL: [Kind; 9] = [
+        Kind::Gone,
+        Kind::Inside,
+        Kind::Filled,
+        Kind::FilledMissing,
+        Kind::Opened,
+        Kind::Outside,
+        Kind::Negative,
+        Kind::Missing,
+        Kind::NegativeOnBorder,
+    ];
+    /// The kinds of a carved grid and of a refused one, in the order of the key.
+    pub const CARVED: [Kind; 5] = [Kind::Inside, Kind::Filled, Kind::FilledMissing, Kind::Opened, Kind::Gone];
+    pub const REFUSED: [Kind; 4] = [Kind::Negative, Kind::NegativeOnBorder, Kind::Missing, Kind::Outside];
+
+    pub fn mark(self) -> char {
+        match self {
+            Kind::Gone | Kind::Outside => '.',
+            Kind::Inside | Kind::Negative => '#',
+            Kind::Filled => 'o',
+            Kind::FilledMissing | Kind::Missing => '?',
+            Kind::Opened => '+',
+            Kind::NegativeOnBorder => '!',
+        }
+    }
+
+    pub fn name(self) -> &'static str {
+        match self {
+            Kind::Gone => "gone",
+            Kind::Inside => "inside",
+            Kind::Filled => "filled",
+            Kind::FilledMissing => "filled, and the range point is missing",
+            Kind::Opened => "opened",
+            Kind::Outside => "measured outside",
+            Kind::Negative => "measured negative",
+            Kind::Missing => "missing",
+            Kind::NegativeOnBorder => "negative on the grid's edge",
+        }
+    }
+
+    /// Red, green, blue: colours that remain apart for the colour-blind (Okabe and Ito, 2008), on a light grey.
+    pub fn colour(self) -> [u8; 3] {
+        match self {
+            Kind::Gone | Kind::Outside => [0xE8, 0xEA, 0xED],
+            Kind::Inside | Kind::Negative => [0x00, 0x72, 0xB2],
+            Kind::Filled => [0xE6, 0x9F, 0x00],
+            Kind::FilledMissing | Kind::Missing => [0xCC, 0x79, 0xA7],
+            Kind::Opened => [0x00, 0x9E, 0x73],
+            Kind::NegativeOnBorder => [0xD5, 0x5E, 0x00],
+        }
+    }
+}
+
+/// A carved and finished grid.
+#[derive(Debug)]
+pub struct Body<'a> {
+    pub scan: &'a Scan,
+    pub grid: Grid,
+    pub kinds: Vec<Kind>,
+    pub openings: Vec<Opened>,
+}
+
+impl<'a> Body<'a> {
+    /// Carves to the end, as the program does.
+    pub fn carve(scan: &'a Scan) -> Result<Body<'a>, Refusal> {
+        let mut grid = Grid::begin(scan.sides, scan.allowed, &scan.values)?;
+        // finish makes all that is kept negative, so the inside is told now
+        let inside: Vec<bool> = grid.distances().iter().map(|&d| d < 0).collect();
+        let mut openings: Vec<Opened> = Vec::new();
+        let mut progress = Progress::new();
+        loop {
+            while grid.carve(SLICE)?.pending {
+                progress.show(|| format!("carving: examined {}", grid.record().examinations));
+            }
+            let Ok(opened) = grid.open() else { break };
+            openings.push(opened);
+            progress.show(|| format!("carving: opened {} of {} allowed", openings.len(), scan.allowed));
+        }
+        grid.finish()?;
+        let kinds = kinds(scan, &grid, &inside, &openings);
+        Ok(Body { scan, grid, kinds, openings })
+    }
+
+    pub fn count(&self, kind: Kind) -> usize {
+        self.kinds.iter().filter(|&&k| k == kind).count()
+    }
+
+    /// The line that the program prints.
+    pub fn line(&self) -> String {
+        let kept = self.grid.status().iter().filter(|&&s| s != GONE).count();
+        let r = self.grid.record();
+        format!("kept {kept} removed {} opened {} examined {} euler {}", r.removals, r.openings, r.examinations, r.euler)
+    }
+
+    /// Voxels that are measured negative and not of the inside.
+    pub fn discarded(&self) -> usize {
+        let stray = |(&v, &k): (&i16, &Kind)| is_negative(v) && k != Kind::Inside;
+        self.scan.values.iter().zip(&self.kinds).filter(|&pair| stray(pair)).count()
+    }
+
+    /// Openings where the range point is missing.
+    pub fn openings_over_missing(&self) -> usize {
+        self.openings.iter().filter(|o| self.scan.values[o.index] == MISSING).count()
+    }
+}
+
+fn kinds(scan: &Scan, grid: &Grid, inside: &[bool], openings: &[Opened]) -> Vec<Kind> {
+    let kind = |i: usize| match (grid.status()[i], inside[i], scan.values[i]) {
+        (GONE, ..) => Kind::Gone,
+        (_, true, _) => Kind::Inside,
+        (_, false, MISSING) => Kind::FilledMissing,
+        _ => Kind::Filled,
+    };
+    let mut kinds: Vec<Kind> = (0..inside.len()).map(kind).collect();
+    for opened in openings {
+        kinds[opened.index] = Kind::Opened;
+    }
+    kinds
+}
+
+/// The values of a grid that begin refuses.
+pub fn kinds_of_values(scan: &Scan) -> Vec<Kind> {
+    let kind = |(i, &value): (usize, &i16)| match value {
+        MISSING => Kind::Missing,
+        v if v >= 0 => Kind::Outside,
+        _ if scan.on_border(i) => Kind::NegativeOnBorder,
+        _ => Kind::Negative,
+    };
+    scan.values.iter().enumerate().map(kind).collect()
+}

@@ -1,0 +1,232 @@
+//! `wattle explain`: why a file is refused, or what its result means. docs/RESULT.md has the same at length.
+
+use crate::args::Args;
+use crate::body::{Body, Kind};
+use crate::carve::PROGRAM_SIDE;
+use crate::file::{is_negative, Scan, Source, HEADER, LAYER_HEAD};
+use crate::{Answer, Failure, Status};
+use wattlerugby::{Refusal, Sides, MISSING};
+
+pub fn explain(args: &Args) -> Result<Answer, Failure> {
+    let source = Source::open(&args.files[0])?;
+    let name = source.name.clone();
+    let (layers, _) = source.layers();
+    let refused = match source.read() {
+        Err((source, refused)) => (refused, unreadable(&source, refused)),
+        Ok(scan) => match Body::carve(&scan) {
+            Ok(body) => return Ok(Answer::text(taken(&body), Status::Done)),
+            Err(refused) => (refused, unfit(&scan, &layers, refused)),
+        },
+    };
+    let (number, (place, advice)) = refused;
+    let text = format!("{name} is {number}.\nWhere: {place}\nWhat to do: {advice}\n");
+    Ok(Answer::text(text, Status::Refused))
+}
+
+// ---- a file that read refuses
+
+/// Where it is wrong, and what to do.
+fn unreadable(source: &Source, refused: Refusal) -> (String, String) {
+    let (found, next) = source.layers();
+    let length = source.bytes.len();
+    match refused {
+        Refusal::SHORT if length < HEADER => {
+            (format!("the file has {length} bytes, and the header alone has {HEADER}."), "write the file again.".to_string())
+        }
+        Refusal::MARK if !source.bytes.starts_with(b"VH") => (
+            format!("bytes 0 and 1 are {}, and a grid file begins with 56 48 hex.", hex(&source.bytes[..2])),
+            "see that this is a grid file and not some other one.".to_string(),
+        ),
+        Refusal::SIDE => (wrong_sides(source.sides()), "cut the grid, or measure more voxels, and write it again.".to_string()),
+        Refusal::SHORT => short(source, found.len(), next),
+        Refusal::MARK => wrong_mark(source, &found, next),
+        // read_layer takes a layer that came before, so it is looked for among those that it took
+        Refusal::LAYER_TWICE => twice(&found),
+        Refusal::BYTES_LEFT => (
+            format!("the last layer ends before byte {next}, and more bytes follow; {}.", due_length(source.sides())),
+            format!("cut the file after its first {next} bytes, or see whether the third side, byte 4, is right."),
+        ),
+        // read is lent a buffer of the right length, so 23 is all that is left
+        _ => wrong_layer(source, found.len(), next),
+    }
+}
+
+fn hex(bytes: &[u8]) -> String {
+    bytes.iter().map(|b| format!("{b:02X}")).collect::<Vec<_>>().join(" ") + " hex"
+}
+
+fn record_length(sides: Sides) -> usize {
+    LAYER_HEAD + 2 * sides.a * sides.b
+}
+
+fn due_length(sides: Sides) -> String {
+    let Sides { a, b, c } = sides;
+    format!("with sides {a} x {b} x {c} a file has {} bytes", HEADER + c * record_length(sides))
+}
+
+fn wrong_sides(sides: Sides) -> String {
+    let named = [("a", 2, sides.a), ("b", 3, sides.b), ("c", 4, sides.c)];
+    let wrong = named.iter().filter(|(_, _, side)| !(3..=64).contains(side));
+    let told: Vec<String> = wrong.map(|(name, byte, side)| format!("side {name}, byte {byte}, is {side}")).collect();
+    format!("{}; a side is 3 to 64 voxels.", told.join("; "))
+}
+
+fn short(source: &Source, found: usize, next: usize) -> (String, String) {
+    let (sides, left) = (source.sides(), source.bytes.len() - next);
+    let place = format!(
+        "layer record {} of {} begins at byte {next} and has {} bytes, but {left} are left. The file has {} bytes; {}.",
+        found + 1,
+        sides.c,
+        record_length(sides),
+        source.bytes.len(),
+        due_length(sides)
+    );
+    (place, "write the file again, whole; or see whether the sides, bytes 2 to 4, are right.".to_string())
+}
+
+fn wrong_mark(source: &Source, found: &[(usize, u8)], next: usize) -> (String, String) {
+    let mark = hex(&source.bytes[next..next + 2]);
+    let before = match found.last() {
+        Some((start, z)) => format!("the record before it, layer z = {z} from byte {start}, may have a wrong length"),
+        None => "it is the first after the header".to_string(),
+    };
+    let place = format!("layer record {} begins at byte {next} with {mark}, and 56 4C hex is due; {before}.", found.len() + 1);
+    (place, "see that each record has its mark, its z, and as many values as the first two sides say.".to_string())
+}
+
+fn wrong_layer(source: &Source, found: usize, next: usize) -> (String, String) {
+    let c = source.sides().c;
+    let z = source.bytes[next + 2];
+    let place = format!("layer record {}, from byte {next}: byte {} says z = {z}, and there are {c} layers.", found + 1, next + 2);
+    (place, format!("number the layers 0 to {}, each once.", c - 1))
+}
+
+fn twice(found: &[(usize, u8)]) -> (String, String) {
+    let again = |i: &usize| found[..*i].iter().any(|(_, z)| *z == found[*i].1);
+    let second = (0..found.len()).find(again).expect("a layer came twice where read refuses it for that");
+    let (start, z) = found[second];
+    let first = found.iter().find(|(_, other)| *other == z).expect("it came before").0;
+    let place = format!("layer z = {z} comes in the record from byte {first} and again in the one from byte {start}, byte {}.", start + 2);
+    (place, "number the layers 0 to c - 1, each once.".to_string())
+}
+
+// ---- a grid that begin refuses
+
+/// Where it is wrong, and what to do.
+pub fn unfit(scan: &Scan, layers: &[(usize, u8)], refused: Refusal) -> (String, String) {
+    match refused {
+        Refusal::BORDER_NEGATIVE => on_the_edge(scan, layers),
+        _ => nothing_negative(scan, layers),
+    }
+}
+
+/// The voxel with its value, and the byte of the file where that stands.
+fn value_at(scan: &Scan, layers: &[(usize, u8)], index: usize) -> String {
+    let [.., z] = scan.place(index);
+    let record = layers.iter().find(|(_, layer)| usize::from(*layer) == z).expect("read found every layer").0;
+    let byte = record + LAYER_HEAD + 2 * (index % (scan.sides.a * scan.sides.b));
+    format!("voxel {}, with {}: byte {byte}, in layer z = {z}", scan.voxel(index), scan.values[index])
+}
+
+fn on_the_edge(scan: &Scan, layers: &[(usize, u8)]) -> (String, String) {
+    let on_edge = |&i: &usize| is_negative(scan.values[i]) && scan.on_border(i);
+    let found: Vec<usize> = (0..scan.values.len()).filter(on_edge).collect();
+    let Sides { a, b, c } = scan.sides;
+    let faces = [("x", 0, 0), ("x", 0, a - 1), ("y", 1, 0), ("y", 1, b - 1), ("z", 2, 0), ("z", 2, c - 1)];
+    let told = faces.iter().filter_map(|(name, axis, at)| {
+        let count = found.iter().filter(|&&i| scan.place(i)[*axis] == *at).count();
+        (count > 0).then(|| format!("{count} at {name} = {at}"))
+    });
+    let place = format!(
+        "{} on the grid's edge ({}). The first is {}.",
+        if found.len() == 1 { "1 negative voxel lies".to_string() } else { format!("{} negative voxels lie", found.len()) },
+        told.collect::<Vec<_>>().join(", "),
+        value_at(scan, layers, found[0])
+    );
+    (place, "leave a rim of one voxel or more around the body, measured outside or missing. `wattle look` marks these voxels.".to_string())
+}
+
+fn nothing_negative(scan: &Scan, layers: &[(usize, u8)]) -> (String, String) {
+    let missing = scan.values.iter().filter(|&&v| v == MISSING).count();
+    let measured = (0..scan.values.len()).filter(|&i| scan.values[i] != MISSING);
+    let place = match measured.min_by_key(|&i| scan.values[i]) {
+        Some(least) => format!("{missing} of {} values are missing; the least is at {}.", scan.values.len(), value_at(scan, layers, least)),
+        None => format!("all {missing} values are missing."),
+    };
+    (place, "look at the sign: negative is inside the body. Look also whether the body lies in the grid at all.".to_string())
+}
+
+// ---- a grid that is taken
+
+fn taken(body: &Body) -> String {
+    let scan = body.scan;
+    let Sides { a, b, c } = scan.sides;
+    let mut text = format!("{} is taken: {} voxels, T = {}.\n{}\n", scan.name, scan.size(), scan.allowed, body.line());
+    for sentence in meaning(body) {
+        text += &format!("- {sentence}\n");
+    }
+    if a.max(b).max(c) > PROGRAM_SIDE {
+        text += &format!(
+            "- The program carve prints `refused 1` for it, since it takes {PROGRAM_SIDE} voxels a side at most; the library takes 64.\n"
+        );
+    }
+    text
+}
+
+/// `1 voxel`, `2 voxels`.
+fn some(count: usize, what: &str) -> String {
+    format!("{count} {what}{}", if count == 1 { "" } else { "s" })
+}
+
+/// What the result says about the scan.
+pub fn meaning(body: &Body) -> Vec<String> {
+    let mut told = vec![closed(body), filled(body)];
+    let missing = body.count(Kind::FilledMissing);
+    if missing > 0 {
+        let voxels = some(missing, "filled voxel");
+        told.push(format!("The range point is missing in {voxels}: assumed there, not measured. Scan there again."));
+    }
+    let unseen = body.openings_over_missing();
+    if unseen > 0 {
+        told.push(format!(
+            "{} made where the range point is missing: a tunnel there is not seen, only not excluded.",
+            was(unseen, "opening")
+        ));
+    }
+    let stray = body.discarded();
+    if stray > 0 {
+        told.push(format!("{} measured negative apart from the largest group, and not counted as inside.", was(stray, "voxel")));
+    }
+    told
+}
+
+/// `1 voxel was`, `2 voxels were`.
+fn was(count: usize, what: &str) -> String {
+    some(count, what) + if count == 1 { " was" } else { " were" }
+}
+
+fn filled(body: &Body) -> String {
+    match body.count(Kind::Filled) + body.count(Kind::FilledMissing) {
+        0 if body.scan.allowed == 0 => "Nothing was filled: the scan is closed as it stands.".to_string(),
+        0 => "Nothing was filled: the body is the inside as it was scanned.".to_string(),
+        filled => format!("{} filled: kept in the body, though not measured inside.", was(filled, "voxel")),
+    }
+}
+
+fn closed(body: &Body) -> String {
+    let r = body.grid.record();
+    let tunnels = |least: i32| some(least.max(0) as usize, "tunnel");
+    match (scan_closed(body), r.openings == u32::from(r.allowed)) {
+        _ if r.allowed == 0 => "T is 0, so the body is closed, whatever was scanned: in one piece, without a tunnel.".to_string(),
+        (_, true) => format!(
+            "Every opening allowed is made (14), so a further one might remove more. The body has {} or more. Allow more openings, in bytes 5 and 6, to know.",
+            tunnels(1 - r.euler)
+        ),
+        (true, false) => "Nothing is left to open (15): the body is in one piece, without a tunnel. The scan is closed.".to_string(),
+        (false, false) => format!("Nothing is left to open (15): the body is in one piece, with {}.", tunnels(1 - r.euler)),
+    }
+}
+
+fn scan_closed(body: &Body) -> bool {
+    body.grid.record().euler == 1
+}

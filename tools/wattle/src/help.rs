@@ -1,0 +1,125 @@
+//! The commands, their options, and what the help says.
+
+/// A command's name, how many files it takes, its own options, and its help. An option whose name ends in `=` takes a word.
+pub struct Command {
+    pub name: &'static str,
+    pub files: usize,
+    pub options: &'static [&'static str],
+    pub help: &'static str,
+}
+
+pub const COMMANDS: &[Command] = &[
+    Command {
+        name: "look",
+        files: 1,
+        options: &["--png", "--layer=", "--scale="],
+        help: "wattle look FILE [--layer Z] [--png [--scale N]] [-o OUT]
+
+Shows what carving leaves of a grid, layer by layer, x to the right and y down, with a key and counts. Where the grid is refused
+for its values, these are shown in its place, with those that it is refused for marked.
+
+  --layer Z   that layer alone
+  --png       a picture in place of text
+  --scale N   pixels along a voxel in the picture, 1 to 32; chosen by the grid's size otherwise
+",
+    },
+    Command {
+        name: "explain",
+        files: 1,
+        options: &[],
+        help: "wattle explain FILE [-o OUT]
+
+Says why a grid file is refused: the number, the byte, the layer or the voxel, and what to do. Where it is taken, says what its
+result means: how much was filled, whether range points are missing there, and what can be said about tunnels.
+",
+    },
+    Command {
+        name: "points",
+        files: 1,
+        options: &["--ply", "--xyz"],
+        help: "wattle points FILE [--ply | --xyz] [-o OUT]
+
+The points where the body's surface crosses from voxel to voxel, for CloudCompare, MeshLab and others. Coordinates are in voxels:
+the centre of voxel (x, y, z) is the point (x, y, z).
+
+  --ply   with colours, and `scalar_measured` 1 where both voxels were measured, 0 where the surface is assumed (the default)
+  --xyz   a line `x y z` for each point
+
+Without either, the ending of OUT decides. With 64 voxels along each side this can take a minute.
+",
+    },
+    Command {
+        name: "volume",
+        files: 1,
+        options: &["--vtk", "--nrrd", "--field="],
+        help: "wattle volume FILE [--vtk | --nrrd] [--field FIELD] [-o OUT]
+
+The carved grid as a volume, for ParaView, 3D Slicer and others, a voxel a sample.
+
+  --vtk          legacy VTK, with all fields unless one is named (the default)
+  --nrrd         NRRD, which holds one field: `distances` unless another is named
+  --field FIELD  values      as measured, -32768 where the range point is missing
+                 distances   worked distances, negative in the body: its surface is the level 0
+                 status      0 gone, 1 kept
+                 kinds       0 gone, 1 inside, 2 filled, 3 filled over a missing range point, 4 opened
+
+Without --vtk or --nrrd, the ending of OUT decides.
+",
+    },
+    Command {
+        name: "compare",
+        files: 2,
+        options: &["--all"],
+        help: "wattle compare A B [--all] [-o OUT]
+
+Says which voxels of two grid files differ, in their values and in what carving leaves of them. The exit status is 0 where both are
+the same, 1 where they differ, 2 where a file cannot be read as a grid.
+
+  --all   every voxel that differs; otherwise the first 20 of each list
+",
+    },
+    Command {
+        name: "page",
+        files: 1,
+        options: &[],
+        help: "wattle page FILE [-o OUT]
+
+One HTML page that opens in any browser without a network: layers to scroll through, and the surface's points to turn.
+",
+    },
+    Command {
+        name: "carve",
+        files: 1,
+        options: &["--large"],
+        help: "wattle carve FILE [--large] [-o OUT]
+
+Prints the line that the program `carve` prints, with an exit status: 0 carved, 1 refused, 2 usage or a file that cannot be read.
+As the program does, it refuses a side over 24 with number 1.
+
+  --large   sides up to 64, as all other commands take them
+",
+    },
+];
+
+/// What `wattle help` prints.
+pub fn overview() -> String {
+    format!(
+        "wattle {}: looks at grid files and at the bodies carved from them
+
+  wattle look FILE       layers as text, or as a picture (--png)
+  wattle explain FILE    why a file is refused, or what its result means
+  wattle points FILE     the surface's points: PLY, XYZ
+  wattle volume FILE     values, distances, status: VTK, NRRD
+  wattle compare A B     which voxels differ
+  wattle page FILE       a page to look at it in a browser, offline
+  wattle carve FILE      the program's line, with an exit status
+  wattle help COMMAND    more about a command
+
+FILE may be -, the standard input. With -o OUT the answer goes to a file, which is not overwritten unless --force is given;
+otherwise, or with -o -, it goes to the standard output. Sides may be 3 to 64 voxels. What takes long shows its progress on a terminal.
+
+Exit status: 0 done; 1 the grid is refused (compare: the two differ); 2 usage, or a file cannot be read or written.
+",
+        env!("CARGO_PKG_VERSION")
+    )
+}

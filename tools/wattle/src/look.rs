@@ -1,0 +1,81 @@
+//! `wattle look`: the layers, as text or as a picture.
+
+use crate::args::Args;
+use crate::body::{kinds_of_values, Body, Kind};
+use crate::file::Scan;
+use crate::{picture, Answer, Failure, Status};
+use wattlerugby::Refusal;
+
+/// Columns of text that the layers beside each other may take.
+const COLUMNS: usize = 100;
+
+/// What is shown of a grid: what carving leaves of it, or its values where begin refuses it.
+pub struct View<'a> {
+    pub scan: &'a Scan,
+    pub kinds: Vec<Kind>,
+    /// The kinds that can occur, in the order of the key.
+    pub key: &'static [Kind],
+    /// The program's line, or the refusal in words.
+    pub line: String,
+    pub status: Status,
+}
+
+impl<'a> View<'a> {
+    pub fn new(scan: &'a Scan, body: &Result<Body, Refusal>) -> View<'a> {
+        match body {
+            Ok(body) => View { scan, kinds: body.kinds.clone(), key: &Kind::CARVED, line: body.line(), status: Status::Done },
+            Err(refused) => {
+                View { scan, kinds: kinds_of_values(scan), key: &Kind::REFUSED, line: refused.to_string(), status: Status::Refused }
+            }
+        }
+    }
+
+    /// The layers with their z: all of them, or one.
+    pub fn layers(&self, only: Option<usize>) -> Vec<(usize, &[Kind])> {
+        let all = self.kinds.chunks(self.scan.sides.a * self.scan.sides.b).enumerate();
+        all.filter(|(z, _)| only.is_none_or(|o| o == *z)).collect()
+    }
+
+    pub fn title(&self) -> String {
+        format!("{}: {}, T = {}", self.scan.name, self.scan.size(), self.scan.allowed)
+    }
+
+    pub fn count(&self, kind: Kind) -> usize {
+        self.kinds.iter().filter(|&&k| k == kind).count()
+    }
+
+    fn key_with_counts(&self) -> String {
+        let entries = self.key.iter().map(|&kind| format!("{} {}: {}", kind.mark(), kind.name(), self.count(kind)));
+        entries.collect::<Vec<_>>().join("   ")
+    }
+}
+
+pub fn look(args: &Args) -> Result<Answer, Failure> {
+    let scan = Scan::open(&args.files[0])?;
+    let only = args.number("--layer", 0, scan.sides.c - 1)?;
+    let scale = args.number("--scale", 1, 32)?;
+    let view = View::new(&scan, &Body::carve(&scan));
+    if args.has("--png") {
+        let bytes = picture::png(&view, only, scale);
+        return Ok(Answer { bytes, binary: true, status: view.status });
+    }
+    let text = format!("{}\n{}\n\n{}\n{}", view.title(), view.line, view.key_with_counts(), layers_as_text(&view, only));
+    Ok(Answer::text(text, view.status))
+}
+
+/// The layers, as many beside each other as there is room for.
+fn layers_as_text(view: &View, only: Option<usize>) -> String {
+    let (a, b) = (view.scan.sides.a, view.scan.sides.b);
+    let width = a.max("z = 63".len());
+    let line = |words: Vec<String>| format!("\n{}", words.join("  ").trim_end());
+    let mut text = String::new();
+    for together in view.layers(only).chunks((COLUMNS / (width + 2)).max(1)) {
+        text += &line(together.iter().map(|(z, _)| format!("{:width$}", format!("z = {z}"))).collect());
+        for y in 0..b {
+            let row = |layer: &[Kind]| layer[a * y..a * (y + 1)].iter().map(|k| k.mark()).collect::<String>();
+            text += &line(together.iter().map(|(_, layer)| format!("{:width$}", row(layer))).collect());
+        }
+        text += "\n";
+    }
+    text
+}

@@ -1,0 +1,296 @@
+//! Files that are refused, words that are wrong, and files that are not to be overwritten.
+
+mod common;
+
+use common::{fed, path, root, sample, status, text, wattle, wattle_on, Seed};
+use std::io::Read;
+use std::process::{Command, Stdio};
+
+fn sphere() -> Vec<u8> {
+    std::fs::read(sample("sphere.grid")).unwrap()
+}
+
+/// Bytes of a layer record of the sphere, whose first begins behind the header.
+const RECORD: usize = 3 + 2 * 12 * 12;
+
+fn with(changes: &[(usize, u8)]) -> Vec<u8> {
+    let mut file = sphere();
+    changes.iter().for_each(|&(at, byte)| file[at] = byte);
+    file
+}
+
+/// What explain says: a number, and words that have to be there.
+fn explained(file: &[u8], number: u8, words: &[&str]) {
+    let output = wattle_on(&["explain", "-"], file);
+    let told = text(&output.stdout);
+    assert_eq!((status(&output), text(&output.stderr).as_str()), (1, ""), "{told}");
+    assert!(told.starts_with(&format!("the standard input is refused {number}: ")), "{told}");
+    assert_eq!(told.lines().count(), 3, "a line each for what, where and what to do: {told}");
+    assert!(told.contains("\nWhere: ") && told.contains("\nWhat to do: "), "{told}");
+    for word in words {
+        assert!(told.contains(word), "{word} is not in {told}");
+    }
+}
+
+#[test]
+fn explain_finds_the_byte() {
+    let second = 7 + RECORD;
+    explained(&sphere()[..5], 21, &["the file has 5 bytes, and the header alone has 7"]);
+    explained(&[], 21, &["the file has 0 bytes"]);
+    explained(&with(&[(0, 0x50), (1, 0x4B)]), 22, &["bytes 0 and 1 are 50 4B hex"]);
+    explained(&with(&[(2, 64), (3, 2), (4, 65)]), 1, &["Where: side b, byte 3, is 2; side c, byte 4, is 65; a side is 3 to 64"]);
+    let cut = "layer record 2 of 12 begins at byte 298 and has 291 bytes, but 290 are left. The file has 588 bytes";
+    explained(&sphere()[..second + 290], 21, &[cut, "with sides 12 x 12 x 12 a file has 3499 bytes"]);
+    explained(&sphere()[..second], 21, &["begins at byte 298", "but 0 are left"]);
+    explained(&with(&[(second, 0x41)]), 22, &["layer record 2 begins at byte 298 with 41 4C hex", "layer z = 0 from byte 7"]);
+    explained(&with(&[(7, 0), (8, 0)]), 22, &["layer record 1 begins at byte 7 with 00 00 hex", "the first after the header"]);
+    explained(&with(&[(second + 2, 12)]), 23, &["layer record 2, from byte 298: byte 300 says z = 12, and there are 12 layers"]);
+    explained(&with(&[(second + 2, 0)]), 24, &["layer z = 0 comes in the record from byte 7 and again in the one from byte 298, byte 300"]);
+    explained(&[sphere(), vec![0; 3]].concat(), 25, &["the last layer ends before byte 3499", "cut the file after its first 3499 bytes"]);
+}
+
+#[test]
+fn explain_finds_the_voxel() {
+    let inner = |x: usize, y: usize, z: usize| if (x, y, z) == (2, 1, 1) { -7 } else { 6 };
+    let edge = |x: usize, y: usize, z: usize| if (x, y, z) == (3, 2, 2) { -9 } else { inner(x, y, z) };
+    // layers in falling z: the byte is that of the file, not of the index
+    let rising = common::grid_file([4, 4, 3], 0, edge);
+    let record = 3 + 2 * 16;
+    let falling: Vec<u8> = [&rising[..7], &rising[7 + 2 * record..], &rising[7 + record..7 + 2 * record], &rising[7..7 + record]].concat();
+    let byte = 7 + 3 + 2 * (3 + 4 * 2);
+    assert_eq!(i16::from_le_bytes([falling[byte], falling[byte + 1]]), -9);
+    let place = format!("1 negative voxel lies on the grid's edge (1 at x = 3, 1 at z = 2). The first is voxel (3, 2, 2), index 43, with -9: byte {byte}, in layer z = 2");
+    explained(&falling, 3, &[&place]);
+    let none = common::grid_file([4, 4, 3], 0, |x, y, z| if inner(x, y, z) < 0 { 0 } else { i16::MIN });
+    explained(&none, 4, &["47 of 48 values are missing; the least is at voxel (2, 1, 1), index 22, with 0"]);
+    explained(&common::grid_file([3, 3, 3], 0, |_, _, _| i16::MIN), 4, &["all 27 values are missing"]);
+}
+
+#[test]
+fn the_meaning_of_the_last_answer_of_open() {
+    let ring = |allowed: u16| {
+        common::grid_file([5, 5, 3], allowed, |x, y, z| if z == 1 && x.abs_diff(2).max(y.abs_diff(2)) == 1 { -4 } else { 4 })
+    };
+    let told = |file: &[u8]| text(&wattle_on(&["explain", "-"], file).stdout);
+    assert!(told(&ring(0)).contains("T is 0, so the body is closed") && told(&ring(0)).contains("1 voxel was filled"));
+    assert!(told(&ring(1)).contains("(14)") && told(&ring(1)).contains("1 tunnel or more"));
+    assert!(told(&ring(2)).contains("(15): the body is in one piece, with 1 tunnel."));
+    let block =
+        |allowed: u16| common::grid_file([5, 5, 5], allowed, |x, y, z| if [x, y, z].iter().all(|p| (1..4).contains(p)) { -4 } else { 4 });
+    assert!(told(&block(2)).contains("(15): the body is in one piece, without a tunnel. The scan is closed."));
+    assert!(told(&block(0)).contains("Nothing was filled: the scan is closed as it stands."));
+    // a hole over a missing point, and a negative voxel by itself
+    let mut file = ring(2);
+    let at = |x: usize, y: usize, z: usize| 7 + z * (3 + 50) + 3 + 2 * (x + 5 * y);
+    (file[at(2, 2, 1)], file[at(2, 2, 1) + 1]) = (0, 0x80);
+    assert!(told(&file).contains("1 opening was made where the range point is missing"), "{}", told(&file));
+    let stray = common::grid_file([7, 5, 3], 0, |x, y, z| if z == 1 && y == 2 && [1, 2, 5].contains(&x) { -4 } else { 4 });
+    assert!(told(&stray).contains("1 voxel was measured negative apart from the largest group"), "{}", told(&stray));
+}
+
+/// Damage of one to three bytes, now and then with a part cut off or added.
+fn damaged(seed: &mut Seed) -> Vec<u8> {
+    let names = ["sphere.grid", "torus-1.grid", "wet-glass.grid"];
+    let mut file = std::fs::read(sample(names[seed.below(3)])).unwrap();
+    for _ in 0..seed.below(3) + 1 {
+        let records = 7 + (3 + 2 * file[2] as usize * file[3] as usize) * seed.below(9);
+        let at = [seed.below(7), (records + seed.below(3)).min(file.len() - 1), seed.below(file.len())][seed.below(3)];
+        file[at] = [seed.below(30) as u8, seed.below(256) as u8, file[at] ^ 1][seed.below(3)];
+    }
+    match seed.below(6) {
+        0 => file.truncate(seed.below(file.len())),
+        1 => file.push(0),
+        _ => {}
+    }
+    file
+}
+
+#[test]
+fn damaged_files_get_the_programs_line() {
+    let program = root().join("target/bin/carve");
+    if !program.exists() {
+        common::left_out("damaged files were not compared with the program, which is not built");
+    }
+    let (mut seed, mut numbers) = (Seed(5), std::collections::BTreeSet::new());
+    for _ in 0..400 {
+        let file = damaged(&mut seed);
+        let carve = wattle_on(&["carve", "-"], &file);
+        let line = text(&carve.stdout);
+        let number = line.strip_prefix("refused ").map(|n| n.trim_end().to_string());
+        assert_eq!((status(&carve), carve.stderr.len()), (i32::from(number.is_some()), 0));
+        if program.exists() {
+            assert_eq!(line, text(&fed(&mut Command::new(&program), &file).stdout));
+        }
+        let explain = wattle_on(&["explain", "-"], &file);
+        let told = text(&explain.stdout);
+        // the program refuses a side over 24, which the library takes, so explain may know a later reason
+        match (&number, status(&explain)) {
+            (None, 0) => assert!(told.contains(&line), "{told}"),
+            (Some(n), 0 | 1) if n == "1" => {}
+            (Some(n), 1) => assert!(told.starts_with(&format!("the standard input is refused {n}: ")), "{line}{told}"),
+            other => panic!("{other:?}: {line}{told}"),
+        }
+        numbers.extend(number);
+    }
+    assert!(["1", "21", "22", "23", "24", "25"].iter().all(|n| numbers.contains(*n)), "the damage is of many kinds: {numbers:?}");
+}
+
+#[test]
+fn the_programs_limit() {
+    let large = |side: usize| common::grid_file([side, 5, 5], 0, common::sphere([side, 5, 5], 1.2));
+    let run = |words: &[&str], side| {
+        let output = wattle_on(words, &large(side));
+        (status(&output), text(&output.stdout))
+    };
+    assert_eq!(run(&["carve", "-"], 24).0, 0);
+    assert_eq!(run(&["carve", "-"], 25), (1, "refused 1\n".to_string()));
+    let (ended, line) = run(&["carve", "--large", "-"], 25);
+    assert!(ended == 0 && line.starts_with("kept "), "{line}");
+    let (ended, told) = run(&["explain", "-"], 64);
+    assert!(ended == 0 && told.contains("The program carve prints `refused 1` for it"), "{told}");
+    assert!(run(&["look", "-"], 64).1.contains("z = 4"));
+    // the longest file there is, and one byte more
+    let folder = common::folder("longest");
+    let mut file = common::grid_file([64, 64, 64], 0, common::sphere([64, 64, 64], 3.0));
+    for (name, number) in [("whole", 0), ("longer", 1)] {
+        let grid = folder.join(name);
+        std::fs::write(&grid, &file).unwrap();
+        let outputs = [wattle(&["carve", "--large", path(&grid)]), wattle_on(&["carve", "--large", "-"], &file)];
+        for output in outputs {
+            assert_eq!((status(&output), text(&output.stdout) == "refused 25\n"), (number, number == 1));
+        }
+        file.push(0);
+    }
+    // the mark comes before the sides, and the sides before the layers
+    let mut file = large(25);
+    file[7] = 0;
+    assert_eq!(text(&wattle_on(&["carve", "-"], &file).stdout), "refused 1\n");
+    file[0] = 0;
+    assert_eq!(text(&wattle_on(&["carve", "-"], &file).stdout), "refused 22\n");
+    assert_eq!(text(&wattle_on(&["carve", "-"], &large(25)[..6]).stdout), "refused 21\n");
+}
+
+// ---- words and files
+
+/// One line on the standard error, nothing on the standard output.
+fn one_line(words: &[&str], ended: i32, part: &str) {
+    let output = wattle(words);
+    let line = text(&output.stderr);
+    assert_eq!((status(&output), text(&output.stdout).as_str()), (ended, ""), "{words:?}: {line}");
+    assert!(line.starts_with("wattle: ") && line.lines().count() == 1 && line.contains(part), "{words:?}: {line}");
+}
+
+#[test]
+fn wrong_words_get_one_line() {
+    let (good, refused) = (sample("sphere.grid"), sample("refused.grid"));
+    let (good, refused) = (path(&good), path(&refused));
+    one_line(&[], 2, "no command is given");
+    one_line(&["loook", good], 2, "there is no command loook");
+    one_line(&["look"], 2, "look takes one file, not 0");
+    one_line(&["compare", good], 2, "compare takes two files, not 1");
+    one_line(&["look", good, "--ply"], 2, "look has no option --ply");
+    one_line(&["look", good, "--layer"], 2, "--layer needs a word");
+    one_line(&["look", good, "--layer", "12"], 2, "--layer takes a number from 0 to 11, not 12");
+    one_line(&["look", good, "--png", "--scale", "x"], 2, "--scale takes a number from 1 to 32, not x");
+    one_line(&["points", good, "--ply", "--xyz"], 2, "choose one");
+    one_line(&["volume", good, "--field", "colour"], 2, "there is no field colour");
+    one_line(&["look", "/no/such.grid"], 2, "/no/such.grid cannot be read");
+    one_line(&["look", path(&root())], 2, "cannot be read");
+    one_line(&["compare", good, path(&root().join("README.md"))], 2, "refused 22");
+    for command in ["look", "points", "volume", "page"] {
+        one_line(&[command, path(&root().join("README.md"))], 1, "refused 22");
+    }
+    one_line(&["points", refused], 1, "refused 3");
+    one_line(&["volume", refused], 1, "refused 3");
+}
+
+#[test]
+fn nothing_is_overwritten_unasked() {
+    let folder = common::folder("overwrite");
+    let (grid, out) = (folder.join("sphere.grid"), folder.join("out"));
+    std::fs::copy(sample("sphere.grid"), &grid).unwrap();
+    for command in ["look", "explain", "points", "volume", "page", "carve"] {
+        std::fs::write(&out, "mine").unwrap();
+        one_line(&[command, path(&grid), "-o", path(&out)], 2, "--force overwrites it");
+        assert_eq!(std::fs::read(&out).unwrap(), b"mine");
+        let done = wattle(&[command, path(&grid), "--force", "-o", path(&out)]);
+        assert_eq!((status(&done), done.stdout.len()), (0, 0));
+        assert!(std::fs::read(&out).unwrap() == wattle(&[command, path(&grid)]).stdout, "{command}");
+        one_line(&[command, path(&grid), "--force", "-o", path(&folder.join("./sphere.grid"))], 2, "is the grid file itself");
+        assert_eq!(std::fs::read(&grid).unwrap(), sphere());
+    }
+    one_line(&["look", path(&grid), "-o", path(&folder.join("none/out"))], 2, "cannot be written");
+    one_line(&["look", path(&grid), "--force", "-o", "/dev/full"], 2, "cannot be written");
+    assert_eq!(wattle(&["carve", path(&grid), "-o", "-"]).stdout, wattle(&["carve", path(&grid)]).stdout);
+    // a link that leads nowhere is there, and what it names is not made
+    std::os::unix::fs::symlink(folder.join("elsewhere"), folder.join("link")).unwrap();
+    one_line(&["carve", path(&grid), "-o", path(&folder.join("link"))], 2, "--force overwrites it");
+    assert!(!folder.join("elsewhere").exists());
+    // the output is looked at before the work
+    one_line(&["points", path(&sample("refused.grid")), "-o", path(&out)], 2, "--force overwrites it");
+    // a refused grid leaves no file behind
+    one_line(&["points", path(&sample("refused.grid")), "-o", path(&folder.join("points.ply"))], 1, "refused 3");
+    assert!(!folder.join("points.ply").exists());
+}
+
+/// A reader that has seen enough is no failure; a full disk is one.
+#[test]
+fn the_standard_output_may_end_early() {
+    let folder = common::folder("early");
+    let grid = folder.join("large.grid");
+    std::fs::write(&grid, common::grid_file([64, 64, 64], 0, common::sphere([64, 64, 64], 9.0))).unwrap();
+    let volume = |out: Stdio| {
+        let mut command = Command::new(env!("CARGO_BIN_EXE_wattle"));
+        command.args(["volume", path(&grid)]).stdout(out).stderr(Stdio::piped()).spawn().expect("wattle starts")
+    };
+    let mut enough = volume(Stdio::piped());
+    let mut first = [0; 5];
+    enough.stdout.take().unwrap().read_exact(&mut first).unwrap();
+    let enough = enough.wait_with_output().unwrap();
+    assert_eq!((&first, status(&enough), text(&enough.stderr).as_str()), (b"# vtk", 0, ""));
+    let full = volume(Stdio::from(std::fs::OpenOptions::new().write(true).open("/dev/full").unwrap())).wait_with_output().unwrap();
+    assert!(status(&full) == 2 && text(&full.stderr).contains("the standard output cannot be written"), "{}", text(&full.stderr));
+}
+
+#[test]
+fn help_names_every_command_and_option() {
+    let overview = text(&wattle(&["help"]).stdout);
+    for command in ["look", "explain", "points", "volume", "compare", "page", "carve"] {
+        assert!(overview.contains(&format!("  wattle {command} ")), "{overview}");
+        let help = text(&wattle(&["help", command]).stdout);
+        assert!(help.starts_with(&format!("wattle {command} ")), "{help}");
+        assert_eq!(help, text(&wattle(&[command, "--help"]).stdout));
+    }
+    assert!(text(&wattle(&["--version"]).stdout).starts_with("wattle 0."));
+}
+
+/// A large grid full of holes takes long: its progress is shown on a terminal, which `script` makes, and nowhere else.
+#[test]
+fn progress_is_for_terminals() {
+    let folder = common::folder("progress");
+    let (grid, out) = (folder.join("large.grid"), folder.join("points.xyz"));
+    std::fs::write(&grid, common::grid_file([64, 64, 64], 1000, sponge)).unwrap();
+    let words = ["points", path(&grid), "--force", "-o", path(&out)];
+    let output = wattle(&words);
+    assert_eq!((status(&output), output.stderr.len(), output.stdout.len()), (0, 0, 0));
+    assert!(std::fs::read_to_string(&out).unwrap().lines().count() > 5000);
+    let line = format!("{} {}", env!("CARGO_BIN_EXE_wattle"), words.join(" "));
+    let Ok(shown) = Command::new("script").args(["-qec", &line, "/dev/null"]).stdin(Stdio::null()).output() else {
+        return common::left_out("progress was not looked at, since `script` is not there");
+    };
+    let shown = text(&shown.stdout);
+    assert!(shown.contains("carving: opened ") && shown.contains(" of 1000 allowed"), "{shown}");
+    assert!(shown.ends_with("\r\u{1b}[K"), "the line is cleared at the end: {shown:?}");
+}
+
+/// Three voxels in ten are negative, none of them on the grid's edge.
+fn sponge(x: usize, y: usize, z: usize) -> i16 {
+    let mixed = ((x + 64 * (y + 64 * z)) as u64 + 1).wrapping_mul(0x9E37_79B9_7F4A_7C15);
+    let mixed = (mixed ^ (mixed >> 29)).wrapping_mul(0xBF58_476D_1CE4_E5B9) >> 32;
+    let size = (mixed & 0xFF) as i16;
+    if mixed >> 8 & 0xFF < 77 && [x, y, z].iter().all(|v| (1..63).contains(v)) {
+        -1 - size
+    } else {
+        size
+    }
+}

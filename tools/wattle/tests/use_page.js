@@ -1,0 +1,91 @@
+// Uses the page as a hand does, and reports in lines of `name: words`. Written at the page's end by tests/page.rs.
+
+const hex = (d, i) => "#" + [d[i], d[i + 1], d[i + 2]].map((n) => n.toString(16).padStart(2, "0")).join("");
+const frames = (then) => requestAnimationFrame(() => requestAnimationFrame(then));
+const lines = [];
+const say = (name, words) => lines.push(name + ": " + words);
+
+// the colour in the middle of each voxel of the layer shown
+function seenLayer(wide, high) {
+  const data = layer.getContext("2d").getImageData(0, 0, layer.width, layer.height).data;
+  const { cell, left, top } = layout(), colours = [];
+  for (let v = 0; v < high; v++)
+    for (let u = 0; u < wide; u++)
+      colours.push(hex(data, 4 * ((top + v * cell + (cell >> 1)) * layer.width + left + u * cell + (cell >> 1))));
+  return colours.join(" ");
+}
+
+function seenCloud() {
+  const data = cloud.getContext("2d").getImageData(0, 0, cloud.width, cloud.height).data;
+  let sum = 0, drawn = 0;
+  for (let i = 0; i < data.length; i++) sum = (31 * sum + data[i]) >>> 0;
+  for (let i = 3; i < data.length; i += 4) drawn += data[i] > 0;
+  return [sum, drawn];
+}
+
+function allLayers() {
+  for (const [name, wide, high] of [["2", 0, 1], ["1", 0, 2], ["0", 1, 2]]) {
+    axis.value = name;
+    axis.dispatchEvent(new Event("change"));
+    for (let i = 0; i < sides[Number(name)]; i++) {
+      slider.value = i;
+      slider.dispatchEvent(new Event("input"));
+      say("layer " + name + " " + i, seenLayer(sides[wide], sides[high]));
+    }
+  }
+  axis.value = "2";
+  axis.dispatchEvent(new Event("change"));
+}
+
+function pointAt(x, y) {
+  const { cell, left, top } = layout(), box = layer.getBoundingClientRect(), ratio = box.width / layer.width;
+  const at = (low, n) => (low + (n + 0.5) * cell) * ratio;
+  layer.dispatchEvent(new PointerEvent("pointermove", { clientX: box.left + at(left, x), clientY: box.top + at(top, y) }));
+  say("voxel", element("voxel").textContent);
+}
+
+const finger = (name, id, x, y) => cloud.dispatchEvent(new PointerEvent(name, { pointerId: id, clientX: x, clientY: y }));
+
+// right, up and towards the viewer, as x, y and z have to be: 1, and -1 in a mirror
+function handedness() {
+  const o = onScreen(0, 0, 0, 100);
+  const [x, y, z] = [onScreen(1, 0, 0, 100), onScreen(0, 1, 0, 100), onScreen(0, 0, 1, 100)].map((p) => [p[0] - o[0], o[1] - p[1], p[2] - o[2]]);
+  return Math.sign(x[0] * (y[1] * z[2] - y[2] * z[1]) - x[1] * (y[0] * z[2] - y[2] * z[0]) + x[2] * (y[0] * z[1] - y[1] * z[0]));
+}
+
+// the corner nearest to the viewer goes with the finger: to the right, then down
+function follow() {
+  const corners = [0, 1, 2, 3, 4, 5, 6, 7].map((i) => sides.map((side, axis) => (i >> axis & 1) * (side - 1)));
+  const near = corners.sort((p, q) => onScreen(...q, 100)[2] - onScreen(...p, 100)[2])[0];
+  const start = onScreen(...near, 100);
+  finger("pointermove", 1, 60, 50);
+  const right = onScreen(...near, 100);
+  finger("pointermove", 1, 60, 60);
+  say("follows", [right[0] > start[0], onScreen(...near, 100)[1] > right[1]].join(" "));
+}
+
+const steps = [
+  () => say("cloud first", seenCloud()),
+  // no pointer is there that the browser could capture
+  () => { cloud.setPointerCapture = () => {}; finger("pointerdown", 1, 50, 50); follow(); finger("pointerup", 1, 60, 60); },
+  () => { say("cloud turned", seenCloud()); finger("pointermove", 1, 150, 150); },
+  () => say("cloud let go", seenCloud()),
+  () => { finger("pointerdown", 1, 50, 50); finger("pointerdown", 2, 60, 50); finger("pointermove", 2, 70, 50); [1, 2].forEach((i) => finger("pointerup", i, 0, 0)); },
+  () => { say("cloud nearer", seenCloud()); say("nearness", nearness); cloud.dispatchEvent(new WheelEvent("wheel", { deltaY: 100, cancelable: true })); },
+  () => { say("cloud farther", seenCloud()); cloud.dispatchEvent(new KeyboardEvent("keydown", { key: "ArrowLeft" })); },
+  () => { say("cloud by key", seenCloud()); say("hand", handedness()); cloud.dispatchEvent(new Event("dblclick")); },
+  () => say("cloud again", seenCloud()),
+  () => { const z = slider.value; layer.dispatchEvent(new WheelEvent("wheel", { deltaY: 5, cancelable: true })); say("scrolled", slider.value - z); },
+  () => { axis.value = "2"; axis.dispatchEvent(new Event("change")); slider.value = 4; slider.dispatchEvent(new Event("input")); pointAt(7, 2); },
+  () => { say("wide", document.documentElement.scrollWidth <= innerWidth); say("surface", !element("surface").hidden); },
+  allLayers,
+];
+
+function next() {
+  const step = steps.shift();
+  if (step) return frames(() => { try { step(); } catch (e) { faults.push(String(e)); } next(); });
+  say("faults", faults.join("; "));
+  document.body.innerHTML = "<pre id='report'></pre>";
+  element("report").textContent = lines.join("\n");
+}
+next();

@@ -1,0 +1,186 @@
+//! Writes samples/: the grid files, and beside each its line and its picture as text.
+//! usage: cargo run --example samples -- FOLDER
+
+use wattlerugby::{Grid, Refusal, Sides, GONE, MISSING, NO_LIMIT};
+
+pub struct Sample {
+    pub name: &'static str,
+    sides: Sides,
+    allowed: u16,
+    values: Vec<i16>,
+}
+
+fn main() -> std::io::Result<()> {
+    let Some(folder) = std::env::args().nth(1).map(std::path::PathBuf::from) else {
+        eprintln!("usage: samples FOLDER");
+        std::process::exit(2);
+    };
+    for sample in samples() {
+        std::fs::write(folder.join(format!("{}.grid", sample.name)), sample.file())?;
+        std::fs::write(folder.join(format!("{}.txt", sample.name)), sample.told())?;
+    }
+    Ok(())
+}
+
+// ---- the bodies
+
+/// Every sample. A value is ten times the distance to the body's surface in voxels, negative inside.
+pub fn samples() -> Vec<Sample> {
+    vec![
+        Sample::new("sphere", [12, 12, 12], 0, noisy(12, |x, y, z| sphere([5.5, 5.5, 5.5], x, y, z))),
+        Sample::new("torus-0", [16, 16, 9], 0, noisy(2, torus)),
+        Sample::new("torus-1", [16, 16, 9], 1, noisy(2, torus)),
+        Sample::new("wet-glass", [14, 14, 9], 0, pane_with_gaps),
+        Sample::new("refused", [12, 12, 12], 0, |x, y, z| tenths(sphere([3.5, 5.5, 5.5], x, y, z))),
+    ]
+}
+
+fn tenths(distance: f64) -> i16 {
+    (10.0 * distance).round() as i16
+}
+
+/// A distance with noise of at most so many tenths either way, the same on every run.
+fn noisy(most: u32, distance: impl Fn(f64, f64, f64) -> f64) -> impl FnMut(f64, f64, f64) -> i16 {
+    let mut seed = 1u32;
+    move |x, y, z| {
+        seed = seed.wrapping_mul(1_664_525).wrapping_add(1_013_904_223);
+        tenths(distance(x, y, z)) + ((seed >> 16) % (2 * most + 1)) as i16 - most as i16
+    }
+}
+
+fn length(parts: &[f64]) -> f64 {
+    parts.iter().map(|p| p * p).sum::<f64>().sqrt()
+}
+
+fn sphere([mx, my, mz]: [f64; 3], x: f64, y: f64, z: f64) -> f64 {
+    length(&[x - mx, y - my, z - mz]) - 4.0
+}
+
+/// A tube of radius 2 around a circle of radius 4.5.
+fn torus(x: f64, y: f64, z: f64) -> f64 {
+    length(&[length(&[x - 7.5, y - 7.5]) - 4.5, z - 4.0]) - 2.0
+}
+
+/// A pane of 10 x 10 x 5 voxels. Range points are missing through its whole thickness, in its middle, and from one of its faces up to the
+/// end of the grid.
+fn pane_with_gaps(x: f64, y: f64, z: f64) -> i16 {
+    let within = |p: f64, low: f64, high: f64| low <= p && p <= high;
+    let through = within(x, 3.0, 5.0) && within(y, 3.0, 5.0);
+    let middle = within(x, 8.0, 9.0) && within(y, 8.0, 9.0) && z == 4.0;
+    let face = within(x, 8.0, 10.0) && within(y, 3.0, 5.0) && z >= 5.0;
+    if through || middle || face {
+        return MISSING;
+    }
+    let beyond = |p: f64, centre: f64, half: f64| (p - centre).abs() - half;
+    tenths(beyond(x, 6.5, 5.0).max(beyond(y, 6.5, 5.0)).max(beyond(z, 4.0, 2.5)))
+}
+
+// ---- what becomes of them
+
+/// A finished grid, with what it was carved from and which voxels were opened.
+struct Carved {
+    grid: Grid,
+    inside: Vec<bool>,
+    opened: Vec<usize>,
+}
+
+impl Sample {
+    fn new(name: &'static str, [a, b, c]: [usize; 3], allowed: u16, mut value: impl FnMut(f64, f64, f64) -> i16) -> Sample {
+        let mut values = Vec::new();
+        for z in 0..c {
+            for y in 0..b {
+                values.extend((0..a).map(|x| value(x as f64, y as f64, z as f64)));
+            }
+        }
+        Sample { name, sides: Sides { a, b, c }, allowed, values }
+    }
+
+    /// The grid file's bytes, layers in rising z.
+    pub fn file(&self) -> Vec<u8> {
+        let Sides { a, b, c } = self.sides;
+        let mut bytes = vec![0x56, 0x48, a as u8, b as u8, c as u8];
+        bytes.extend(self.allowed.to_le_bytes());
+        for (z, layer) in self.values.chunks(a * b).enumerate() {
+            bytes.extend([0x56, 0x4C, z as u8]);
+            bytes.extend(layer.iter().flat_map(|v| v.to_le_bytes()));
+        }
+        bytes
+    }
+
+    fn carved(&self) -> Result<Carved, Refusal> {
+        let mut grid = Grid::from_file(&self.file())?;
+        let inside = grid.distances().iter().map(|&d| d < 0).collect();
+        let mut opened = Vec::new();
+        grid.carve(NO_LIMIT)?;
+        while let Ok(o) = grid.open() {
+            opened.push(o.index);
+            grid.carve(NO_LIMIT)?;
+        }
+        grid.finish()?;
+        Ok(Carved { grid, inside, opened })
+    }
+
+    /// The line that the program carve prints for the file.
+    pub fn line(&self) -> String {
+        match self.carved() {
+            Ok(carved) => {
+                let kept = carved.grid.status().iter().filter(|&&s| s != GONE).count();
+                let r = carved.grid.record();
+                format!("kept {kept} removed {} opened {} examined {} euler {}", r.removals, r.openings, r.examinations, r.euler)
+            }
+            Err(Refusal(number)) => format!("refused {number}"),
+        }
+    }
+
+    /// Sides, T, the line, and the picture: of what carving leaves, or of the values where the file is refused.
+    pub fn told(&self) -> String {
+        let Sides { a, b, c } = self.sides;
+        let told = format!("{}: {a} x {b} x {c}, T = {}\n{}\n\n", self.name, self.allowed, self.line());
+        let measured = |v: i16| match v {
+            MISSING => '?',
+            v if v < 0 => '#',
+            _ => '.',
+        };
+        match self.carved() {
+            Ok(carved) => {
+                let key = "# inside   o filled   ? filled, and the range point is missing   + opened   . gone\n";
+                told + key + &self.picture((0..self.values.len()).map(|i| carved.mark(i, self.values[i])).collect())
+            }
+            Err(_) => {
+                told + "# measured negative   ? missing   . measured outside\n"
+                    + &self.picture(self.values.iter().map(|&v| measured(v)).collect())
+            }
+        }
+    }
+
+    /// The layers, as many beside each other as fit in 100 columns.
+    fn picture(&self, marks: Vec<char>) -> String {
+        let Sides { a, b, .. } = self.sides;
+        let width = a.max(8);
+        let layers: Vec<&[char]> = marks.chunks(a * b).collect();
+        let across = 100 / (width + 2);
+        let mut text = String::new();
+        for (band, together) in layers.chunks(across).enumerate() {
+            let titles = (0..together.len()).map(|i| format!("{:width$}", format!("z = {}", band * across + i)));
+            let rows = (0..b)
+                .map(|y| together.iter().map(|l| format!("{:width$}", l[a * y..a * y + a].iter().collect::<String>())).collect::<Vec<_>>());
+            for row in std::iter::once(titles.collect::<Vec<_>>()).chain(rows) {
+                text += &format!("\n{}", row.join("  ").trim_end());
+            }
+            text += "\n";
+        }
+        text
+    }
+}
+
+impl Carved {
+    fn mark(&self, i: usize, value: i16) -> char {
+        match (self.grid.status()[i], self.inside[i], value) {
+            (GONE, ..) if self.opened.contains(&i) => '+',
+            (GONE, ..) => '.',
+            (_, true, _) => '#',
+            (_, false, MISSING) => '?',
+            _ => 'o',
+        }
+    }
+}

@@ -1,0 +1,279 @@
+/* Every call on a state from C, on document 01's case C, with each answer printed: a ring of eight voxels around an empty one, and one
+ * opening allowed. Then what the header says of null pointers, padding and numbers. The status is 0 where all of that holds. */
+#include <stdio.h>
+#include <string.h>
+
+#include "wattlerugby.h"
+
+enum { A = 5, B = 5, C = 3, N = A * B * C, ALLOWED = 1 };
+
+static void print_record(wattlerugby_record r)
+{
+    printf("  openings %u of %u, removals %u, examinations %u, Euler number %d, %s\n", (unsigned)r.openings, (unsigned)r.allowed,
+           (unsigned)r.removals, (unsigned)r.examinations, (int)r.euler, r.finished ? "finished" : "not finished");
+}
+
+static wattlerugby_record carve(wattlerugby_record record, const int32_t *dist, uint8_t *status, uint32_t limit)
+{
+    wattlerugby_carve_answer r = wattlerugby_carve(record, dist, N, status, N, limit);
+    if (r.refusal != 0)
+        printf("carve: refused %u\n", r.refusal);
+    else
+        printf("carve: examined %u, removed %u, %s\n", (unsigned)r.examined, (unsigned)r.removed,
+               r.pending ? "some pending" : "nothing pending");
+    print_record(r.next);
+    return r.next;
+}
+
+static wattlerugby_record take(wattlerugby_record record, const int32_t *dist, uint8_t *status, size_t index)
+{
+    wattlerugby_take_answer r = wattlerugby_take(record, dist, N, status, N, index);
+    if (r.refusal != 0)
+        printf("take %u: refused %u\n", (unsigned)index, r.refusal);
+    else
+        printf("take %u: gone, k %u, m %u\n", (unsigned)index, (unsigned)r.k, (unsigned)r.m);
+    return r.next;
+}
+
+static wattlerugby_record open_body(wattlerugby_record record, const int32_t *dist, uint8_t *status)
+{
+    wattlerugby_open_answer r = wattlerugby_open(record, dist, N, status, N);
+    if (r.refusal != 0)
+        printf("open: refused %u\n", r.refusal);
+    else
+        printf("open: voxel %u, k %u, m %u\n", (unsigned)r.index, (unsigned)r.k, (unsigned)r.m);
+    print_record(r.next);
+    return r.next;
+}
+
+static wattlerugby_record finish(wattlerugby_record record, int32_t *dist, const uint8_t *status)
+{
+    wattlerugby_finish_answer r = wattlerugby_finish(record, dist, N, status, N);
+    if (r.refusal != 0)
+        printf("finish: refused %u\n", r.refusal);
+    else
+        printf("finish: done\n");
+    print_record(r.next);
+    return r.next;
+}
+
+static void crossing(wattlerugby_record record, const int32_t *dist, const uint8_t *status, size_t index, uint32_t axis)
+{
+    wattlerugby_crossing_answer r = wattlerugby_crossing(record, dist, N, status, N, index, axis);
+    printf("crossing %u along axis %u: ", (unsigned)index, (unsigned)axis);
+    if (r.refusal != 0)
+        printf("refused %u\n", r.refusal);
+    else if (r.crosses)
+        printf("at (%g, %g, %g)\n", r.point.x, r.point.y, r.point.z);
+    else
+        printf("none\n");
+}
+
+static void points(wattlerugby_record record, const int32_t *dist, const uint8_t *status, size_t position, size_t room)
+{
+    double out[9];
+    size_t i;
+    wattlerugby_points_answer r = wattlerugby_points(record, dist, N, status, N, position, out, room);
+    printf("points from %u, room for %u doubles: ", (unsigned)position, (unsigned)room);
+    if (r.refusal != 0)
+        printf("refused %u\n", r.refusal);
+    else
+        printf("%u, next %u\n", (unsigned)r.count, (unsigned)r.next);
+    for (i = 0; i < r.count; i++)
+        printf("  (%g, %g, %g)\n", out[3 * i], out[3 * i + 1], out[3 * i + 2]);
+}
+
+static int ring(void)
+{
+    int16_t values[N];
+    int32_t dist[N];
+    uint8_t status[N];
+    wattlerugby_sides sides = {A, B, C};
+    wattlerugby_begin_answer begun;
+    wattlerugby_record record;
+    int x, y;
+
+    for (x = 0; x < N; x++)
+        values[x] = 4;
+    for (y = 1; y <= 3; y++)
+        for (x = 1; x <= 3; x++)
+            if (x != 2 || y != 2)
+                values[x + A * (y + B)] = -4;
+
+    begun = wattlerugby_begin(sides, ALLOWED, values, N, dist, N, status, N);
+    if (begun.refusal != 0)
+        return 1;
+    printf("begin: done\n");
+    print_record(begun.next);
+
+    record = carve(begun.next, dist, status, WATTLERUGBY_NO_LIMIT);
+    record = take(record, dist, status, 37);
+    record = take(record, dist, status, 36);
+    record = open_body(record, dist, status);
+    record = carve(record, dist, status, WATTLERUGBY_NO_LIMIT);
+    record = open_body(record, dist, status);
+    record = finish(record, dist, status);
+    crossing(record, dist, status, 36, 0);
+    crossing(record, dist, status, 37, 0);
+    crossing(record, dist, status, 36, 1);
+    crossing(record, dist, status, 37, 3);
+    points(record, dist, status, 0, 9);
+    points(record, dist, status, 3 * 36, 4);
+    points(record, dist, status, 3 * 36 + 1, 2);
+    points(record, dist, status, 3 * 43 + 1, 9);
+    points(record, dist, status, 3 * N, 9);
+    points(record, dist, status, 3 * N + 1, 9);
+    record = carve(record, dist, status, 1);
+
+    printf("the middle layer:\n");
+    for (y = 0; y < B; y++) {
+        for (x = 0; x < A; x++)
+            putchar(status[x + A * (y + B)] == WATTLERUGBY_GONE ? '.' : '#');
+        putchar('\n');
+    }
+    return record.euler == 0 ? 0 : 1;
+}
+
+/* ---- null pointers with length 0 */
+
+static int nulls(void)
+{
+    const wattlerugby_sides fit = {3, 3, 3}, unfit = {3, 3, 65};
+    const uint8_t header[7] = {0x56, 0x48, 3, 3, 3, 0, 0};
+    const int32_t dist[27] = {0};
+    const uint8_t status[27] = {0};
+    wattlerugby_points_answer filled;
+    wattlerugby_record r;
+    int wrong = 0;
+    memset(&r, 0, sizeof r);
+    r.sides = fit;
+    wrong += wattlerugby_begin(fit, 0, NULL, 0, NULL, 0, NULL, 0).refusal != WATTLERUGBY_LENGTH;
+    wrong += wattlerugby_begin(unfit, 0, NULL, 0, NULL, 0, NULL, 0).refusal != WATTLERUGBY_SIDE;
+    wrong += wattlerugby_carve(r, NULL, 0, NULL, 0, 1).refusal != WATTLERUGBY_LENGTH;
+    wrong += wattlerugby_take(r, NULL, 0, NULL, 0, 13).refusal != WATTLERUGBY_LENGTH;
+    wrong += wattlerugby_open(r, NULL, 0, NULL, 0).refusal != WATTLERUGBY_LENGTH;
+    wrong += wattlerugby_finish(r, NULL, 0, NULL, 0).refusal != WATTLERUGBY_LENGTH;
+    wrong += wattlerugby_crossing(r, NULL, 0, NULL, 0, 13, 0).refusal != WATTLERUGBY_LENGTH;
+    wrong += wattlerugby_points(r, NULL, 0, NULL, 0, 0, NULL, 0).refusal != WATTLERUGBY_LENGTH;
+    wrong += wattlerugby_read(NULL, 0, NULL, 0).refusal != WATTLERUGBY_SHORT;
+    wrong += wattlerugby_read(header, 7, NULL, 0).refusal != WATTLERUGBY_LENGTH;
+    wrong += wattlerugby_read_layer(fit, NULL, 0, 7).refusal != WATTLERUGBY_SHORT;
+    r.finished = 1;
+    filled = wattlerugby_points(r, dist, 27, status, 27, 5, NULL, 0);
+    wrong += filled.refusal != 0 || filled.count != 0 || filled.next != 5;
+    printf("null pointers: %s\n", wrong ? "WRONG" : "as with any other of length 0");
+    return wrong;
+}
+
+/* ---- padding: the same fields between bytes of every value */
+
+static wattlerugby_record padded(wattlerugby_record r, int byte)
+{
+    wattlerugby_record p;
+    memset(&p, byte, sizeof p);
+    p.sides.a = r.sides.a;
+    p.sides.b = r.sides.b;
+    p.sides.c = r.sides.c;
+    p.allowed = r.allowed;
+    p.openings = r.openings;
+    p.removals = r.removals;
+    p.examinations = r.examinations;
+    p.euler = r.euler;
+    p.finished = r.finished;
+    return p;
+}
+
+static int padding(void)
+{
+    int16_t values[27];
+    int32_t dist[27];
+    uint8_t status[27];
+    double out[18];
+    const wattlerugby_sides sides = {3, 3, 3};
+    int i, byte, wrong = 0;
+    for (i = 0; i < 27; i++)
+        values[i] = i == 13 ? -5 : 5;
+    for (byte = 0; byte < 256; byte++) {
+        wattlerugby_record r = padded(wattlerugby_begin(sides, 0, values, 27, dist, 27, status, 27).next, byte);
+        wrong += wattlerugby_carve(r, dist, 27, status, 27, WATTLERUGBY_NO_LIMIT).refusal != 0;
+        wrong += wattlerugby_take(r, dist, 27, status, 27, 13).refusal != WATTLERUGBY_INSIDE;
+        wrong += wattlerugby_open(r, dist, 27, status, 27).refusal != WATTLERUGBY_NO_OPENING_LEFT;
+        r = padded(wattlerugby_finish(r, dist, 27, status, 27).next, byte);
+        wrong += wattlerugby_crossing(r, dist, 27, status, 27, 13, 0).point.x != 1.5;
+        wrong += wattlerugby_points(r, dist, 27, status, 27, 0, out, 18).count != 6 || out[9] != 1.5;
+    }
+    printf("padding: %s\n", wrong ? "WRONG" : "not looked at");
+    return wrong;
+}
+
+/* ---- finished: any value but 0, handed back as it was given where a call refuses */
+
+static int finished_bytes(void)
+{
+    const wattlerugby_sides sides = {3, 3, 3};
+    int32_t dist[27] = {0};
+    uint8_t status[27] = {0};
+    wattlerugby_record r;
+    int byte, wrong = 0;
+    memset(&r, 0, sizeof r);
+    r.sides = sides;
+    wrong += wattlerugby_carve(r, dist, 27, status, 27, 1).refusal != 0;
+    for (byte = 1; byte < 256; byte++) {
+        wattlerugby_carve_answer carved;
+        wattlerugby_take_answer taken;
+        wattlerugby_open_answer opened;
+        wattlerugby_finish_answer closed;
+        r.finished = (uint8_t)byte;
+        carved = wattlerugby_carve(r, dist, 27, status, 27, 1);
+        taken = wattlerugby_take(r, dist, 27, status, 27, 13);
+        opened = wattlerugby_open(r, dist, 27, status, 27);
+        closed = wattlerugby_finish(r, dist, 27, status, 27);
+        wrong += carved.refusal != WATTLERUGBY_FINISHED || carved.next.finished != byte;
+        wrong += taken.refusal != WATTLERUGBY_FINISHED || taken.next.finished != byte;
+        wrong += opened.refusal != WATTLERUGBY_FINISHED || opened.next.finished != byte;
+        wrong += closed.refusal != WATTLERUGBY_FINISHED || closed.next.finished != byte;
+        wrong += wattlerugby_crossing(r, dist, 27, status, 27, 13, 0).refusal != 0;
+        wrong += wattlerugby_points(r, dist, 27, status, 27, 0, NULL, 0).refusal != 0;
+    }
+    printf("finished: %s\n", wrong ? "WRONG" : "any value but 0");
+    return wrong;
+}
+
+/* ---- numbers: each name with its number and text, then what any other number says */
+
+#define NUMBER(name) printf("%s %u %s\n", #name, (unsigned)WATTLERUGBY_##name, wattlerugby_reason(WATTLERUGBY_##name))
+
+static void numbers(void)
+{
+    printf("version %s\n", wattlerugby_version());
+    NUMBER(SIDE);
+    NUMBER(LENGTH);
+    NUMBER(BORDER_NEGATIVE);
+    NUMBER(NO_NEGATIVE);
+    NUMBER(INDEX);
+    NUMBER(AXIS);
+    NUMBER(UNFIT);
+    NUMBER(FINISHED);
+    NUMBER(NOT_FINISHED);
+    NUMBER(GONE_ALREADY);
+    NUMBER(INSIDE);
+    NUMBER(NOT_PASSED);
+    NUMBER(STILL_PENDING);
+    NUMBER(NO_OPENING_LEFT);
+    NUMBER(NOTHING_TO_OPEN);
+    NUMBER(SHORT);
+    NUMBER(MARK);
+    NUMBER(LAYER);
+    NUMBER(LAYER_TWICE);
+    NUMBER(BYTES_LEFT);
+    printf("255 %s\n", wattlerugby_reason(255));
+}
+
+int main(int argc, char **argv)
+{
+    if (argc > 1 && strcmp(argv[1], "numbers") == 0) {
+        numbers();
+        return 0;
+    }
+    return ring() + nulls() + padding() + finished_bytes();
+}

@@ -1,0 +1,116 @@
+//! What docs/RESULT.md concludes from the last answer of open, on grids from seeds.
+
+use wattlerugby::{Grid, Refusal, Sides, GONE, MISSING};
+
+struct Carved {
+    sides: Sides,
+    inside: Vec<bool>,
+    kept: Vec<bool>,
+    ended_by: Refusal,
+    openings: u32,
+    euler: i32,
+}
+
+/// Noise off the border: of 100 voxels so many negative and 5 missing.
+fn noise(sides: Sides, negative: u32, seed: &mut u32) -> Vec<i16> {
+    let n = sides.voxels().unwrap();
+    let mut next = |below: u32| {
+        *seed = seed.wrapping_mul(1_664_525).wrapping_add(1_013_904_223);
+        (*seed >> 16) % below
+    };
+    let end = |i: usize, side: usize| i == 0 || i + 1 == side;
+    (0..n)
+        .map(|i| {
+            let [x, y, z] = place(sides, i);
+            let (chance, size) = (next(100), next(50) as i16 + 1);
+            match chance {
+                _ if end(x, sides.a) || end(y, sides.b) || end(z, sides.c) => size,
+                c if c < negative => -size,
+                c if c < negative + 5 => MISSING,
+                _ => size,
+            }
+        })
+        .collect()
+}
+
+fn place(sides: Sides, i: usize) -> [usize; 3] {
+    [i % sides.a, i / sides.a % sides.b, i / (sides.a * sides.b)]
+}
+
+fn carved(sides: Sides, allowed: u16, values: &[i16]) -> Option<Carved> {
+    let mut grid = match Grid::begin(sides, allowed, values) {
+        Err(Refusal::NO_NEGATIVE) => return None,
+        begun => begun.unwrap(),
+    };
+    let inside = grid.distances().iter().map(|&d| d < 0).collect();
+    grid.carve_to_the_end().unwrap();
+    let kept = grid.status().iter().map(|&s| s != GONE).collect();
+    let r = grid.record();
+    Some(Carved { sides, inside, kept, ended_by: grid.ended_by().unwrap(), openings: r.openings, euler: r.euler })
+}
+
+/// What can be reached from a voxel of the set by steps within it, each step changing at most so many coordinates by one.
+fn reached(sides: Sides, set: &[bool], from: usize, coordinates: usize) -> Vec<bool> {
+    let mut seen = vec![false; set.len()];
+    let mut waiting = vec![from];
+    seen[from] = true;
+    while let Some(i) = waiting.pop() {
+        for j in 0..set.len() {
+            let gaps: Vec<usize> = place(sides, i).iter().zip(place(sides, j)).map(|(&p, q)| p.abs_diff(q)).collect();
+            let step = gaps.iter().all(|&g| g <= 1) && gaps.iter().sum::<usize>() <= coordinates;
+            if set[j] && !seen[j] && step {
+                seen[j] = true;
+                waiting.push(j);
+            }
+        }
+    }
+    seen
+}
+
+fn pieces(sides: Sides, set: &[bool]) -> i32 {
+    let (mut left, mut count) = (set.to_vec(), 0);
+    while let Some(first) = left.iter().position(|&k| k) {
+        let piece = reached(sides, &left, first, 3);
+        left.iter_mut().zip(piece).for_each(|(l, p)| *l &= !p);
+        count += 1;
+    }
+    count
+}
+
+fn check(c: &Carved, allowed: u16) {
+    let nothing_to_open = c.ended_by == Refusal::NOTHING_TO_OPEN;
+    assert!(nothing_to_open || c.ended_by == Refusal::NO_OPENING_LEFT);
+    assert_eq!(nothing_to_open, c.openings < u32::from(allowed), "14 comes exactly where all openings are used");
+    let pieces = pieces(c.sides, &c.kept);
+    assert!(c.euler <= pieces, "there is no hollow, so pieces less tunnels");
+    if c.openings == 0 {
+        assert_eq!((pieces, c.euler), (1, 1));
+    }
+    if nothing_to_open {
+        let outside: Vec<bool> = c.inside.iter().map(|i| !i).collect();
+        let free = reached(c.sides, &outside, 0, 1);
+        let body: Vec<bool> = free.iter().map(|f| !f).collect();
+        assert!(c.kept == body, "kept is the inside with what it closes in");
+        assert_eq!(pieces, 1);
+    }
+}
+
+#[test]
+fn the_last_answer_of_open() {
+    let mut seed = 7;
+    let (mut ends, mut unequal) = ([0; 2], 0);
+    for round in 0..120usize {
+        let sides = Sides { a: 5 + round % 4, b: 6, c: 5 + round % 3 };
+        let values = noise(sides, 20 + 10 * (round as u32 % 6), &mut seed);
+        for allowed in [0, 1, 3, u16::MAX] {
+            if let Some(c) = carved(sides, allowed, &values) {
+                check(&c, allowed);
+                let nothing_to_open = c.ended_by == Refusal::NOTHING_TO_OPEN;
+                ends[usize::from(nothing_to_open)] += 1;
+                unequal += i32::from(nothing_to_open && c.openings as i32 != 1 - c.euler);
+            }
+        }
+    }
+    assert!(ends[0] > 100 && ends[1] > 100, "both ends are met: {ends:?}");
+    assert!(unequal > 0, "openings and tunnels need not be equal in number");
+}
