@@ -8,7 +8,8 @@ use native.Mathlib.Omega.{arith}
 use lib.Dec.{eqb, leb, lit<}
 use lib.Arith.{digits-div, digits-mod, digits-lt}
 use lib.Pow.{shr-shr, shl-shr, shl-exact, pow-add}
-use lib.Bits.{bitAnd, bitOr, bitXor, differ, and-step, or-step, xor-step, and-shr, or-shr, and-zero-l, xor-zero-l, or-shifted-r, shifted-even, and-mask, and-le-r}
+use lib.Bits.{bitAnd, bitOr, bitXor, differ, and-step, or-step, xor-step, and-shr}
+use lib.Bits.{or-shr, and-zero-l, xor-zero-l, or-shifted-r, shifted-even, and-mask, and-le-r}
 use lib.Count.{ones, onesIn, ones-step}
 use lib.ListN.{length}
 use borrow.Author.Tests.{leb-true, leb-false}

@@ -52,9 +52,9 @@ pub fn carve(given: Record, dist: &[i32], status: &mut [u8], limit: u32) -> Carv
         outcome (carvedAnswer r) (buffers (now (dist .entry)) (now (status .exit)))
         ≡ machine.carve limit (state given (now (dist .entry)) (now (status .entry))) ⌝ }
 {
-    let n = fitness::working_refusal(given, dist, status);
-    if n != 0 {
-        return Carved::Refused(n);
+    let refusal = fitness::working_refusal(given, dist, status);
+    if refusal != 0 {
+        return Carved::Refused(refusal);
     }
     carve_fit(given, dist, status, limit)
 }

@@ -3,7 +3,7 @@ use mathlib.Core.Path.{_≡_, sym, ap, _∙_, subst}
 use mathlib.Core.Logic.{inl, inr}
 use mathlib.Core.Bool.{Bool, true, false, not, cond, _&&_, _||_}
 use mathlib.Core.List.{List}
-use Prim.Native.Nat.{ℕ, _≤_, _<_}
+use Prim.Native.Nat.{ℕ, _<_}
 use native.Mathlib.Omega.{arith}
 use native.Mathlib.Decide.{ℕ-discrete, decLt}
 use lib.Dec.{eqb}
@@ -11,16 +11,16 @@ use lib.IntN.{ℤ}
 use lib.ListN.{length, set, length-set}
 use lib.Seq.{getD-set-same, getD-set-other}
 use Rattle.cells.specs.Cells.{passes}
-use Rattle.prelude.proofs.Bools.{two, and-true, true-and, or-true, not-both}
+use Rattle.prelude.proofs.Bools.{and-true, true-and, or-true, not-both}
 use Rattle.prelude.proofs.Ranges.{getD-map-from, length-map-from}
 use Rattle.rules.specs.declared.Sides.{Sides}
-use Rattle.rules.specs.Grid.{size, voxels, onBorder, touch}
+use Rattle.rules.specs.Grid.{size, voxels, touch}
 use Rattle.rules.specs.Status.{statusOf, keptByte, pendingByte, isKept, isPending, rested, removable, testAt, statusWithout, without, examinedAs, examine}
 use Rattle.rules.specs.Machine.{outside}
 use Rattle.rules.specs.Fit.{Known, FitVoxels}
 use Rattle.rules.proofs.Topology.Bytes.{rested-kept, rested-pending, still-kept, now-pending}
-use Rattle.rules.proofs.Topology.Steps.{kept-beyond, pending-beyond}
-use Rattle.neighbourhood.specs.Neighbourhood.{Inner, Body}
+use Rattle.rules.proofs.Topology.Steps.{pending-beyond}
+use Rattle.neighbourhood.specs.Neighbourhood.{Inner}
 use Rattle.neighbourhood.proofs.Bodies.{kept-inner, fit-body}
 use Rattle.pending.specs.Index.{Written}
 use Rattle.examining.specs.Examining.{Workable, Removed, Examined}
@@ -96,7 +96,8 @@ module _ (s : Sides) (status : List ℕ) (w : Workable s status) where
     unfolding isKept isPending
     kept-rested j =
         elim (ℕ-discrete j i) [
-          | yes e ↦ ap (λ (k : ℕ). keptByte (statusOf (set status i x) k)) e ∙ ap keptByte here ∙ rested-kept (statusOf status i) p ∙ ap (λ (k : ℕ). keptByte (statusOf status k)) (sym e)
+          | yes e ↦ ap (λ (k : ℕ). keptByte (statusOf (set status i x) k)) e ∙ ap keptByte here ∙ rested-kept (statusOf status i) p ∙ ap
+              (λ (k : ℕ). keptByte (statusOf status k)) (sym e)
           | no n ↦ ap keptByte (getD-set-other status i j x 0 n)
         ]
 

@@ -15,7 +15,9 @@ use rules::Sides;
 
 fn wake_one(dist: &[i32], status: &mut [u8], offsets: &mut [u8], tree: &mut [u64], j: usize)
     requires { ⌜ Index (now dist) (now status) (now offsets) (now tree) × (j < length (now status)) ⌝ }
-    ensures { λ _. ⌜ Roused (Only (outside (now (dist .entry))) j) (now (dist .entry)) (now (status .entry)) (now (status .exit)) (now (offsets .exit)) (now (tree .exit)) ⌝ }
+    ensures { λ _. ⌜
+        Roused (Only (outside (now (dist .entry))) j) (now (dist .entry)) (now (status .entry)) (now (status .exit))
+        (now (offsets .exit)) (now (tree .exit)) ⌝ }
 {
     let d = dist[j];
     if d < 0 {
@@ -36,7 +38,9 @@ fn wake(
     idle: u64,
 )
     requires { ⌜ Callables (now dist) (now status) (now offsets) (now tree) a l at idle ⌝ }
-    ensures { λ _. ⌜ Roused (AtBits (outside (now (dist .entry))) idle (fromVoxel a l at)) (now (dist .entry)) (now (status .entry)) (now (status .exit)) (now (offsets .exit)) (now (tree .exit)) ⌝ }
+    ensures { λ _. ⌜
+        Roused (AtBits (outside (now (dist .entry))) idle (fromVoxel a l at)) (now (dist .entry)) (now (status .entry))
+        (now (status .exit)) (now (offsets .exit)) (now (tree .exit)) ⌝ }
 {
     let mut m = idle;
     while 0 < m {
@@ -68,7 +72,9 @@ fn remove(
 // Pending voxel i is pending no more.
 fn rest(dist: &[i32], status: &mut [u8], offsets: &mut [u8], tree: &mut [u64], i: usize)
     requires { ⌜ Index (now dist) (now status) (now offsets) (now tree) × (isPending (now status) i ≡ true) ⌝ }
-    ensures { λ _. ⌜ Written (now (dist .entry)) (now (status .entry)) (now (status .exit)) (now (offsets .exit)) (now (tree .exit)) i (rested (statusOf (now (status .entry)) i)) ⌝ }
+    ensures { λ _. ⌜
+        Written (now (dist .entry)) (now (status .entry)) (now (status .exit)) (now (offsets .exit)) (now (tree .exit))
+        i (rested (statusOf (now (status .entry)) i)) ⌝ }
 {
     let x = status[i];
     pending::clear(dist, status, offsets, tree, i, x - 2);

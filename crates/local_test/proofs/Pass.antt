@@ -99,7 +99,8 @@ unlike-edges kept =
     omega (
       arith,
       ones-unlike s (touched-middle kept),
-      balance (λ c. unlike (s c) (isOf 1 c)) (λ c. s c && isOf 1 c) (λ c. s c && isOf 0 c) (λ c. s c && isOf 2 c) (isOf 1) places (λ c m. at-cell (s c) (kind-of c m)),
+      balance (λ c. unlike (s c) (isOf 1 c)) (λ c. s c && isOf 1 c) (λ c. s c && isOf 0 c) (λ c. s c && isOf 2 c) (isOf 1) places
+          (λ c m. at-cell (s c) (kind-of c m)),
       size-both s 0,
       size-both s 1,
       size-both s 2,

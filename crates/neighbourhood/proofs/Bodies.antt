@@ -1,14 +1,14 @@
 -- A body: its kept voxels lie off the border, and fit buffers have one.
-use mathlib.Core.Path.{_≡_, ap, _∙_}
+use mathlib.Core.Path.{_≡_, ap}
 use mathlib.Core.Logic.{inl, inr}
-use mathlib.Core.Bool.{true, false}
+use mathlib.Core.Bool.{true}
 use mathlib.Core.List.{List}
 use Prim.Native.Nat.{ℕ, _<_}
 use lib.IntN.{ℤ}
 use Rattle.prelude.proofs.Bools.{two, not-both}
 use Rattle.rules.specs.declared.Sides.{Sides}
 use Rattle.rules.specs.Grid.{size, onBorder}
-use Rattle.rules.specs.Status.{statusOf, keptByte, isKept}
+use Rattle.rules.specs.Status.{keptByte, isKept}
 use Rattle.rules.specs.Fit.{FitVoxels}
 use Rattle.neighbourhood.specs.Neighbourhood.{Inner, Body}
 

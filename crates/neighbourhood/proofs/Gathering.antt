@@ -57,11 +57,12 @@ cube-bit status a l at c h =
     let b : c % 18 % 6 % 2 ≡ c % 2 = omega arith in
     let y = ap (λ (n : ℕ). a * n) (d .1) in
     let lz = ap (λ (n : ℕ). l * n) z in
-    let e : at + l * (c / 18) + a * (c % 18 / 6) + c % 18 % 6 / 2 ≡ at + offset a l (c / 2) = summed at (l * (c / 18)) (a * (c % 18 / 6)) (c % 18 % 6 / 2) lz y (d .0) in
+    let e : at + l * (c / 18) + a * (c % 18 / 6) + c % 18 % 6 / 2 ≡ at + offset a l (c / 2) =
+    summed at (l * (c / 18)) (a * (c % 18 / 6)) (c % 18 % 6 / 2) lz y (d .0) ∙ omega arith in
     ap (λ (n : ℕ). has (statusOf status n) (c % 18 % 6 % 2)) e ∙ ap (has (statusOf status (at + offset a l (c / 2)))) b
   where
-    summed : (at x y z : ℕ) {x' y' z' : ℕ} → x ≡ x' → y ≡ y' → z ≡ z' → at + x + y + z ≡ at + (z' + y' + x')
-    summed at x y z e f g = omega arith
+    summed : (at x y z : ℕ) {x' y' z' : ℕ} → x ≡ x' → y ≡ y' → z ≡ z' → at + x + y + z ≡ at + x' + y' + z'
+    summed at x y z e f g = λ i. at + e i + f i + g i
 
 pub gathered : (s : Sides) (status : List ℕ) (i : ℕ) → bits 54 (cubeBit status (s .a) (s .a * s .b) (firstAround s i)) ≡ codeOf s status i
 unfolding statusBit around

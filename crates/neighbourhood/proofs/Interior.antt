@@ -1,5 +1,5 @@
 -- A voxel off the border: the voxels that touch it are those at the 27 positions around it, each at one of them.
-use mathlib.Core.Path.{_≡_, refl, sym, ap, _∙_}
+use mathlib.Core.Path.{_≡_, sym, ap, _∙_}
 use mathlib.Core.Bool.{true, false, _||_}
 use Prim.Native.Nat.{ℕ, suc, _+_, _-_, _*_, _/_, _%_, _≤_, _<_}
 use native.Mathlib.Omega.{arith}
@@ -177,7 +177,8 @@ module _ (s : Sides) (i : ℕ) (n : Inner s i) where
       let w : u ≡ neighbour v p =
       voxel-eq u (neighbour v p) (x .1 ∙ ap (λ (d : ℕ). v .x + d - 1) (sym px)) (y .1 ∙ ap (λ (d : ℕ). v .y + d - 1) (sym py))
       (z .1 ∙ ap (λ (d : ℕ). v .z + d - 1) (sym pz)) in
-      (p, digits-below dx dy dz (x .0) (y .0) (z .0), sym (index-voxel s j (omega (arith, sides .a-low)) (omega (arith, sides .b-low))) ∙ ap (index s) w ∙ around-index p)
+      let back = index-voxel s j (omega (arith, sides .a-low)) (omega (arith, sides .b-low)) in
+      (p, digits-below dx dy dz (x .0) (y .0) (z .0), sym back ∙ ap (index s) w ∙ around-index p)
     where
       digits-x : (x y z : ℕ) → x < 3 → (x + 3 * y + 9 * z) % 3 ≡ x
       digits-x x y z h = omega arith

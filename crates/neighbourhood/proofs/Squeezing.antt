@@ -1,5 +1,5 @@
 -- Every other bit of a number, moved together in five steps: a step joins neighbours of so many bits.
-use mathlib.Core.Path.{_≡_, refl, sym, ap, ap₂, _∙_}
+use mathlib.Core.Path.{_≡_, refl, sym, ap, _∙_}
 use mathlib.Core.Bool.{Bool, true, false, _&&_, _||_}
 use mathlib.Core.List.{List, [], _∷_}
 use Prim.Native.Nat.{ℕ, _+_, _*_, _/_, _^_, _<_}
@@ -11,7 +11,7 @@ use Rattle.prelude.proofs.Bools.{and-comm, or-zero}
 use Rattle.prelude.proofs.Lists.{any-ext}
 use Rattle.bits.specs.Bits.{has, bits}
 use Rattle.bits.proofs.Bits.{has-or, has-and, has-shr, bits-has, bits-ext, below}
-use Rattle.local_test.proofs.Sources.{any-consIf, any-those, bind, any-bind, within, any-same}
+use Rattle.local_test.proofs.Sources.{any-those, bind, any-bind, within, any-same}
 use Rattle.neighbourhood.specs.Neighbourhood.{keptOf}
 
 -- a step by j bits, of which the mask m keeps some

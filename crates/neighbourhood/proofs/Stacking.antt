@@ -1,6 +1,6 @@
 -- Three numbers of n bits side by side, as bits of one: a voxel in a row, a row in a layer, a layer in a neighbourhood.
 use mathlib.Core.Path.{_≡_, refl, sym, ap, ap₂, _∙_}
-use mathlib.Core.Bool.{Bool, true, false, _&&_}
+use mathlib.Core.Bool.{Bool, true, _&&_}
 use Prim.Native.Nat.{ℕ, _+_, _*_, _/_, _%_, _^_, _≤_, _<_}
 use native.Mathlib.Omega.{arith}
 use native.Mathlib.Nat.{mod-eq-of-lt, div-eq-of-lt, add-mul-div-left, add-mul-mod-self-left, mul-one, lt-of-le-of-lt}

@@ -206,7 +206,10 @@ module _ (f : ℕ → ℕ) (first end m : ℕ) (g : Greatest f first end m) (p :
         low = s .low;
         high = h;
         own = e;
-        earliest = λ j l u. (let k = s .others j l u in let t = g .top j l (omega arith) in elim (ℕ-discrete (f j) m) [ yes q ↦ absurd (k q) | no n ↦ omega arith ]);
+        earliest =
+            λ j l u.
+            (let t = g .top j l (omega arith) in
+            elim (ℕ-discrete (f j) m) [ yes q ↦ absurd (s .others j l u q) | no n ↦ omega arith ]);
       }
 
   -- by the height that the machine compares

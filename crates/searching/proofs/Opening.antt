@@ -10,7 +10,7 @@ use native.Mathlib.Nat.{mul-le-mul, mul-le-mul-left}
 use borrow.Author.Tests.{lt-ltb, le-ltb}
 use lib.IntN.{ℤ, pos, negsuc}
 use lib.Signed.{ltZ}
-use Rattle.prelude.proofs.Bools.{and-true, true-and, two, not-true, not-both}
+use Rattle.prelude.proofs.Bools.{and-true, true-and, two, not-true}
 use Rattle.rules.specs.declared.Sides.{Sides}
 use Rattle.rules.specs.Grid.{size, isNegative, distanceAt}
 use Rattle.rules.specs.Begin.{exposed}
@@ -19,7 +19,6 @@ use Rattle.rules.specs.Machine.{isInside, outside, farther}
 use Rattle.rules.specs.Choice.{Foremost}
 use Rattle.rules.proofs.Places.{fit}
 use Rattle.rules.proofs.Foremost.{farther-order, none-first, foremost-first-of}
-use Rattle.neighbourhood.specs.Neighbourhood.{Inner}
 use Rattle.neighbourhood.proofs.Interior.{first-below, room}
 use Rattle.neighbourhood.proofs.Bodies.{kept-inner}
 use Rattle.searching.specs.Argmax.{enclosed, surfaceAt, heightOf, heightAt, keyAt, rank, Leading, Layers, Searchable}

@@ -54,4 +54,5 @@ module _ (s : Sides) (status : List ℕ) (i : ℕ) (n : Inner s i) where
       let e16 = face 16 (i + s .a) (omega arith) (omega arith) in
       let e22 = face 22 (i + l) (omega arith) (omega arith) in
       (λ k. not (e4 k) || (not (e10 k) || (not (e12 k) || (not (e14 k) || (not (e16 k) || (not (e22 k) || false))))))
-      ∙ six (isKept status (i - l)) (isKept status (i - s .a)) (isKept status (i - 1)) (isKept status (i + 1)) (isKept status (i + s .a)) (isKept status (i + l))
+      ∙ six (isKept status (i - l)) (isKept status (i - s .a)) (isKept status (i - 1)) (isKept status (i + 1)) (isKept status (i + s .a))
+      (isKept status (i + l))

@@ -7,7 +7,8 @@ ghost use Rattle.cells.specs.Groups.{any};
 ghost use Rattle.rules.specs.Grid.{from};
 ghost use Rattle.rules.specs.Status.{isPending, firstOf, openable};
 ghost use Rattle.rules.specs.Machine.{outside, farther, closedAt};
-ghost use Rattle.searching.specs.Argmax.{found, surfaceAt, heightOf, heightAt, keyAt, rank, higher, heldOf, Greatest, Holding, Leading, Span, Peak, Layers, Searchable};
+ghost use Rattle.searching.specs.Argmax.{found, surfaceAt, heightOf, heightAt, keyAt, rank, higher};
+ghost use Rattle.searching.specs.Argmax.{heldOf, Greatest, Holding, Leading, Span, Peak, Layers, Searchable};
 ghost use Rattle.searching.specs.Closing.{closedIf};
 use rules::Sides;
 

@@ -1,15 +1,15 @@
 -- The idle positions of a neighbourhood as bits: what is kept, without what is pending.
-use mathlib.Core.Path.{_≡_, refl, sym, ap, ap₂, _∙_, subst}
+use mathlib.Core.Path.{_≡_, refl, sym, ap, ap₂, _∙_}
 use mathlib.Core.Logic.{inl, inr}
 use mathlib.Core.Bool.{Bool, true, false, not, _&&_, true≢false}
 use Prim.Native.Nat.{ℕ, _+_, _*_, _/_, _%_, _^_, _≤_, _<_}
 use native.Mathlib.Omega.{arith}
 use native.Mathlib.Nat.{div-eq-of-lt, lt-of-le-of-lt}
-use borrow.Author.Tests.{eqb-true, eqb-false, eq-eqb, ne-eqb, ltb-true, ltb-false}
+use borrow.Author.Tests.{eqb-true, eq-eqb, ltb-true, ltb-false}
 use lib.Dec.{eqb, ltb, lit<}
 use lib.Pow.{pow-mono}
 use lib.Bits.{bitAnd, bitXor, and-le-l, and-le-r}
-use Rattle.prelude.proofs.Bools.{two, and-true, true-and, not-true, not-both}
+use Rattle.prelude.proofs.Bools.{two, and-true, true-and, not-both}
 use Rattle.bits.specs.Bits.{has, bits}
 use Rattle.bits.proofs.Bits.{has-and, has-shr, bits-has, has-bits, bits-ext, bits-xor, bits-lt, unlike, below}
 use Rattle.waking.specs.Waking.{idleAt, idleBit}

@@ -1,13 +1,12 @@
 -- Waking: one voxel, the voxels of two sets one after the other, and those at the bits of a number, one bit after the other.
-use mathlib.Core.Path.{_≡_, refl, sym, ap, ap₂, _∙_, subst}
+use mathlib.Core.Path.{_≡_, refl, sym, ap, _∙_, subst}
 use mathlib.Core.Logic.{_⊎_, inl, inr}
-use mathlib.Core.Bool.{Bool, true, false, not, cond, _&&_}
+use mathlib.Core.Bool.{Bool, true, false, not, cond}
 use mathlib.Core.List.{List}
-use Prim.Native.Nat.{ℕ, zero, suc, _+_, _-_, _*_, _/_, _%_, _^_, _≤_, _<_, min}
+use Prim.Native.Nat.{ℕ, _+_, _-_, _*_, _/_, _%_, _^_, _≤_, _<_, min}
 use native.Mathlib.Omega.{arith}
 use native.Mathlib.Decide.{ℕ-discrete}
 use borrow.Author.Tests.{eqb-true, eqb-false}
-use lib.Dec.{eqb}
 use lib.Bits.{bitAnd, bitOr, or-add-and, and-step, and-mask}
 use lib.IntN.{ℤ}
 use lib.ListN.{length, set, length-set}
@@ -18,7 +17,7 @@ use Rattle.rules.specs.Status.{statusOf, pendingByte, woken}
 use Rattle.rules.specs.Machine.{isInside, outside}
 use Rattle.rules.proofs.Topology.Bytes.{woken-pending}
 use Rattle.bits.specs.Bits.{has}
-use Rattle.neighbourhood.specs.Neighbourhood.{offset, Room}
+use Rattle.neighbourhood.specs.Neighbourhood.{Room}
 use Rattle.neighbourhood.proofs.Interior.{offset-most}
 use Rattle.bits.specs.Lowest.{Lowest}
 use Rattle.waking.specs.Waking.{wokenIf, Woken, Only, AtBits, fromVoxel}
@@ -192,5 +191,9 @@ module _ (free : ℕ → Bool) (x : ℕ) (voxelAt : ℕ → ℕ) (before : List 
             | no n ↦ inl (c, e, sym (low .others c n) ∙ f, g, h)
           ]
 
-  pub rousing-done : (m : ℕ) (after : List ℕ) → Rousing free x voxelAt before m after → ((t : ℕ) → has m t ≡ false) → Woken (AtBits free x voxelAt) before after
+  pub rousing-done :
+      (m : ℕ) (after : List ℕ)
+      → Rousing free x voxelAt before m after
+      → ((t : ℕ) → has m t ≡ false)
+      → Woken (AtBits free x voxelAt) before after
   rousing-done m after r none = woken-same (λ j q. (q .0, q .1, q .3, q .4)) (λ j q. (q .0, q .1, none (q .0), q .2, q .3)) (r .woken)

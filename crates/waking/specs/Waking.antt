@@ -10,7 +10,7 @@ use lib.ListN.{length}
 use Rattle.rules.specs.declared.Sides.{Sides}
 use Rattle.rules.specs.Grid.{size, isNegative}
 use Rattle.rules.specs.Status.{statusOf, woken}
-use Rattle.bits.specs.Bits.{has, bits}
+use Rattle.bits.specs.Bits.{has}
 use Rattle.neighbourhood.specs.Neighbourhood.{Inner, offset, Room}
 
 -- ---- idle positions: kept and not pending, the middle left out

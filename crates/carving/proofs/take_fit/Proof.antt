@@ -24,7 +24,8 @@ remove-requires c κs =
 counted-requires : tie.Need-counted-requires
 counted-requires c κs =
     let r = c .before .before in
-    let s = r .before .before .before .before .before .before in
+    let s-back = r .before .before .before in
+    let s = s-back .before .before .before in
     countable-still (lent-to s) (s .pre .working .fit)
 
 same-length : tie.Need-same-length

@@ -1,14 +1,29 @@
 -- `counting::counted` meets its contract: sums that fit.
-use Prim.Native.Nat.{_+_}
+use mathlib.Core.Path.{_≡_, refl}
+use native.Mathlib.Omega.{arith}
 use borrow.Author.Needs.{needs}
 use mir.Syntax.{w32}
 use mir.Val.{SFits}
+use Rattle.rules.specs.declared.Record.{Record}
 use Rattle.counting.proofs.Sums.{sum-fits, sum-is}
 use Rattle.counting.proofs.counted.Statement.{statement}
 use Rattle.counting.proofs.counted.Tie as tie
 
 euler-fits : (c : tie.After-struct-told) → SFits w32 (c .before .before .before .args .given .euler)
 euler-fits c = record { sfits = c .struct-told .given .1 .1 .1 .1 .1 .0 .1 }
+
+same-record :
+    (r t : Record)
+    → r .sides ≡ t .sides
+    → r .allowed ≡ t .allowed
+    → r .openings ≡ t .openings
+    → r .removals ≡ t .removals
+    → r .examinations ≡ t .examinations
+    → r .euler ≡ t .euler
+    → r .finished ≡ t .finished
+    → r ≡ t
+same-record r t s a o m x e f = λ i.
+    record { sides = s i; allowed = a i; openings = o i; removals = m i; examinations = x i; euler = e i; finished = f i }
 
 add-euler : tie.Need-add-euler
 add-euler c =
@@ -38,16 +53,9 @@ returns c =
     let s = t .before .before .before in
     let a = s .args in
     let e = sum-is (a .given .euler) (a .change) (euler-fits t) (s .fits .change) (s .pre .euler) (s .pre .small) in
-    λ i.
-    record {
-      sides = a .given .sides;
-      allowed = a .given .allowed;
-      openings = a .given .openings + a .opened;
-      removals = a .given .removals + w1 .wide .ensures i;
-      examinations = a .given .examinations + w2 .wide2 .ensures i;
-      euler = e i;
-      finished = a .given .finished;
-    }
+    let w = w1 .wide .ensures in
+    let x = w2 .wide2 .ensures in
+    same-record _ _ refl refl (omega arith) (omega arith) (omega arith) e refl
 
 pub counted-spec : {M : Type 1} → statement M
 counted-spec =

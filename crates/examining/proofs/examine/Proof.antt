@@ -57,7 +57,8 @@ same-length-3 c = search needs
 
 returns : tie.Need-returns
 returns c =
-    let r = c .before .before .before .before .before .before in
+    let r-back = c .before .before .before in
+    let r = r-back .before .before .before in
     let t = r .before .before .before .before in
     let p = t .before in
     let a = start (p .before .before) .args in
@@ -77,7 +78,8 @@ same-length-6 c = search needs
 
 returns-2 : tie.Need-returns-2
 returns-2 c =
-    let r = c .before .before .before .before .before .before in
+    let r-back = c .before .before .before in
+    let r = r-back .before .before .before in
     let t = r .before .before .before .before in
     let p = t .before in
     let a = start (p .before .before) .args in

@@ -54,7 +54,8 @@ wake-requires c κs =
       index = k .clear .ensures .index;
       bits =
           record {
-            room = subst₂ (λ (m n : ℕ). Room (a .s .a) (a .s .a * a .s .b) m n) (sym (d .before .first-around .ensures)) (sym len) (room (a .s) (a .i) (p .voxel));
+            room = subst₂ (λ (m n : ℕ). Room (a .s .a) (a .s .a * a .s .b) m n) (sym (d .before .first-around .ensures)) (sym len)
+                (room (a .s) (a .i) (p .voxel));
             few = subst (λ (n : ℕ). n < 2 ^ 54) (sym (d .idle-bits .ensures)) (idle-few (a .code));
           };
     }
@@ -70,7 +71,8 @@ same-length-3 c = search needs
 
 returns : tie.Need-returns
 returns c =
-    let w = c .before .before .before .before .before .before in
+    let w-back = c .before .before .before in
+    let w = w-back .before .before .before in
     let k = cleared (w .before) in
     let d = asked k in
     let s = start d in

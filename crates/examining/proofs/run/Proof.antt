@@ -19,7 +19,10 @@ abbrev μ-loop : tie.MeasureT-loop
 μ-loop s dist status₀ offsets₀ tree₀ limit examined₀ removed₀ status offsets tree examined removed = limit - examined
 
 loop-holds : tie.Need-loop-holds Inv-loop μ-loop
-loop-holds c = let s = c .before .before .before in let a = s .args in running-start (a .s) (a .dist .now) (a .limit) (a .status .now) (a .offsets .now) (a .tree .now) (s .pre .0) (s .pre .1)
+loop-holds c =
+    let s = c .before .before .before in
+    let a = s .args in
+    running-start (a .s) (a .dist .now) (a .limit) (a .status .now) (a .offsets .now) (a .tree .now) (s .pre .0) (s .pre .1)
 
 best-requires : tie.Need-best-requires Inv-loop μ-loop
 best-requires c κs = c .before .before .before .before .loop .inv .index
@@ -50,7 +53,8 @@ returns c =
     let b = c .before .before in
     let l = at-best b in
     let a = start l .args in
-    running-none (a .s) (a .dist .now) (a .limit) (a .status .now) (a .offsets .now) (a .tree .now) (l .loop .status) (l .loop .offsets) (l .loop .tree) (l .loop .examined) (l .loop .removed) (l .loop .inv) _ refl refl
+    running-none (a .s) (a .dist .now) (a .limit) (a .status .now) (a .offsets .now) (a .tree .now) (l .loop .status) (l .loop .offsets)
+    (l .loop .tree) (l .loop .examined) (l .loop .removed) (l .loop .inv) _ refl refl
     (subst (Best (a .dist .now) (l .loop .status)) (c .enum-told .given .1) (b .best .ensures))
 
 -- the voxel chosen
@@ -72,11 +76,15 @@ examine-requires c κs =
     let a = start l .args in
     let b = best-at x in
     let k = l .loop .inv in
-    record { index = k .index; work = k .work; below = running-below (a .s) (a .dist .now) (a .limit) (a .status .now) (a .offsets .now) (a .tree .now) (l .loop .status) (l .loop .offsets) (l .loop .tree) (l .loop .examined) (l .loop .removed) (l .loop .inv) _ b; pending = b .pending _ refl }
+    let h =
+    running-below (a .s) (a .dist .now) (a .limit) (a .status .now) (a .offsets .now) (a .tree .now) (l .loop .status) (l .loop .offsets)
+    (l .loop .tree) (l .loop .examined) (l .loop .removed) k _ b in
+    record { index = k .index; work = k .work; below = h; pending = b .pending _ refl }
 
 add-removed : tie.Need-add-removed Inv-loop μ-loop
 add-removed c =
-    let e = c .before .before .before .before .before .before in
+    let e-back = c .before .before .before in
+    let e = e-back .before .before .before in
     let x = chosen-at e in
     let b = x .before .before in
     let l = at-best b in
@@ -88,7 +96,8 @@ add-removed c =
 
 add-examined : tie.Need-add-examined Inv-loop μ-loop
 add-examined c =
-    let e = c .before .before .before .before .before .before in
+    let e-back = c .before .before .before in
+    let e = e-back .before .before .before in
     let b = chosen-at e .before .before in
     let f = start (at-best b) .fits .limit in
     let t = b .before .before .before .before .loop-test .taken in
@@ -96,21 +105,23 @@ add-examined c =
 
 loop-less : tie.Need-loop-less Inv-loop μ-loop
 loop-less c =
-    let e = c .before .before .before .before .before .before in
+    let e-back = c .before .before .before in
+    let e = e-back .before .before .before in
     let b = chosen-at e .before .before in
     let t = b .before .before .before .before .loop-test .taken in
     omega arith
 
 loop-again : tie.Need-loop-again Inv-loop μ-loop
 loop-again c =
-    let e = c .before .before .before .before .before .before in
+    let e-back = c .before .before .before in
+    let e = e-back .before .before .before in
     let x = chosen-at e in
     let b = x .before .before in
     let l = at-best b in
     let a = start l .args in
-    running-step (a .s) (a .dist .now) (a .limit) (a .status .now) (a .offsets .now) (a .tree .now) (l .loop .status) (l .loop .offsets) (l .loop .tree) (l .loop .examined) (l .loop .removed) (l .loop .inv) _ (best-at x) _ _ _ _
-    (b .before .before .before .before .loop-test .taken) (e .examine .ensures) (e .examine .kept .1 .1 .0) (e .examine .kept .1 .1 .1 .0)
-    (e .examine .kept .1 .1 .1 .1 .0)
+    running-step (a .s) (a .dist .now) (a .limit) (a .status .now) (a .offsets .now) (a .tree .now) (l .loop .status) (l .loop .offsets)
+    (l .loop .tree) (l .loop .examined) (l .loop .removed) (l .loop .inv) _ (best-at x) _ _ _ _
+    (b .before .before .before .before .loop-test .taken) (e .examine .ensures) (search needs) (search needs) (search needs)
 
 same-length-4 : tie.Need-same-length-4 Inv-loop μ-loop
 same-length-4 c = c .before .loop .inv .statuses
@@ -125,7 +136,8 @@ returns-2 : tie.Need-returns-2 Inv-loop μ-loop
 returns-2 c =
     let l = c .before in
     let a = start l .args in
-    running-done (a .s) (a .dist .now) (a .limit) (a .status .now) (a .offsets .now) (a .tree .now) (l .loop .status) (l .loop .offsets) (l .loop .tree) (l .loop .examined) (l .loop .removed) (l .loop .inv) _ refl refl (c .loop-test .left)
+    running-done (a .s) (a .dist .now) (a .limit) (a .status .now) (a .offsets .now) (a .tree .now) (l .loop .status) (l .loop .offsets)
+    (l .loop .tree) (l .loop .examined) (l .loop .removed) (l .loop .inv) _ refl refl (c .loop-test .left)
 
 pub run-spec : {M : Type 1} → statement M
 run-spec =

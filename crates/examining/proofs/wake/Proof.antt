@@ -22,7 +22,10 @@ abbrev μ-loop : tie.MeasureT-loop
 μ-loop dist status₀ offsets₀ tree₀ a l at idle m₀ status offsets tree m = m
 
 loop-holds : tie.Need-loop-holds Inv-loop μ-loop
-loop-holds c = let s = c .before .before .before in let a = s .args in calling-start (a .dist .now) (a .idle) (fromVoxel (a .a) (a .l) (a .at)) (a .status .now) (a .offsets .now) (a .tree .now) (s .pre .index)
+loop-holds c =
+    let s = c .before .before .before in
+    let a = s .args in
+    calling-start (a .dist .now) (a .idle) (fromVoxel (a .a) (a .l) (a .at)) (a .status .now) (a .offsets .now) (a .tree .now) (s .pre .index)
 
 lowest-requires : tie.Need-lowest-requires Inv-loop μ-loop
 lowest-requires c κs = c .loop-test .taken
@@ -58,7 +61,8 @@ add-wake-one c = let i = inside c in search needs
 wake-one-requires : tie.Need-wake-one-requires Inv-loop μ-loop
 wake-one-requires c κs =
     let i = inside c in
-    let v = c .before .before .before .before .before .before .loop .inv in
+    let v-back = c .before .before .before in
+    let v = v-back .before .before .before .loop .inv in
     (v .index, omega (arith, v .statuses))
 
 sub-m : tie.Need-sub-m Inv-loop μ-loop
@@ -66,21 +70,25 @@ sub-m c = search needs
 
 loop-less : tie.Need-loop-less Inv-loop μ-loop
 loop-less c =
-    let w = c .before .before .before .before .before .before in
-    let t = w .before .before .before .before .before .before in
+    let w-back = c .before .before .before in
+    let w = w-back .before .before .before in
+    let t-back = w .before .before .before in
+    let t = t-back .before .before .before in
     let m = t .before .loop .m in
     omega (arith, and-le-r m (m - 1), t .loop-test .taken)
 
 loop-again : tie.Need-loop-again Inv-loop μ-loop
 loop-again c =
-    let w = c .before .before .before .before .before .before in
+    let w-back = c .before .before .before in
+    let w = w-back .before .before .before in
     let o = w .before in
     let t = o .before .before .before .before in
     let l = t .before .before in
     let a = start l .args in
-    calling-next (a .dist .now) (a .idle) (fromVoxel (a .a) (a .l) (a .at)) (a .status .now) (a .offsets .now) (a .tree .now) (l .loop .status) (l .loop .offsets) (l .loop .tree) _ _ _ (l .loop .m)
+    calling-next (a .dist .now) (a .idle) (fromVoxel (a .a) (a .l) (a .at)) (a .status .now) (a .offsets .now) (a .tree .now) (l .loop .status)
+    (l .loop .offsets) (l .loop .tree) _ _ _ (l .loop .m)
     (t .lowest .result) (l .loop .inv) (t .lowest .ensures) (rw (o .offset .ensures) at (w .wake-one .ensures))
-    (w .wake-one .kept .1 .0) (w .wake-one .kept .1 .1 .0) (w .wake-one .kept .1 .1 .1 .0)
+    (search needs) (search needs) (search needs)
 
 same-length : tie.Need-same-length Inv-loop μ-loop
 same-length c = c .before .loop .inv .statuses
@@ -96,7 +104,8 @@ returns c =
     let l = c .before in
     let a = start l .args in
     let z : l .loop .m ≡ 0 = omega (arith, c .loop-test .left) in
-    calling-done (a .dist .now) (a .idle) (fromVoxel (a .a) (a .l) (a .at)) (a .status .now) (a .offsets .now) (a .tree .now) (l .loop .status) (l .loop .offsets) (l .loop .tree) (l .loop .m) (l .loop .inv)
+    calling-done (a .dist .now) (a .idle) (fromVoxel (a .a) (a .l) (a .at)) (a .status .now) (a .offsets .now) (a .tree .now) (l .loop .status)
+    (l .loop .offsets) (l .loop .tree) (l .loop .m) (l .loop .inv)
     (λ t. ap (λ (m : ℕ). has m t) z ∙ has-beyond 0 0 t (lit< tt) (omega arith))
 
 pub wake-spec : {M : Type 1} → statement M

@@ -46,7 +46,8 @@ same-length-3 c = search needs
 
 returns-2 : tie.Need-returns-2
 returns-2 c =
-    let k = c .before .before .before .before .before .before in
+    let k-back = c .before .before .before in
+    let k = k-back .before .before .before in
     let e = k .before .before .before .before in
     let d = e .before in
     let s = d .before .before .before .before in

@@ -1,5 +1,5 @@
 -- `local_test::passes` meets its contract: two counts of ones decide, and the first is enough where it fails.
-use mathlib.Core.Path.{_≡_, refl, sym, ap, _∙_}
+use mathlib.Core.Path.{refl, sym, ap, _∙_}
 use mathlib.Core.Bool.{Bool, _&&_}
 use Prim.Native.Nat.{_+_}
 use native.Mathlib.Omega.{arith}
@@ -8,6 +8,7 @@ use borrow.Author.Tests.{eq-eqb, ne-eqb}
 use lib.Dec.{eqb}
 use lib.Bits.{bitAnd}
 use lib.Count.{ones}
+use Rattle.cells.specs.Cells.{passes}
 use Rattle.closed_sets.specs.Rank.{rank}
 use Rattle.bits.specs.Bits.{has}
 use Rattle.local_test.proofs.Counts.{Counted, counted}
@@ -25,6 +26,7 @@ known :
 known c = counted (has (c .before .args .kept)) (c .touched-bits .result) _ (c .touched-bits .ensures) refl
 
 returns : tie.Need-returns
+unfolding passes
 returns c =
     let t = c .before in
     let x = t .touched-bits .result in
@@ -38,6 +40,7 @@ add-result : tie.Need-add-result
 add-result c = record { fits = let f = known (c .before .before) in omega (arith, c .rank .ensures) }
 
 returns-2 : tie.Need-returns-2
+unfolding passes
 returns-2 c =
     let e = c .before in
     let t = e .before in

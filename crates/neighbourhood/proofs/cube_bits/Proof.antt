@@ -30,7 +30,8 @@ returns c =
     let r2 = c .before in
     let r1 = r2 .before in
     let a = r1 .before .before .args in
-    strided 18 (lit< tt) 64 (layerBit (a .status .now) (a .a)) (a .at) (a .l) (lit≤ tt) (r1 .layer-bits .ensures) (r2 .layer-bits2 .ensures) (c .layer-bits3 .ensures)
+    strided 18 (lit< tt) 64 (layerBit (a .status .now) (a .a)) (a .at) (a .l) (lit≤ tt) (r1 .layer-bits .ensures) (r2 .layer-bits2 .ensures)
+    (c .layer-bits3 .ensures)
 
 pub cube-bits-spec : {M : Type 1} → statement M
 cube-bits-spec =

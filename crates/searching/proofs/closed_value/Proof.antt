@@ -1,12 +1,13 @@
 -- `searching::closed_value` meets its contract: each need is a law of `Closing`.
 use mathlib.Core.Path.{_≡_, sym, ap, _∙_, subst}
-use mathlib.Core.Bool.{false}
+use mathlib.Core.Bool.{true, false}
 use lib.IntN.{ℤ, pos, _-ℤ_}
 use lib.Signed.{ltZ}
 use mir.Syntax.{w32}
 use mir.Val.{SFits}
 use mir.Facts.{toZ-ofZ}
 use Rattle.rules.specs.Grid.{isNegative}
+use Rattle.rules.specs.Status.{keptByte}
 use Rattle.prelude.proofs.Signs.{held-negative}
 use Rattle.neighbourhood.proofs.Gathering.{even-gone, odd-kept}
 use Rattle.searching.proofs.Closing.{closed-gone, closed-negative, closed-zero, closed-more, minus-fits}
@@ -16,10 +17,13 @@ use Rattle.searching.proofs.closed_value.Tie as tie
 returns : tie.Need-returns
 returns c = let a = c .before in toZ-ofZ (a .fits .d) ∙ sym (closed-gone (a .args .d) (a .args .x) (even-gone (a .args .x) (c .if1 .taken)))
 
+kept : (c : tie.Else1) → keptByte (c .before .args .x) ≡ true
+kept c = odd-kept (c .before .args .x) (c .if1 .left)
+
 returns-2 : tie.Need-returns-2
 returns-2 c =
     let a = c .before .before in
-    toZ-ofZ (a .fits .d) ∙ sym (closed-negative (a .args .d) (a .args .x) (odd-kept (a .args .x) (c .before .if1 .left)) (sym (held-negative (a .fits .d)) ∙ c .if2 .taken))
+    toZ-ofZ (a .fits .d) ∙ sym (closed-negative (a .args .d) (a .args .x) (kept (c .before)) (sym (held-negative (a .fits .d)) ∙ c .if2 .taken))
 
 above : (c : tie.Else2) → isNegative (c .before .before .args .d) ≡ false
 above c = sym (held-negative (c .before .before .fits .d)) ∙ c .if2 .left
@@ -27,7 +31,8 @@ above c = sym (held-negative (c .before .before .fits .d)) ∙ c .if2 .left
 returns-3 : tie.Need-returns-3
 returns-3 c =
     let a = c .before .before .before in
-    sym (closed-zero (a .args .d) (a .args .x) (odd-kept (a .args .x) (c .before .before .if1 .left)) (above (c .before)) (ap (λ (z : ℤ). ltZ z (pos 1)) (sym (toZ-ofZ (a .fits .d))) ∙ c .if3 .taken))
+    sym (closed-zero (a .args .d) (a .args .x) (kept (c .before .before)) (above (c .before))
+    (ap (λ (z : ℤ). ltZ z (pos 1)) (sym (toZ-ofZ (a .fits .d))) ∙ c .if3 .taken))
 
 sub-result : tie.Need-sub-result
 sub-result c =
@@ -38,7 +43,8 @@ returns-4 : tie.Need-returns-4
 returns-4 c =
     let a = c .before .before .before in
     toZ-ofZ (sub-result c) ∙ ap (λ (z : ℤ). pos 0 -ℤ z) (toZ-ofZ (a .fits .d))
-    ∙ closed-more (a .args .d) (a .args .x) (odd-kept (a .args .x) (c .before .before .if1 .left)) (above (c .before)) (ap (λ (z : ℤ). ltZ z (pos 1)) (sym (toZ-ofZ (a .fits .d))) ∙ c .if3 .left)
+    ∙ closed-more (a .args .d) (a .args .x) (kept (c .before .before)) (above (c .before))
+    (ap (λ (z : ℤ). ltZ z (pos 1)) (sym (toZ-ofZ (a .fits .d))) ∙ c .if3 .left)
 
 pub closed-value-spec : {M : Type 1} → statement M
 closed-value-spec = tie.close (tie.spec returns returns-2 returns-3 sub-result returns-4)

@@ -1,12 +1,11 @@
 -- `searching::greatest` meets its contract: the loop has the greatest height before voxel i.
 use mathlib.Core.Path.{_≡_, refl, subst}
-use Prim.Native.Nat.{ℕ, _+_, _-_, _≤_}
+use Prim.Native.Nat.{ℕ, _-_, _≤_}
 use native.Mathlib.Omega.{arith}
 use borrow.Author.Needs.{sfits-of, needs}
 use lib.Dec.{lit<}
-use mir.Val.{SFits, toZ, ofZ}
+use mir.Val.{SFits, toZ}
 use mir.Syntax.{w32}
-use mir.Facts.{toZ-ofZ}
 use Rattle.searching.specs.Argmax.{heightAt, keyAt, rank, Greatest}
 use Rattle.searching.proofs.Argmax.{key-is, greatest-start, greatest-held}
 use Rattle.searching.proofs.greatest.Statement.{statement}

@@ -52,7 +52,16 @@ greatest-requires c κs =
     let y = p .0 in
     let v = l .loop .inv in
     let e = c .stretch .ensures in
-    (record { one = y .one; row = y .row; low = omega (arith, v .0, v .2); order = omega arith; high = omega (arith, v .0, v .1, v .3, e .1, w .loop-test .taken, y .ends) }, p .1)
+    let t = w .loop-test .taken in (
+      record {
+        one = y .one;
+        row = y .row;
+        low = omega (arith, v .0, v .2);
+        order = omega arith;
+        high = omega (arith, v .0, v .1, v .3, e .1, y .ends);
+      },
+      p .1,
+    )
 
 keep-requires : tie.Need-keep-requires Inv-loop μ-loop
 keep-requires c κs = search needs

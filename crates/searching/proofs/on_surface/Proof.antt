@@ -51,10 +51,11 @@ shared-slice-read-result c = search needs
 returns : tie.Need-returns
 unfolding surfaceAt enclosed isKept keptByte
 returns c =
-    let a = c .before .before .before .before .before .before .before .args in
+    let a-back = c .before .before .before in
+    let a = a-back .before .before .before .before .args in
     let x : ℕ → ℕ = statusOf (a .status .now) in
-    ap (λ (t : Bool). keptByte (x (a .i)) && not t)
-    (kept-and (x (a .i - a .l)) _ (kept-and (x (a .i - a .a)) _ (kept-and (x (a .i - 1)) _ (kept-and (x (a .i + 1)) _ (kept-and (x (a .i + a .a)) (x (a .i + a .l)) refl)))))
+    let last = kept-and (x (a .i + 1)) _ (kept-and (x (a .i + a .a)) (x (a .i + a .l)) refl) in
+    ap (λ (t : Bool). keptByte (x (a .i)) && not t) (kept-and (x (a .i - a .l)) _ (kept-and (x (a .i - a .a)) _ (kept-and (x (a .i - 1)) _ last)))
 
 pub on-surface-spec : {M : Type 1} → statement M
 on-surface-spec =

@@ -22,7 +22,9 @@ abbrev μ-loop : tie.MeasureT-loop
 μ-loop dist status₀ a l at idle m₀ status m = m
 
 loop-holds : tie.Need-loop-holds Inv-loop μ-loop
-loop-holds c = let a = c .before .args in (omega arith, refl, rousing-start (outside (a .dist .now)) (a .idle) (fromVoxel (a .a) (a .l) (a .at)) (a .status .now))
+loop-holds c =
+    let a = c .before .args in
+    (omega arith, refl, rousing-start (outside (a .dist .now)) (a .idle) (fromVoxel (a .a) (a .l) (a .at)) (a .status .now))
 
 lowest-requires : tie.Need-lowest-requires Inv-loop μ-loop
 lowest-requires c κs = c .loop-test .taken
@@ -39,7 +41,12 @@ offset-requires c κs =
     let p = c .before .before .before .before .before .pre .0 in
     record { row = p .room .row; layer = p .room .layer; below = position (c .before) }
 
-inside : (c : tie.After-offset Inv-loop μ-loop) → let s = c .before .before .before .before .before .before in s .args .at + c .offset .result < length (s .args .status .now)
+abbrev start : tie.At-loop Inv-loop μ-loop → tie.Start Inv-loop μ-loop
+start c = c .before .before
+
+inside :
+    (c : tie.After-offset Inv-loop μ-loop)
+    → let a = start (c .before .before .before .before) .args in a .at + c .offset .result < length (a .status .now)
 inside c =
     let w = c .before .before in
     let s = w .before .before .before .before in
@@ -61,7 +68,8 @@ sub-m c = search needs
 
 loop-less : tie.Need-loop-less Inv-loop μ-loop
 loop-less c =
-    let t = c .before .before .before .before .before .before in
+    let t-back = c .before .before .before in
+    let t = t-back .before .before .before in
     let m = t .before .loop .m in
     omega (arith, and-le-r m (m - 1), t .loop-test .taken)
 
