@@ -17,7 +17,9 @@ enum-known-a-2 : tie.Need-enum-known-a-2
 enum-known-a-2 c = search needs
 
 returns : tie.Need-returns
-returns c = rw (c .record-out .ensures) (ap (λ (x : Carved). carveStruct (c .before .before .before .before .args .given) (carvedAnswer x)) (sym (c .before .before .a .given .1)))
+returns c =
+    let start = c .before .before .before .before in
+    rw (c .record-out .ensures) (ap (λ (x : Carved). carveStruct (start .args .given) (carvedAnswer x)) (sym (c .before .before .a .given .1)))
 
 returns-2 : tie.Need-returns-2
 returns-2 c = ap (λ (x : Carved). carveStruct (c .before .before .before .args .given) (carvedAnswer x)) (sym (c .before .a2 .given .1))

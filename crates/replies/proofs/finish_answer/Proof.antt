@@ -17,7 +17,9 @@ enum-known-f-2 : tie.Need-enum-known-f-2
 enum-known-f-2 c = search needs
 
 returns : tie.Need-returns
-returns c = rw (c .record-out .ensures) (ap (λ (x : Finished). finishStruct (c .before .before .before .before .args .given) (finishedAnswer x)) (sym (c .before .before .f .given .1)))
+returns c =
+    let start = c .before .before .before .before in
+    rw (c .record-out .ensures) (ap (λ (x : Finished). finishStruct (start .args .given) (finishedAnswer x)) (sym (c .before .before .f .given .1)))
 
 returns-2 : tie.Need-returns-2
 returns-2 c = ap (λ (x : Finished). finishStruct (c .before .before .before .args .given) (finishedAnswer x)) (sym (c .before .f2 .given .1))

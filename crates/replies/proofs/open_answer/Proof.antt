@@ -17,7 +17,9 @@ enum-known-o-2 : tie.Need-enum-known-o-2
 enum-known-o-2 c = search needs
 
 returns : tie.Need-returns
-returns c = rw (c .record-out .ensures) (ap (λ (x : Opened). openStruct (c .before .before .before .before .args .given) (openedAnswer x)) (sym (c .before .before .o .given .1)))
+returns c =
+    let start = c .before .before .before .before in
+    rw (c .record-out .ensures) (ap (λ (x : Opened). openStruct (start .args .given) (openedAnswer x)) (sym (c .before .before .o .given .1)))
 
 returns-2 : tie.Need-returns-2
 returns-2 c = ap (λ (x : Opened). openStruct (c .before .before .before .args .given) (openedAnswer x)) (sym (c .before .o2 .given .1))

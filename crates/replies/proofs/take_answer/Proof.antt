@@ -17,7 +17,9 @@ enum-known-t-2 : tie.Need-enum-known-t-2
 enum-known-t-2 c = search needs
 
 returns : tie.Need-returns
-returns c = rw (c .record-out .ensures) (ap (λ (x : Taken). takeStruct (c .before .before .before .before .args .given) (takenAnswer x)) (sym (c .before .before .t .given .1)))
+returns c =
+    let start = c .before .before .before .before in
+    rw (c .record-out .ensures) (ap (λ (x : Taken). takeStruct (start .args .given) (takenAnswer x)) (sym (c .before .before .t .given .1)))
 
 returns-2 : tie.Need-returns-2
 returns-2 c = ap (λ (x : Taken). takeStruct (c .before .before .before .args .given) (takenAnswer x)) (sym (c .before .t2 .given .1))
