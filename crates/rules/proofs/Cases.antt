@@ -2,12 +2,17 @@
 use mathlib.Core.Path.{refl}
 use Rattle.cells.specs.Groups.{any, those, reached, others, enter, gather, groups}
 use Rattle.cells.specs.Cells.{contains, joined, touched, groupCount, dimension, countOf, testOf, test, passes}
-use Rattle.rules.specs.Grid.{fitSides, size, index, voxel, from, voxels, onBorder, gap, near, touch, apart, steps, shareFace, blockOf, block, measuredNegative, measuredNonNegative}
+use Rattle.rules.specs.Grid.{fitSides, size, index, voxel, from, voxels, onBorder, gap, near, touch, apart, steps, shareFace, blockOf, block}
+use Rattle.rules.specs.Grid.{measuredNegative, measuredNonNegative}
 use Rattle.rules.specs.Checks.{unless}
-use Rattle.rules.specs.Begin.{least, greatest, isIn, negatives, larger, largest, inside, facing, greatestFacing, distance, workedAt, worked, inBox, exposed, statusAt, startStatus, begun, begin}
-use Rattle.rules.specs.Status.{keptByte, pendingByte, woken, rested, isKept, isPending, anyPending, testAt, prefer, foremost, firstOf, removable, statusWithout, without, examine, carving, openable}
-use Rattle.rules.specs.Machine.{isInside, outside, farther, unfitCounts, unfitVoxel, unfit, wrongLength, carved, carve, taken, take, toOpen, opened, openNext, closed, closedAt, finishedOf, finish}
-use Rattle.rules.specs.Cases.{start, carvedTo, ended, caseA, plate, valuesC, caseC, layerD, valuesD, caseD, valuesArc, arc, bar, CaseA, CaseC, CaseD, Arc, Bar, Numbers}
+use Rattle.rules.specs.Begin.{least, greatest, isIn, negatives, larger, largest, inside, facing, greatestFacing, distance, workedAt, worked, inBox}
+use Rattle.rules.specs.Begin.{exposed, statusAt, startStatus, begun, begin}
+use Rattle.rules.specs.Status.{keptByte, pendingByte, woken, rested, isKept, isPending, anyPending, testAt, prefer, foremost, firstOf, removable}
+use Rattle.rules.specs.Status.{statusWithout, without, examine, carving, openable}
+use Rattle.rules.specs.Machine.{isInside, outside, farther, unfitCounts, unfitVoxel, unfit, wrongLength, carved, carve, taken, take, toOpen, opened}
+use Rattle.rules.specs.Machine.{openNext, closed, closedAt, finishedOf, finish}
+use Rattle.rules.specs.Cases.{start, carvedTo, ended, caseA, plate, valuesC, caseC, layerD, valuesD, caseD, valuesArc, arc, bar, CaseA, CaseC, CaseD}
+use Rattle.rules.specs.Cases.{Arc, Bar, Numbers}
 
 -- all that a case computes with: to unfold this name is to unfold the rules
 unfoldable pub all-rules : Unit {0}

@@ -17,7 +17,8 @@ use Rattle.rules.specs.declared.Record.{Record}
 use Rattle.rules.specs.Grid.{fitSides, size, from, voxels, onBorder, isNegative, distanceAt}
 use Rattle.rules.specs.Checks.{_when_, AllHold}
 use Rattle.rules.specs.Status.{statusOf, isKept, anyPending, testAt}
-use Rattle.rules.specs.Machine.{State, isInside, unfitCounts, unfitVoxel, unfit, wrongLength, stateChecks, workingChecks, finishedChecks, voxelChecks, takeChecks, quietChecks, openingChecks, openChecks, finishChecks}
+use Rattle.rules.specs.Machine.{State, isInside, unfitCounts, unfitVoxel, unfit, wrongLength, stateChecks, workingChecks, finishedChecks, voxelChecks}
+use Rattle.rules.specs.Machine.{takeChecks, quietChecks, openingChecks, openChecks, finishChecks}
 use Rattle.rules.specs.Fit.{Lent, Known, FitVoxels, FitState, Working, Ended, Takeable, Quiet, Openable}
 use Rattle.prelude.proofs.Ranges.{none-below, below-none}
 use Rattle.rules.proofs.Checks.{hold-append}

@@ -17,7 +17,8 @@ use Rattle.prelude.proofs.Bools.{and-true, two, not-both, not-true}
 use Rattle.prelude.proofs.Ranges.{getD-map-from, length-map-from}
 use Rattle.rules.specs.declared.Sides.{Sides}
 use Rattle.rules.specs.Grid.{size, voxels, onBorder, touch, isNegative}
-use Rattle.rules.specs.Status.{Progress, statusOf, keptByte, pendingByte, woken, rested, isKept, isPending, removable, testAt, statusWithout, without, firstOf, examinedAs, examine, counted, carving}
+use Rattle.rules.specs.Status.{Progress, statusOf, keptByte, pendingByte, woken, rested, isKept, isPending, removable, testAt, statusWithout, without}
+use Rattle.rules.specs.Status.{firstOf, examinedAs, examine, counted, carving}
 use Rattle.rules.specs.Machine.{isInside, outside}
 use Rattle.rules.specs.Choice.{Order}
 use Rattle.rules.specs.Fit.{Lent, Known, FitVoxels}

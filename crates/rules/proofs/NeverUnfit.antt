@@ -24,7 +24,9 @@ use Rattle.rules.specs.Answer.{done, Outcome, Buffers, untouched, buffer
 use Rattle.rules.specs.Begin.{exposed, isIn, inside, inBox, greatestFacing, workedAt, worked, statusAt, startStatus, newRecord, beginChecks, begun, begin}
 use Rattle.rules.specs.Meaning.{found}
 use Rattle.rules.specs.Status.{Progress, statusOf, keptByte, pendingByte, isKept, isPending, anyPending, testAt, removable, openable, carving}
-use Rattle.rules.specs.Machine.{State, state, after, lentTo, isInside, outside, farther, count, stateChecks, workingChecks, takeChecks, openChecks, finishChecks, carved, carve, taken, take, toOpen, isNone, theVoxel, opened, openNext, closed, closedAt, asFinished, finishedOf, finish}
+use Rattle.rules.specs.Machine.{State, state, after, lentTo, isInside, outside, farther, count, stateChecks, workingChecks, takeChecks, openChecks}
+use Rattle.rules.specs.Machine.{finishChecks, carved, carve, taken, take, toOpen, isNone, theVoxel, opened, openNext, closed, closedAt, asFinished}
+use Rattle.rules.specs.Machine.{finishedOf, finish}
 use Rattle.rules.specs.Fit.{Lent, Known, FitVoxels, FitState, Working, Takeable, Quiet, Openable}
 use Rattle.rules.specs.Demand.{Call, carveUpTo, takeAt, openOne, finishIt, call, run, NeverUnfit, CarveEnds}
 use Rattle.rules.proofs.Checks.{by-checks, append-hold, unless-held}

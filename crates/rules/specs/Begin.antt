@@ -8,7 +8,8 @@ use lib.IntN.{ℤ, pos}
 use Rattle.cells.specs.Groups.{any, those, groups}
 use Rattle.rules.specs.declared.Sides.{Sides}
 use Rattle.rules.specs.declared.Record.{Record}
-use Rattle.rules.specs.Grid.{fitSides, size, voxel, voxels, onBorder, touch, steps, shareFace, block, facePlaces, measuredNegative, measuredNonNegative, amount, valueAt}
+use Rattle.rules.specs.Grid.{fitSides, size, voxel, voxels, onBorder, touch, steps, shareFace, block, facePlaces, measuredNegative}
+use Rattle.rules.specs.Grid.{measuredNonNegative, amount, valueAt}
 use Rattle.rules.specs.Checks.{Check, _when_, unless}
 use Rattle.rules.specs.Answer.{done, Outcome, outcome, untouched, Buffers, buffers}
 

@@ -18,7 +18,8 @@ use Rattle.rules.specs.Grid.{size, from, voxels}
 use Rattle.rules.specs.Begin.{exposed}
 use Rattle.rules.specs.Meaning.{found}
 use Rattle.rules.specs.Status.{Progress, isKept, isPending, anyPending, removable, testAt, firstOf, examine, carving, counted, openable}
-use Rattle.rules.specs.Machine.{State, after, lentTo, isInside, outside, farther, count, workingChecks, takeChecks, openChecks, finishChecks, carved, taken, toOpen, isNone, opened, theVoxel, finishedOf, carve, take, openNext, finish}
+use Rattle.rules.specs.Machine.{State, after, lentTo, isInside, outside, farther, count, workingChecks, takeChecks, openChecks, finishChecks, carved}
+use Rattle.rules.specs.Machine.{taken, toOpen, isNone, opened, theVoxel, finishedOf, carve, take, openNext, finish}
 use Rattle.rules.specs.Answer.{untouched}
 use Rattle.rules.specs.Choice.{Order}
 use Rattle.rules.specs.Fit.{Working, Takeable, Openable}

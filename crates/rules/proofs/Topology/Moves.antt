@@ -23,7 +23,8 @@ use Rattle.rules.proofs.Places.{index-voxel}
 use Rattle.rules.proofs.InsideLeast.{mem-map}
 use Rattle.rules.proofs.Topology.Around.{touch-close, at-same, close-at, neighbour-at, at-place}
 use Rattle.rules.proofs.Topology.Surface.{omit, omit-true, true-omit}
-use Rattle.rules.proofs.Topology.Removal.{AllInner, background, omit-split, passes-parts, passes-exposed, removal-euler, passing-euler, removal-body, removal-background, removal-elsewhere}
+use Rattle.rules.proofs.Topology.Removal.{AllInner, background, omit-split, passes-parts, passes-exposed, removal-euler, passing-euler, removal-body}
+use Rattle.rules.proofs.Topology.Removal.{removal-background, removal-elsewhere}
 use Rattle.rules.proofs.Topology.Count.{found-mono, found-or, found-omit, found-list}
 
 -- ---- the shape of a body: what every removal of a voxel keeps that passes, or has a face neighbour not kept

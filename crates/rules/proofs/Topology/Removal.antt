@@ -24,7 +24,8 @@ use Rattle.rules.proofs.Places.{InGrid, voxel-index, index-voxel, index
 use Rattle.rules.proofs.Inside.{touch-back}
 use Rattle.rules.proofs.Topology.Cells.{Gone, euler-gone}
 use Rattle.rules.proofs.Topology.Links.{one-taken, one-put, cells-carry}
-use Rattle.rules.proofs.Topology.Around.{Close, touch-close, close-touch, At, close-at, Inner, inner-in, neighbour-at, block-at, place-low, at-place, Contains, contains-close, contains-border}
+use Rattle.rules.proofs.Topology.Around.{Close, touch-close, close-touch, At, close-at, Inner, inner-in, neighbour-at, block-at, place-low, at-place}
+use Rattle.rules.proofs.Topology.Around.{Contains, contains-close, contains-border}
 use Rattle.rules.proofs.Topology.Surface.{omit, omit-true, true-omit, body-true, body-in, touched-contains, contains-touched, surface-euler}
 
 -- no voxel of the set lies on the border

@@ -13,7 +13,8 @@ use borrow.Author.Tests.{lt-ltb, le-ltb, eqb-false}
 use Rattle.prelude.proofs.Bools.{and-true, true-and, or-false, not-true, not-both}
 use Rattle.prelude.proofs.Lists.{Mem, any-ext}
 use Rattle.rules.specs.declared.Sides.{Sides}
-use Rattle.rules.specs.Grid.{size, Voxel, index, voxel, voxels, end, onBorder, neighbour, block, facePlaces, measuredNegative, measuredNonNegative, isNegative, valueAt}
+use Rattle.rules.specs.Grid.{size, Voxel, index, voxel, voxels, end, onBorder, neighbour, block, facePlaces, measuredNegative, measuredNonNegative}
+use Rattle.rules.specs.Grid.{isNegative, valueAt}
 use Rattle.rules.specs.Begin.{least, greatest, isIn, inside, facing, greatestFacing, distance, workedAt, worked, inBox, exposed, statusAt, startStatus}
 use Rattle.rules.specs.Status.{statusOf, keptByte, pendingByte, isKept, isPending}
 use Rattle.rules.specs.Machine.{isInside}

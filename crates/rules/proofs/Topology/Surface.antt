@@ -19,7 +19,8 @@ use Rattle.rules.specs.Body.{Voxels, bodyOf, Piece, plane, stretch, cove
 use Rattle.rules.proofs.Places.{InGrid, voxel-index}
 use Rattle.rules.proofs.Topology.Sum.{win, win3}
 use Rattle.rules.proofs.Topology.Cells.{covered-in, covered-out, countAt}
-use Rattle.rules.proofs.Topology.Around.{At, at-middle, close-at, Inner, inner-in, neighbour-at, block-at, place-low, at-place, Contains, contains-spans, spans-contains}
+use Rattle.rules.proofs.Topology.Around.{At, at-middle, close-at, Inner, inner-in, neighbour-at, block-at, place-low, at-place, Contains}
+use Rattle.rules.proofs.Topology.Around.{contains-spans, spans-contains}
 
 -- a set of indices without one
 unfoldable pub omit : (ℕ → Bool) → ℕ → ℕ → Bool
