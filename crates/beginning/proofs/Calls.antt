@@ -12,7 +12,7 @@ use Rattle.cells.specs.Groups.{any}
 use Rattle.prelude.proofs.Bools.{two, and-true, true-and, not-false}
 use Rattle.rules.specs.declared.Sides.{Sides}
 use Rattle.rules.specs.declared.Record.{Record}
-use Rattle.rules.specs.Grid.{fitSides, size, from, voxels, measuredNegative, valueAt}
+use Rattle.rules.specs.Grid.{fitSides, size, range, voxels, measuredNegative, valueAt}
 use Rattle.rules.specs.Checks.{firstFailing}
 use Rattle.rules.specs.Begin.{newRecord, beginChecks, begun}
 use Rattle.rules.specs.Answer.{done, outcome, buffers}
@@ -28,10 +28,10 @@ module _ (s : Sides) (values dist : List ℤ) (status : List ℕ) where
   lengths = eqb (length values) (size s) && (eqb (length dist) (size s) && eqb (length status) (size s))
 
   abbrev pub on-border : Bool
-  on-border = any (borderNegative s values) (from 0 (size s))
+  on-border = any (borderNegative s values) (range 0 (size s))
 
   abbrev pub some : Bool
-  some = any (negativeAt values) (from 0 (size s))
+  some = any (negativeAt values) (range 0 (size s))
 
   -- the four checks in turn
   abbrev pub turns : Bool → Bool → Bool → Bool → ℕ

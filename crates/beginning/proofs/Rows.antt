@@ -9,13 +9,13 @@ use Rattle.cells.specs.Groups.{any}
 use Rattle.prelude.proofs.Bools.{or-one, or-zero}
 use Rattle.prelude.proofs.Lists.{false-any}
 use Rattle.rules.specs.declared.Sides.{Sides}
-use Rattle.rules.specs.Grid.{from, end, onBorder}
-use Rattle.prelude.proofs.Ranges.{from-mem}
+use Rattle.rules.specs.Grid.{range, end, onBorder}
+use Rattle.prelude.proofs.Ranges.{range-mem}
 use Rattle.prelude.proofs.Ranges.{any-run-ext, scan-join}
 use Rattle.loops.proofs.Rows.{edge, border-in-row}
 
-any-one : (p : ℕ → Bool) (k : ℕ) → any p (from k 1) ≡ p k
-unfolding any from
+any-one : (p : ℕ → Bool) (k : ℕ) → any p (range k 1) ≡ p k
+unfolding any range
 any-one p k = or-zero (p k)
 
 module _ (s : Sides) (p : ℕ → Bool) (r : ℕ) where
@@ -29,14 +29,14 @@ module _ (s : Sides) (p : ℕ → Bool) (r : ℕ) where
   in-row i l h = ap (onBorder s) (let e : i ≡ first + (i - first) = omega arith in e) ∙ border-in-row s r (i - first) (omega arith)
 
   -- a row on the border
-  pub row-on-border : edge s r ≡ true → any p (from first (s .a)) ≡ any on (from first (s .a))
+  pub row-on-border : edge s r ≡ true → any p (range first (s .a)) ≡ any on (range first (s .a))
   row-on-border e =
       any-run-ext p on first (s .a)
       (λ i l h.
       sym (ap (λ (t : Bool). t && p i) (in-row i l h ∙ ap (λ (t : Bool). end (s .a) (i - first) || t) e ∙ or-one (end (s .a) (i - first)))))
 
   -- any other
-  pub row-ends : (last : ℕ) → 3 ≤ s .a → last + 1 ≡ first + s .a → edge s r ≡ false → p first || p last ≡ any on (from first (s .a))
+  pub row-ends : (last : ℕ) → 3 ≤ s .a → last + 1 ≡ first + s .a → edge s r ≡ false → p first || p last ≡ any on (range first (s .a))
   row-ends last w e f =
       scan-join on first 1 (s .a - 1) (first + 1) (s .a) (p first) (false || p last)
       (sym (any-one on first ∙ ap (λ (t : Bool). t && p first) low))
@@ -56,11 +56,11 @@ module _ (s : Sides) (p : ℕ → Bool) (r : ℕ) where
           ∙ ap (λ (t : Bool). (eqb (last - first) 0 || t) || edge s r) (eq-eqb (suc (last - first)) (s .a) (omega arith))
           ∙ ap (λ (t : Bool). t || edge s r) (or-one (eqb (last - first) 0))
 
-      middle : any on (from (first + 1) (s .a - 2)) ≡ false
+      middle : any on (range (first + 1) (s .a - 2)) ≡ false
       middle =
-          false-any on (from (first + 1) (s .a - 2))
+          false-any on (range (first + 1) (s .a - 2))
           (λ i m.
-          let q = from-mem (first + 1) (s .a - 2) i m in
+          let q = range-mem (first + 1) (s .a - 2) i m in
           ap (λ (t : Bool). t && p i)
           (in-row i (omega arith) (omega arith)
           ∙ ap₂ (λ (t u : Bool). (t || u) || edge s r) (ne-eqb (i - first) 0 (λ z. omega arith)) (ne-eqb (suc (i - first)) (s .a) (λ z. omega arith))

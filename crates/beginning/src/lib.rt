@@ -6,7 +6,7 @@ ghost use mathlib.Core.Path.{_≡_};
 ghost use Prim.Native.Nat.{_-_, _*_, _≤_};
 ghost use lib.ListN.{length};
 ghost use Rattle.cells.specs.Groups.{any};
-ghost use Rattle.rules.specs.Grid.{size, from};
+ghost use Rattle.rules.specs.Grid.{size, range};
 ghost use Rattle.rules.specs.Checks.{firstFailing};
 ghost use Rattle.rules.specs.Begin.{newRecord, beginChecks, begin as beginOf};
 ghost use Rattle.rules.specs.Answer.{outcome, buffers, begunAnswer};
@@ -17,7 +17,7 @@ ghost use Rattle.beginning.specs.Work.{negativeAt, borderNegative, Sized
 // Whether a value from first up to end is measured and negative.
 fn any_negative(values: &[i16], first: usize, end: usize) -> bool
     requires { ⌜ (first ≤ end) × (end ≤ length (now values)) ⌝ }
-    ensures { λ r. ⌜ r ≡ any (negativeAt (now (values .entry))) (from first (end - first)) ⌝ }
+    ensures { λ r. ⌜ r ≡ any (negativeAt (now (values .entry))) (range first (end - first)) ⌝ }
 {
     let mut found = false;
     let mut i = first;
@@ -32,7 +32,7 @@ fn any_negative(values: &[i16], first: usize, end: usize) -> bool
 // Whether a border voxel of a row is measured negative: its first or its last voxel, or any if the row lies on the border.
 fn border_row(sides: Sides, values: &[i16], row: usize) -> bool
     requires { ⌜ Row sides (length (now values)) row ⌝ }
-    ensures { λ r. ⌜ r ≡ any (borderNegative sides (now (values .entry))) (from (sides .a * row) (sides .a)) ⌝ }
+    ensures { λ r. ⌜ r ≡ any (borderNegative sides (now (values .entry))) (range (sides .a * row) (sides .a)) ⌝ }
 {
     let y = row % sides.b;
     let z = row / sides.b;
@@ -49,7 +49,7 @@ fn border_row(sides: Sides, values: &[i16], row: usize) -> bool
 // Number 3: whether a border voxel is measured negative.
 fn border_negative(sides: Sides, values: &[i16]) -> bool
     requires { ⌜ Sized sides (now values) ⌝ }
-    ensures { λ r. ⌜ r ≡ any (borderNegative sides (now (values .entry))) (from 0 (size sides)) ⌝ }
+    ensures { λ r. ⌜ r ≡ any (borderNegative sides (now (values .entry))) (range 0 (size sides)) ⌝ }
 {
     let rows = sides.b * sides.c;
     let mut found = false;

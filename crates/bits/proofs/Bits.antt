@@ -13,7 +13,8 @@ use lib.Bits.{or-shr, and-zero-l, xor-zero-l, or-shifted-r, shifted-even, and-ma
 use lib.Count.{ones, onesIn, ones-step}
 use lib.ListN.{length}
 use borrow.Author.Tests.{leb-true, leb-false}
-use Rattle.cells.specs.Groups.{those, consIf}
+use Rattle.prelude.specs.Lists.{range}
+use Rattle.cells.specs.Groups.{filter, consIf}
 use Rattle.cells.specs.Cells.{bit}
 use Rattle.prelude.proofs.Bools.{and-true, and-one}
 use Rattle.bits.specs.Bits.{has, bits}
@@ -229,27 +230,22 @@ below (suc n) f t (suc i) h = below n (next f) (and-true (f 0) (allBelow n (next
 
 -- ---- counts of ones
 
--- k, k + 1, .., n of them
-abbrev pub upFrom : ℕ → ℕ → List ℕ
-upFrom k zero = []
-upFrom k (suc n) = k ∷ upFrom (suc k) n
-
 pub length-consIf : (b : Bool) (c : ℕ) (cs : List ℕ) → length (consIf b c cs) ≡ bit b + length cs
 length-consIf true c cs = omega arith
 length-consIf false c cs = omega arith
 
-ones-from : (k n : ℕ) (s : ℕ → Bool) → ones (bits n (λ i. s (k + i))) ≡ length (those s (upFrom k n))
-unfolding bits ones onesIn those
-ones-from k zero s = refl
-ones-from k (suc n) s =
+ones-range : (k n : ℕ) (s : ℕ → Bool) → ones (bits n (λ i. s (k + i))) ≡ length (filter s (range k n))
+unfolding bits ones onesIn filter range
+ones-range k zero s = refl
+ones-range k (suc n) s =
     ones-step (bits (suc n) (λ i. s (k + i)))
     ∙ ap₂ (λ (x y : ℕ). x + ones y) (bits-odd n (λ i. s (k + i)) ∙ ap (λ (x : ℕ). bit (s x)) (add-zero k)) (bits-half n (λ i. s (k + i)))
     ∙ ap (λ (x : ℕ). bit (s k) + x)
-    (ap ones (bits-ext n (λ i. s (k + suc i)) (λ i. s (suc k + i)) (λ i _. ap s (add-suc k i ∙ sym (suc-add k i)))) ∙ ones-from (suc k) n s)
-    ∙ sym (length-consIf (s k) k (those s (upFrom (suc k) n)))
+    (ap ones (bits-ext n (λ i. s (k + suc i)) (λ i. s (suc k + i)) (λ i _. ap s (add-suc k i ∙ sym (suc-add k i)))) ∙ ones-range (suc k) n s)
+    ∙ sym (length-consIf (s k) k (filter s (range (suc k) n)))
 
-pub ones-bits : (n : ℕ) (s : ℕ → Bool) → ones (bits n s) ≡ length (those s (upFrom 0 n))
-ones-bits n s = ap ones (bits-ext n s (λ i. s (0 + i)) (λ i _. ap s (sym (zero-add i)))) ∙ ones-from 0 n s
+pub ones-bits : (n : ℕ) (s : ℕ → Bool) → ones (bits n s) ≡ length (filter s (range 0 n))
+ones-bits n s = ap ones (bits-ext n s (λ i. s (0 + i)) (λ i _. ap s (sym (zero-add i)))) ∙ ones-range 0 n s
 
 -- ---- the low three digits of a byte
 

@@ -10,7 +10,7 @@ use borrow.Author.Tests.{eqb-true, eqb-false, le-leb, leb-true, lt-leb}
 use Rattle.cells.specs.Groups.{any}
 use Rattle.prelude.proofs.Bools.{two, and-true, true-and, both-ways, or-zero, and-one}
 use Rattle.rules.specs.declared.Sides.{Sides}
-use Rattle.rules.specs.Grid.{Voxel, size, index, voxel, reaches, neighbour, blockOf, block}
+use Rattle.rules.specs.Grid.{Voxel, size, index, voxel, reaches, neighbour, neighbourhoodOf, neighbourhood}
 use Rattle.rules.specs.Begin.{exposed}
 use Rattle.rules.proofs.Places.{InGrid, voxel-index, index-lt}
 use Rattle.bounding_box.specs.declared.Bounds.{Bounds}
@@ -78,8 +78,8 @@ module _ (s : Sides) (b : Bounds) (I : Proper s b) (kept : ℕ → Bool) (is : (
       let n = neighbour (voxel s i) p in
       is (index s n) (index-lt s n g) ∙ ap (within b) (voxel-index s n (g .x-in) (g .y-in))
 
-  on : block s kept i p ≡ true → around s b i p ≡ true
-  unfolding block blockOf within
+  on : neighbourhood s kept i p ≡ true → around s b i p ≡ true
+  unfolding neighbourhood neighbourhoodOf within
   on e =
       let v = voxel s i in
       let n = neighbour v p in
@@ -110,8 +110,8 @@ module _ (s : Sides) (b : Bounds) (I : Proper s b) (kept : ℕ → Bool) (is : (
           let h = leb-true (x + digit) side (q .1) in
           omega arith
 
-  off : around s b i p ≡ true → block s kept i p ≡ true
-  unfolding block blockOf within
+  off : around s b i p ≡ true → neighbourhood s kept i p ≡ true
+  unfolding neighbourhood neighbourhoodOf within
   off e =
       let v = voxel s i in
       let n = neighbour v p in
@@ -132,8 +132,8 @@ module _ (s : Sides) (b : Bounds) (I : Proper s b) (kept : ℕ → Bool) (is : (
       (true-and (reaches (s .b) (v .y) (p / 3 % 3)) (reaches (s .c) (v .z) (p / 9) && kept (index s n)) (y .0)
       (true-and (reaches (s .c) (v .z) (p / 9)) (kept (index s n)) (z .0) (f ∙ w)))
 
-  block-around : block s kept i p ≡ around s b i p
-  block-around = both-ways (block s kept i p) (around s b i p) on off
+  neighbourhood-around : neighbourhood s kept i p ≡ around s b i p
+  neighbourhood-around = both-ways (neighbourhood s kept i p) (around s b i p) on off
 
 ends : (low high p : ℕ) → reach low high p ≡ true → (low ≤ p) × (p ≤ high)
 ends low high p e = let q = and-true (leb low p) (leb p high) e in (leb-true low p (q .0), leb-true p high (q .1))
@@ -172,26 +172,26 @@ module _ (s : Sides) (b : Bounds) (I : Proper s b) (kept : ℕ → Bool) (is : (
   same-z = stays-same (b .z0) (b .z1) (v .z) (z-bounds .0) (z-bounds .1)
 
   -- one step along x, along y, along z
-  along-x : (p digit : ℕ) → p % 3 ≡ digit → p / 3 % 3 ≡ 1 → p / 9 ≡ 1 → block s kept i p ≡ stays (b .x0) (b .x1) (v .x) digit
+  along-x : (p digit : ℕ) → p % 3 ≡ digit → p / 3 % 3 ≡ 1 → p / 9 ≡ 1 → neighbourhood s kept i p ≡ stays (b .x0) (b .x1) (v .x) digit
   unfolding v
   along-x p digit e f g =
-      block-around s b I kept is i p
+      neighbourhood-around s b I kept is i p
       ∙ ap₂ _&&_ (ap (stays (b .x0) (b .x1) (v .x)) e)
       (ap₂ _&&_ (ap (stays (b .y0) (b .y1) (v .y)) f ∙ same-y) (ap (stays (b .z0) (b .z1) (v .z)) g ∙ same-z))
       ∙ and-one (stays (b .x0) (b .x1) (v .x) digit)
 
-  along-y : (p digit : ℕ) → p % 3 ≡ 1 → p / 3 % 3 ≡ digit → p / 9 ≡ 1 → block s kept i p ≡ stays (b .y0) (b .y1) (v .y) digit
+  along-y : (p digit : ℕ) → p % 3 ≡ 1 → p / 3 % 3 ≡ digit → p / 9 ≡ 1 → neighbourhood s kept i p ≡ stays (b .y0) (b .y1) (v .y) digit
   unfolding v
   along-y p digit e f g =
-      block-around s b I kept is i p
+      neighbourhood-around s b I kept is i p
       ∙ ap₂ _&&_ (ap (stays (b .x0) (b .x1) (v .x)) e ∙ same-x)
       (ap₂ _&&_ (ap (stays (b .y0) (b .y1) (v .y)) f) (ap (stays (b .z0) (b .z1) (v .z)) g ∙ same-z))
       ∙ and-one (stays (b .y0) (b .y1) (v .y) digit)
 
-  along-z : (p digit : ℕ) → p % 3 ≡ 1 → p / 3 % 3 ≡ 1 → p / 9 ≡ digit → block s kept i p ≡ stays (b .z0) (b .z1) (v .z) digit
+  along-z : (p digit : ℕ) → p % 3 ≡ 1 → p / 3 % 3 ≡ 1 → p / 9 ≡ digit → neighbourhood s kept i p ≡ stays (b .z0) (b .z1) (v .z) digit
   unfolding v
   along-z p digit e f g =
-      block-around s b I kept is i p
+      neighbourhood-around s b I kept is i p
       ∙ ap₂ _&&_ (ap (stays (b .x0) (b .x1) (v .x)) e ∙ same-x)
       (ap₂ _&&_ (ap (stays (b .y0) (b .y1) (v .y)) f ∙ same-y) (ap (stays (b .z0) (b .z1) (v .z)) g))
 

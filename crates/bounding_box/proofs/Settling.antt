@@ -11,7 +11,7 @@ use lib.Seq.{getD-set-same, getD-set-other}
 use borrow.Author.Tests.{eq-eqb, ne-eqb, eqb-true, eqb-false, le-leb, leb-true, lt-leb}
 use Rattle.prelude.proofs.Bools.{two, and-true, true-and, both-ways, and-zero, and-one, or-one, or-zero}
 use Rattle.rules.specs.declared.Sides.{Sides}
-use Rattle.rules.specs.Grid.{Voxel, from, size, voxel, voxels}
+use Rattle.rules.specs.Grid.{Voxel, range, size, voxel, voxels}
 use Rattle.rules.specs.Begin.{isIn, distance, inBox, statusAt, startStatus}
 use Rattle.rules.specs.Meaning.{SomeVoxels, Between}
 use Rattle.rules.proofs.Places.{Fit, fit, InGrid, voxel-in}
@@ -261,5 +261,5 @@ module _ (s : Sides) (F : Fit s) (S : List ℕ) (some : SomeVoxels s S) (d : Lis
   pub status-is : statusBy s b d ≡ startStatus s S (inBox s S)
   unfolding statusBy startStatus voxels
   status-is =
-      ap (λ (n : ℕ). map (λ k. statusIn b (voxel s k) (getD d k 0)) (from 0 n)) len
+      ap (λ (n : ℕ). map (λ k. statusIn b (voxel s k) (getD d k 0)) (range 0 n)) len
       ∙ map-same (λ k. statusIn b (voxel s k) (getD d k 0)) (statusAt s S (inBox s S)) 0 (size s) status-same

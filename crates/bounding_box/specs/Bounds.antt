@@ -7,7 +7,7 @@ use Prim.Native.Nat.{ℕ, _+_, _-_, _*_, _/_, _%_, _≤_, _<_, min, max}
 use lib.Dec.{eqb, leb}
 use lib.ListN.{length, getD}
 use Rattle.rules.specs.declared.Sides.{Sides}
-use Rattle.rules.specs.Grid.{Voxel, fitSides, size, from, voxel}
+use Rattle.rules.specs.Grid.{Voxel, fitSides, size, range, voxel}
 use Rattle.loops.specs.First.{First}
 use Rattle.loops.specs.InPlace.{Each}
 use Rattle.bounding_box.specs.declared.Bounds.{Bounds}
@@ -95,7 +95,7 @@ unfoldable pub statusIn : Bounds → Voxel → ℕ → ℕ
 statusIn b v d = cond (within b v) (cond (not (eqb d 0) && onSide b v) 3 1) 0
 
 unfoldable pub statusBy : Sides → Bounds → List ℕ → List ℕ
-statusBy s b d = map (λ k. statusIn b (voxel s k) (getD d k 0)) (from 0 (length d))
+statusBy s b d = map (λ k. statusIn b (voxel s k) (getD d k 0)) (range 0 (length d))
 
 -- ---- the status of a row
 

@@ -15,7 +15,7 @@ use Rattle.prelude.proofs.Bools.{and-true}
 use Rattle.rules.specs.declared.Record.{Record}
 use Rattle.rules.specs.Answer.{done, Outcome, outcome, untouched, Buffers, buffers, Opening}
 use Rattle.rules.specs.Checks.{Check, _when_, firstFailing}
-use Rattle.rules.specs.Grid.{size, from, voxels}
+use Rattle.rules.specs.Grid.{size, range, voxels}
 use Rattle.rules.specs.Begin.{exposed}
 use Rattle.rules.specs.Status.{isKept, isPending, anyPending, testAt, without, removable, openable}
 use Rattle.rules.specs.Machine.{State, lentTo, outside, farther, count, taken, toOpen, isNone}
@@ -83,19 +83,19 @@ module _ (g : State) where
 
   pub any-pending-is :
       length (g .status) ≡ size (g .rec .sides)
-      → any (isPending (g .status)) (from 0 (length (g .status))) ≡ anyPending (g .rec .sides) (g .status)
+      → any (isPending (g .status)) (range 0 (length (g .status))) ≡ anyPending (g .rec .sides) (g .status)
   unfolding anyPending voxels
-  any-pending-is e = ap (λ (n : ℕ). any (isPending (g .status)) (from 0 n)) e
+  any-pending-is e = ap (λ (n : ℕ). any (isPending (g .status)) (range 0 n)) e
 
   pub finished-is :
       (dist : List ℤ) (next : Record)
       → length (g .status) ≡ size (g .rec .sides)
-      → dist ≡ map (closedAt (g .dist) (g .status)) (from 0 (length (g .status)))
+      → dist ≡ map (closedAt (g .dist) (g .status)) (range 0 (length (g .status)))
       → next ≡ asFinished (g .rec)
       → outcome (done next) (buffers dist (g .status)) ≡ finishedOf g
   unfolding finishedOf voxels
   finished-is dist next e f h =
-      let d = f ∙ ap (λ (n : ℕ). map (closedAt (g .dist) (g .status)) (from 0 n)) e in
+      let d = f ∙ ap (λ (n : ℕ). map (closedAt (g .dist) (g .status)) (range 0 n)) e in
       λ j. outcome (done (h j)) (buffers (d j) (g .status))
 
 -- the finished record, with the Euler number as the machine holds it

@@ -4,7 +4,7 @@ use Prim.Native.Nat.{ℕ, _≤_}
 use native.Mathlib.Omega.{arith}
 use lib.IntN.{ℤ, pos, natAbs, _-ℤ_}
 use Rattle.cells.specs.Cells.{Test}
-use Rattle.rules.specs.Grid.{block}
+use Rattle.rules.specs.Grid.{neighbourhood}
 use Rattle.rules.specs.Status.{isKept, testAt}
 use Rattle.rules.specs.Machine.{State}
 use Rattle.counting.specs.Counting.{Countable}
@@ -17,7 +17,7 @@ module _ (g : State) (i : ℕ) (t : Test) (e : t ≡ testAt (g .rec .sides) (g .
   pub few : (t .k ≤ 26) × (t .m ≤ 26)
   unfolding testAt
   few =
-      let kept = block (g .rec .sides) (isKept (g .status)) i in
+      let kept = neighbourhood (g .rec .sides) (isKept (g .status)) i in
       (subst (λ (x : Test). x .k ≤ 26) (sym e) (k-few kept), subst (λ (x : Test). x .m ≤ 26) (sym e) (m-few kept))
 
   pub countable-open : OpensAt i g → (change : ℤ) → change ≡ pos (t .k) -ℤ pos (t .m) → Countable (g .rec) 1 change

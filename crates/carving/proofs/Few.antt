@@ -4,16 +4,16 @@ use mathlib.Core.List.{List, [], _∷_}
 use Prim.Native.Nat.{ℕ, suc, _+_, _≤_}
 use native.Mathlib.Omega.{arith}
 use lib.ListN.{length}
-use Rattle.cells.specs.Groups.{any, consIf, those, reached, consUnless, others, enter, gather, groups}
-use Rattle.cells.specs.Cells.{joined, places, touched, groupCount, testOf, test}
+use Rattle.cells.specs.Groups.{any, consIf, filter, reached, consUnless, others, enter, gather, groups}
+use Rattle.cells.specs.Cells.{joined, positions, touched, groupCount, testOf, test}
 
 module _ {A : Type 0} where
-  those-few : (p : A → Bool) (xs : List A) → length (those p xs) ≤ length xs
-  unfolding those
-  those-few p [] = omega arith
-  those-few p (x ∷ xs) = go (p x) (those-few p xs)
+  filter-few : (p : A → Bool) (xs : List A) → length (filter p xs) ≤ length xs
+  unfolding filter
+  filter-few p [] = omega arith
+  filter-few p (x ∷ xs) = go (p x) (filter-few p xs)
     where
-      go : (t : Bool) → length (those p xs) ≤ length xs → length (consIf t x (those p xs)) ≤ suc (length xs)
+      go : (t : Bool) → length (filter p xs) ≤ length xs → length (consIf t x (filter p xs)) ≤ suc (length xs)
       go true h = omega arith
       go false h = omega arith
 
@@ -36,9 +36,9 @@ module _ {A : Type 0} where
     unfolding groups
     groups-few xs = omega (arith, gather-few xs [])
 
-count-few : (p : ℕ → Bool) → groupCount (those p places) ≤ 26
+count-few : (p : ℕ → Bool) → groupCount (filter p positions) ≤ 26
 unfolding groupCount
-count-few p = let h : length (those p places) ≤ 26 = those-few p places in omega (arith, groups-few joined (those p places))
+count-few p = let h : length (filter p positions) ≤ 26 = filter-few p positions in omega (arith, groups-few joined (filter p positions))
 
 pub k-few : (kept : ℕ → Bool) → test kept .k ≤ 26
 unfolding test testOf

@@ -1,11 +1,11 @@
 -- Document 01's nine worked local tests, by computation.
 use mathlib.Core.Path.{refl}
-use Rattle.cells.specs.Groups.{any, those, reached, others, enter, gather, groups}
+use Rattle.cells.specs.Groups.{any, filter, reached, others, enter, gather, groups}
 use Rattle.cells.specs.Cells.{contains, joined, touched, groupCount, dimension, countOf, testOf, test}
 use Rattle.cells.specs.Examples.{km, only, LocalTests}
 
 pub local-tests : LocalTests
-unfolding any those reached others enter gather groups contains joined touched groupCount dimension countOf testOf test km only
+unfolding any filter reached others enter gather groups contains joined touched groupCount dimension countOf testOf test km only
 local-tests =
     record {
       none = refl;

@@ -9,12 +9,12 @@ use native.Mathlib.Decide.{decLt}
 use lib.Dec.{eqb}
 use lib.ListN.{length, getD}
 use borrow.Author.Tests.{eqb-true, eq-eqb, ne-eqb}
-use Rattle.cells.specs.Groups.{any, those, groups}
+use Rattle.cells.specs.Groups.{any, filter, groups}
 use Rattle.cells.specs.Linked.{Linked, OnePiece}
-use Rattle.cells.specs.Cells.{contains, spans, joined, places, touched, groupCount, testOf, test}
+use Rattle.cells.specs.Cells.{contains, spans, joined, positions, touched, groupCount, testOf, test}
 use Rattle.cells.specs.Classes.{among, together, Classes, Counted, Symmetric, Reflexive, GroupsAreClasses, cells, TestCounts}
 use Rattle.prelude.proofs.Bools.{and-true, true-and, or-true, true-or, both-ways, two}
-use Rattle.prelude.proofs.Lists.{Mem, here, there, any-true, true-any, false-any, those-mem, mem-those}
+use Rattle.prelude.proofs.Lists.{Mem, here, there, any-true, true-any, false-any, filter-mem, mem-filter}
 use Rattle.cells.proofs.Chains.{first-member}
 use Rattle.cells.proofs.Groups.{At, at-lt, group-filled, group-of, group-member, group-linked, linked-group, linked-same, group-one}
 
@@ -26,11 +26,11 @@ among-mem xs x e = let r = any-true (eqb x) xs e in subst (λ (y : ℕ). Mem y x
 pub mem-among : (xs : List ℕ) (x : ℕ) → Mem x xs → among xs x ≡ true
 mem-among xs x m = true-any (eqb x) xs x m (eq-eqb x x refl)
 
-pub among-those : (p : ℕ → Bool) (xs : List ℕ) (x : ℕ) → among (those p xs) x ≡ among xs x && p x
-among-those p xs x =
-    both-ways (among (those p xs) x) (among xs x && p x)
-    (λ e. let r = those-mem p xs x (among-mem (those p xs) x e) in true-and (among xs x) (p x) (mem-among xs x (r .0)) (r .1))
-    (λ e. let r = and-true (among xs x) (p x) e in mem-among (those p xs) x (mem-those p xs x (among-mem xs x (r .0)) (r .1)))
+pub among-filter : (p : ℕ → Bool) (xs : List ℕ) (x : ℕ) → among (filter p xs) x ≡ among xs x && p x
+among-filter p xs x =
+    both-ways (among (filter p xs) x) (among xs x && p x)
+    (λ e. let r = filter-mem p xs x (among-mem (filter p xs) x e) in true-and (among xs x) (p x) (mem-among xs x (r .0)) (r .1))
+    (λ e. let r = and-true (among xs x) (p x) e in mem-among (filter p xs) x (mem-filter p xs x (among-mem xs x (r .0)) (r .1)))
 
 -- ---- the group at a place is one of the groups, and one of the groups has a place
 
@@ -143,20 +143,20 @@ joined-self c = true-or (contains c c) (contains c c) (inl (true-and (spans x x)
     same a = true-or (eqb a 1) (eqb a a) (inr (eq-eqb a a refl))
 
 module _ (p : ℕ → Bool) where
-  are : (c : ℕ) → Mem c (those p places) → cells p c ≡ true
-  are c m = sym (among-those p places c) ∙ mem-among (those p places) c m
+  are : (c : ℕ) → Mem c (filter p positions) → cells p c ≡ true
+  are c m = sym (among-filter p positions c) ∙ mem-among (filter p positions) c m
 
-  all : (c : ℕ) → cells p c ≡ true → Mem c (those p places)
-  all c e = among-mem (those p places) c (among-those p places c ∙ e)
+  all : (c : ℕ) → cells p c ≡ true → Mem c (filter p positions)
+  all c e = among-mem (filter p positions) c (among-filter p positions c ∙ e)
 
-  pub cells-counted : Counted (cells p) joined (groupCount (those p places))
+  pub cells-counted : Counted (cells p) joined (groupCount (filter p positions))
   unfolding groupCount
-  cells-counted = groups-counted joined joined-turn joined-self (cells p) (those p places) are all
+  cells-counted = groups-counted joined joined-turn joined-self (cells p) (filter p positions) are all
 
   -- one group: any two of the cells are linked
-  pub cells-one-piece : groupCount (those p places) ≡ 1 → OnePiece (cells p) joined
+  pub cells-one-piece : groupCount (filter p positions) ≡ 1 → OnePiece (cells p) joined
   unfolding groupCount
-  cells-one-piece e = group-one joined joined-turn joined-self (cells p) (those p places) are all e
+  cells-one-piece e = group-one joined joined-turn joined-self (cells p) (filter p positions) are all e
 
 pub test-counts : TestCounts
 unfolding test testOf

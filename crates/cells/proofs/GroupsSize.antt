@@ -6,8 +6,8 @@ use mathlib.Core.List.{List, [], _∷_, _++_}
 use Prim.Native.Nat.{ℕ, zero, suc, _+_, _≤_}
 use native.Mathlib.Omega.{arith}
 use lib.ListN.{length, getD, length-append}
-use Rattle.cells.specs.Groups.{any, consIf, those, appendIf, reached, consUnless, others, enter, gather, groups}
-use Rattle.prelude.proofs.Lists.{Mem, here, there, mem-cons, mem-left, mem-right, mem-split, those-mem, mem-those}
+use Rattle.cells.specs.Groups.{any, consIf, filter, appendIf, reached, consUnless, others, enter, gather, groups}
+use Rattle.prelude.proofs.Lists.{Mem, here, there, mem-cons, mem-left, mem-right, mem-split, filter-mem, mem-filter}
 use Rattle.cells.proofs.Groups.{At, mem-none, groups-only}
 
 -- ---- no element twice
@@ -30,13 +30,13 @@ module _ {A : Type 0} where
       none f y here b = d .0 (mem-right y g h b)
       none f y (there a) b = f y a b
 
-  pub distinct-those : (p : A → Bool) (xs : List A) → Distinct xs → Distinct (those p xs)
-  unfolding those
-  distinct-those p [] d = tt
-  distinct-those p (x ∷ xs) d = go (p x) (distinct-those p xs (d .1))
+  pub distinct-filter : (p : A → Bool) (xs : List A) → Distinct xs → Distinct (filter p xs)
+  unfolding filter
+  distinct-filter p [] d = tt
+  distinct-filter p (x ∷ xs) d = go (p x) (distinct-filter p xs (d .1))
     where
-      go : (t : Bool) → Distinct (those p xs) → Distinct (consIf t x (those p xs))
-      go true r = (λ m. d .0 (those-mem p xs x m .0), r)
+      go : (t : Bool) → Distinct (filter p xs) → Distinct (consIf t x (filter p xs))
+      go true r = (λ m. d .0 (filter-mem p xs x m .0), r)
       go false r = r
 
   -- the list without one of its elements
@@ -191,7 +191,7 @@ module _ {A : Type 0} (joined : A → A → Bool) where
 
   -- the size of a group is the number of the list's elements that are in it
   pub group-size : (xs : List A) → Distinct xs → (i : ℕ) (label : A → Bool) → ((x : A) → At (groups joined xs) i x → label x ≡ true)
-      → ((x : A) → Mem x xs → label x ≡ true → At (groups joined xs) i x) → length (getD (groups joined xs) i []) ≡ length (those label xs)
+      → ((x : A) → Mem x xs → label x ≡ true → At (groups joined xs) i x) → length (getD (groups joined xs) i []) ≡ length (filter label xs)
   group-size xs d i label f k =
-      distinct-length (getD (groups joined xs) i []) (those label xs) (distinct-at (groups joined xs) i (groups-distinct xs d)) (distinct-those label xs d)
-      (λ x a. mem-those label xs x (groups-only joined xs i x a) (f x a)) (λ x m. let r = those-mem label xs x m in k x (r .0) (r .1))
+      distinct-length (getD (groups joined xs) i []) (filter label xs) (distinct-at (groups joined xs) i (groups-distinct xs d)) (distinct-filter label xs d)
+      (λ x a. mem-filter label xs x (groups-only joined xs i x a) (f x a)) (λ x m. let r = filter-mem label xs x m in k x (r .0) (r .1))

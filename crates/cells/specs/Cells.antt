@@ -7,7 +7,7 @@ use mathlib.Core.List.{List, [], _∷_}
 use Prim.Native.Nat.{ℕ, _+_, _/_, _%_}
 use lib.Dec.{eqb}
 use lib.ListN.{length}
-use Rattle.cells.specs.Groups.{any, those, groups}
+use Rattle.cells.specs.Groups.{any, filter, groups}
 
 -- along one axis: a runs along it, or lies on the same side as b
 abbrev pub spans : ℕ → ℕ → Bool
@@ -22,17 +22,17 @@ unfoldable pub joined : ℕ → ℕ → Bool
 joined c d = contains c d || contains d c
 
 -- the 26 neighbours, and the 26 cells: every place but the middle
-abbrev pub places : List ℕ
-places =
+abbrev pub positions : List ℕ
+positions =
     0 ∷ 1 ∷ 2 ∷ 3 ∷ 4 ∷ 5 ∷ 6 ∷ 7 ∷ 8 ∷ 9 ∷ 10 ∷ 11 ∷ 12 ∷ 14 ∷ 15 ∷ 16 ∷ 17 ∷ 18 ∷ 19 ∷ 20 ∷ 21 ∷ 22 ∷ 23 ∷ 24 ∷ 25 ∷ 26 ∷ []
 
 -- the faces, and the six face neighbours
-abbrev pub facePlaces : List ℕ
-facePlaces = 4 ∷ 10 ∷ 12 ∷ 14 ∷ 16 ∷ 22 ∷ []
+abbrev pub facePositions : List ℕ
+facePositions = 4 ∷ 10 ∷ 12 ∷ 14 ∷ 16 ∷ 22 ∷ []
 
 -- A block is given by its kept places. A cell is touched if a kept voxel other than the middle contains it, otherwise bare.
 unfoldable pub touched : (ℕ → Bool) → ℕ → Bool
-touched kept c = any (λ v. contains v c && kept v) places
+touched kept c = any (λ v. contains v c && kept v) positions
 
 -- the number of groups of cells
 unfoldable pub groupCount : List ℕ → ℕ
@@ -47,7 +47,7 @@ dimension c = bit (eqb (c % 3) 1) + bit (eqb (c / 3 % 3) 1) + bit (eqb (c / 9) 1
 
 -- how many of the cells have that dimension
 unfoldable pub countOf : ℕ → List ℕ → ℕ
-countOf d cs = length (those (λ c. eqb (dimension c) d) cs)
+countOf d cs = length (filter (λ c. eqb (dimension c) d) cs)
 
 -- what the local test gives: the groups of touched cells and of bare ones, and the kinds of the touched cells
 pub record Test : Type 0 where
@@ -68,7 +68,7 @@ testOf touchedCells bareCells =
     }
 
 unfoldable pub test : (ℕ → Bool) → Test
-test kept = testOf (those (touched kept) places) (those (λ c. not (touched kept c)) places)
+test kept = testOf (filter (touched kept) positions) (filter (λ c. not (touched kept c)) positions)
 
 unfoldable pub passes : Test → Bool
 passes t = eqb (t .k) 1 && eqb (t .m) 1

@@ -7,7 +7,7 @@ use lib.Dec.{eqb}
 use lib.ListN.{length}
 use Rattle.cells.specs.Groups.{any, groups}
 use Rattle.cells.specs.Linked.{Linked}
-use Rattle.cells.specs.Cells.{joined, places, touched, test}
+use Rattle.cells.specs.Cells.{joined, positions, touched, test}
 
 -- x stands in the list
 abbrev pub among : List ℕ → ℕ → Bool
@@ -52,7 +52,7 @@ CountedOnce =
 
 -- the cells that pass a test
 abbrev pub cells : (ℕ → Bool) → ℕ → Bool
-cells p c = among places c && p c
+cells p c = among positions c && p c
 
 -- k is the number of groups of touched cells, and m that of bare ones
 abbrev pub TestCounts : Type 0

@@ -8,8 +8,8 @@ use native.Mathlib.Omega.{arith}
 use lib.Dec.{eqb, leb}
 use lib.ListN.{length}
 use borrow.Author.Tests.{eqb-true, leb-true}
-use Rattle.cells.specs.Groups.{consIf, those, gather, groups}
-use Rattle.cells.specs.Cells.{joined, places, groupCount, bit, dimension, countOf}
+use Rattle.cells.specs.Groups.{consIf, filter, gather, groups}
+use Rattle.cells.specs.Cells.{joined, positions, groupCount, bit, dimension, countOf}
 use Rattle.closed_sets.specs.Rank.{rank}
 use Rattle.prelude.proofs.Bools.{and-true}
 use Rattle.prelude.proofs.Lists.{Mem}
@@ -36,10 +36,10 @@ length-consIf true c cs = omega arith
 length-consIf false c cs = omega arith
 
 countOf-cons : (d c n : ℕ) (cs : List ℕ) → more d c n + countOf d cs ≡ n + countOf d (c ∷ cs)
-unfolding countOf those
+unfolding countOf filter
 countOf-cons d c n cs =
     add-assoc n (bit (eqb (dimension c) d)) (countOf d cs)
-    ∙ ap (λ (x : ℕ). n + x) (length-consIf (eqb (dimension c) d) c (those (λ c. eqb (dimension c) d) cs))
+    ∙ ap (λ (x : ℕ). n + x) (length-consIf (eqb (dimension c) d) c (filter (λ c. eqb (dimension c) d) cs))
 
 ended-cons : (b : Bool) (c : ℕ) (ts bs : List ℕ) (es : List Bool) (s : Tally)
     → ended ts bs es (cond b (touch c s) (spare c s)) ≡ ended (consIf b c ts) (consIf (not b) c bs) es s
@@ -61,7 +61,7 @@ noted-next true c s = refl
 noted-next false c s = refl
 
 countOf-nil : (d n : ℕ) → n ≡ n + countOf d []
-unfolding countOf those
+unfolding countOf filter
 countOf-nil d n = sym (add-zero n)
 
 ended-nil : (s : Tally) → s ≡ ended [] [] (s .edgesTouched) s
@@ -77,16 +77,16 @@ ended-nil s = λ i.
     }
 
 walk-ended : (t : ℕ → Bool) (cs : List ℕ) (s : Tally)
-    → walk touch spare fits t cs s ≡ ended (those t cs) (those (λ c. not (t c)) cs) (notedAll t cs (s .edgesTouched)) s
-unfolding walk those notedAll
+    → walk touch spare fits t cs s ≡ ended (filter t cs) (filter (λ c. not (t c)) cs) (notedAll t cs (s .edgesTouched)) s
+unfolding walk filter notedAll
 walk-ended t [] s = ended-nil s
 walk-ended t (c ∷ cs) s =
     let s′ = cond (t c) (touch c s) (spare c s) in
     walk-ended t cs s′
-    ∙ ap (λ (es : List Bool). ended (those t cs) (those (λ c. not (t c)) cs) (notedAll t cs es) s′) (noted-next (t c) c s)
-    ∙ ended-cons (t c) c (those t cs) (those (λ c. not (t c)) cs) (notedAll t cs (noted c (t c) (s .edgesTouched))) s
+    ∙ ap (λ (es : List Bool). ended (filter t cs) (filter (λ c. not (t c)) cs) (notedAll t cs es) s′) (noted-next (t c) c s)
+    ∙ ended-cons (t c) c (filter t cs) (filter (λ c. not (t c)) cs) (notedAll t cs (noted c (t c) (s .edgesTouched))) s
 
-rank-noted : (t : ℕ → Bool) → rankNoted (notedAll t places []) ≡ rank t
+rank-noted : (t : ℕ → Bool) → rankNoted (notedAll t positions []) ≡ rank t
 unfolding rankNoted notedAll rank dimension
 rank-noted t = refl
 
@@ -117,21 +117,21 @@ fits-parts s h =
 
 module _ (t : ℕ → Bool) (closed : ClosedSet t) where
   abbrev ins : List ℕ
-  ins = those t places
+  ins = filter t positions
 
   abbrev outs : List ℕ
-  outs = those (λ c. not (t c)) places
+  outs = filter (λ c. not (t c)) positions
 
-  set-fits : fits (ended ins outs (notedAll t places []) nothing) ≡ true
+  set-fits : fits (ended ins outs (notedAll t positions []) nothing) ≡ true
   set-fits =
-      ap fits (sym (walk-ended t places nothing))
-      ∙ closed-fits touch spare fits t closed places [] [] nothing (λ d m. none m) (λ d m. none m) all-fit
+      ap fits (sym (walk-ended t positions nothing))
+      ∙ closed-fits touch spare fits t closed positions [] [] nothing (λ d m. none m) (λ d m. none m) all-fit
     where
       none : {A : Type 0} {d : ℕ} → Mem d [] → A
       none m = elim m [ ]
 
-  end-fits : Fits (ended ins outs (notedAll t places []) nothing)
-  end-fits = fits-parts (ended ins outs (notedAll t places []) nothing) set-fits
+  end-fits : Fits (ended ins outs (notedAll t positions []) nothing)
+  end-fits = fits-parts (ended ins outs (notedAll t positions []) nothing) set-fits
 
   pub closed-euler : groupCount outs + countOf 0 ins + countOf 2 ins ≡ groupCount ins + 1 + countOf 1 ins
   unfolding groupCount groups

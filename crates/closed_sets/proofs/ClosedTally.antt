@@ -6,7 +6,7 @@ use Prim.Native.Nat.{ℕ, _+_}
 use lib.Dec.{eqb, leb}
 use lib.ListN.{length, getD}
 use Rattle.cells.specs.Groups.{any, reached, others, enter}
-use Rattle.cells.specs.Cells.{contains, joined, dimension, places, bit}
+use Rattle.cells.specs.Cells.{contains, joined, dimension, positions, bit}
 use Rattle.closed_sets.specs.Rank.{rankBy}
 use Rattle.closed_sets.proofs.Closed.{everyClosed}
 
@@ -63,6 +63,6 @@ fits s =
 abbrev pub nothing : Tally
 nothing = record { touchedGroups = []; bareGroups = []; edgesTouched = []; corners = 0; edges = 0; faces = 0 }
 
-pub all-fit : everyClosed touch spare fits places [] [] nothing ≡ true
+pub all-fit : everyClosed touch spare fits positions [] [] nothing ≡ true
 unfolding everyClosed touch spare fits any contains joined reached others enter dimension rankNoted rankBy
 all-fit = refl

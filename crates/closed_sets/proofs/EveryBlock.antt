@@ -9,11 +9,11 @@ use native.Mathlib.Omega.{arith}
 use lib.Dec.{eqb, ltb}
 use lib.ListN.{length}
 use borrow.Author.Tests.{ltb-true, eqb-true, eq-eqb}
-use Rattle.cells.specs.Groups.{any, those, gather, groups}
-use Rattle.cells.specs.Cells.{spans, contains, joined, places, facePlaces, touched, groupCount, testOf, test}
+use Rattle.cells.specs.Groups.{any, filter, gather, groups}
+use Rattle.cells.specs.Cells.{spans, contains, joined, positions, facePositions, touched, groupCount, testOf, test}
 use Rattle.closed_sets.specs.Rank.{rank}
 use Rattle.prelude.proofs.Bools.{and-true, true-and, or-true, true-or, two, not-true, not-false, not-both}
-use Rattle.prelude.proofs.Lists.{Mem, any-true, true-any, any-false, any-ext, those-ext}
+use Rattle.prelude.proofs.Lists.{Mem, any-true, true-any, any-false, any-ext, filter-ext}
 use Rattle.closed_sets.proofs.Closed.{ClosedSet}
 use Rattle.closed_sets.proofs.ClosedEnd.{closed-euler, closed-rank, closed-touched-few, closed-bare-few}
 
@@ -50,33 +50,33 @@ contains-self c = ap₂ _&&_ (self (c % 3)) (ap₂ _&&_ (self (c / 3 % 3)) (self
 pub touched-closed : (kept : ℕ → Bool) → ClosedSet (touched kept)
 unfolding touched
 touched-closed kept d c h k =
-    let r = any-true (λ v. contains v d && kept v) places k in
+    let r = any-true (λ v. contains v d && kept v) positions k in
     let p = and-true (contains (r .0) d) (kept (r .0)) (r .2) in
-    true-any (λ v. contains v c && kept v) places (r .0) (r .1) (true-and (contains (r .0) c) (kept (r .0)) (contains-trans (r .0) d c (p .0) h) (p .1))
+    true-any (λ v. contains v c && kept v) positions (r .0) (r .1) (true-and (contains (r .0) c) (kept (r .0)) (contains-trans (r .0) d c (p .0) h) (p .1))
 
-pub kept-touched : (kept : ℕ → Bool) (c : ℕ) → Mem c places → kept c ≡ true → touched kept c ≡ true
+pub kept-touched : (kept : ℕ → Bool) (c : ℕ) → Mem c positions → kept c ≡ true → touched kept c ≡ true
 unfolding touched
-kept-touched kept c m h = true-any (λ v. contains v c && kept v) places c m (true-and (contains c c) (kept c) (contains-self c) h)
+kept-touched kept c m h = true-any (λ v. contains v c && kept v) positions c m (true-and (contains c c) (kept c) (contains-self c) h)
 
-pub bare-gone : (kept : ℕ → Bool) (c : ℕ) → Mem c places → touched kept c ≡ false → kept c ≡ false
+pub bare-gone : (kept : ℕ → Bool) (c : ℕ) → Mem c positions → touched kept c ≡ false → kept c ≡ false
 bare-gone kept c m h =
     elim (two (kept c)) [ inl e ↦ not-both (touched kept c) (kept-touched kept c m e) h | inr e ↦ e ]
 
 -- ---- the test goes by the 26 neighbours
 
-pub place-lt : (c : ℕ) → Mem c places → c < 27
+pub place-lt : (c : ℕ) → Mem c positions → c < 27
 unfolding any
-place-lt c m = ltb-true c 27 (all-in (λ c. ltb c 27) places refl c m)
+place-lt c m = ltb-true c 27 (all-in (λ c. ltb c 27) positions refl c m)
 
-pub touched-ext : (kept kept′ : ℕ → Bool) → ((v : ℕ) → Mem v places → kept v ≡ kept′ v) → touched kept ≡ touched kept′
+pub touched-ext : (kept kept′ : ℕ → Bool) → ((v : ℕ) → Mem v positions → kept v ≡ kept′ v) → touched kept ≡ touched kept′
 unfolding touched
 touched-ext kept kept′ h =
     fun-ext (λ c.
-    any-ext (λ v. contains v c && kept v) (λ v. contains v c && kept′ v) places (λ v m. ap (λ (b : Bool). contains v c && b) (h v m)))
+    any-ext (λ v. contains v c && kept v) (λ v. contains v c && kept′ v) positions (λ v m. ap (λ (b : Bool). contains v c && b) (h v m)))
 
-pub test-ext : (kept kept′ : ℕ → Bool) → ((v : ℕ) → Mem v places → kept v ≡ kept′ v) → test kept ≡ test kept′
+pub test-ext : (kept kept′ : ℕ → Bool) → ((v : ℕ) → Mem v positions → kept v ≡ kept′ v) → test kept ≡ test kept′
 unfolding test
-test-ext kept kept′ h = ap (λ (t : ℕ → Bool). testOf (those t places) (those (λ c. not (t c)) places)) (touched-ext kept kept′ h)
+test-ext kept kept′ h = ap (λ (t : ℕ → Bool). testOf (filter t positions) (filter (λ c. not (t c)) positions)) (touched-ext kept kept′ h)
 
 -- ---- for every block
 
@@ -97,34 +97,34 @@ pub m-few : (kept : ℕ → Bool) → test kept .m ≤ 6
 unfolding test testOf
 m-few kept = closed-bare-few (touched kept) (touched-closed kept)
 
-on-some-face : (c : ℕ) → Mem c places → any (λ f. contains f c) facePlaces ≡ true
+on-some-face : (c : ℕ) → Mem c positions → any (λ f. contains f c) facePositions ≡ true
 unfolding any contains
-on-some-face = all-in (λ c. any (λ f. contains f c) facePlaces) places refl
+on-some-face = all-in (λ c. any (λ f. contains f c) facePositions) positions refl
 
-face-place : (c : ℕ) → Mem c facePlaces → Mem c places
+face-place : (c : ℕ) → Mem c facePositions → Mem c positions
 unfolding any
 face-place c m =
-    let r = any-true (eqb c) places (all-in (λ c. any (eqb c) places) facePlaces refl c m) in
-    subst (λ (x : ℕ). Mem x places) (sym (eqb-true c (r .0) (r .2))) (r .1)
+    let r = any-true (eqb c) positions (all-in (λ c. any (eqb c) positions) facePositions refl c m) in
+    subst (λ (x : ℕ). Mem x positions) (sym (eqb-true c (r .0) (r .2))) (r .1)
 
-no-bare-cell : (kept : ℕ → Bool) → any (λ f. not (touched kept f)) facePlaces ≡ false → test kept .m ≡ 0
-unfolding test testOf groupCount groups gather those
+no-bare-cell : (kept : ℕ → Bool) → any (λ f. not (touched kept f)) facePositions ≡ false → test kept .m ≡ 0
+unfolding test testOf groupCount groups gather filter
 no-bare-cell kept h =
     ap (λ (cs : List ℕ). length (gather joined cs []))
-    (those-ext (λ c. not (touched kept c)) (λ c. false) places (λ c m.
-    let r = any-true (λ f. contains f c) facePlaces (on-some-face c m) in
-    ap not (touched-closed kept (r .0) c (r .2) (all-in (touched kept) facePlaces h (r .0) (r .1)))))
+    (filter-ext (λ c. not (touched kept c)) (λ c. false) positions (λ c m.
+    let r = any-true (λ f. contains f c) facePositions (on-some-face c m) in
+    ap not (touched-closed kept (r .0) c (r .2) (all-in (touched kept) facePositions h (r .0) (r .1)))))
 
-pub bare-face : (kept : ℕ → Bool) → 1 ≤ test kept .m → (c : ℕ) × (Mem c facePlaces) × (touched kept c ≡ false) × (kept c ≡ false)
+pub bare-face : (kept : ℕ → Bool) → 1 ≤ test kept .m → (c : ℕ) × (Mem c facePositions) × (touched kept c ≡ false) × (kept c ≡ false)
 bare-face kept h =
-    elim (two (any (λ f. not (touched kept f)) facePlaces)) [
+    elim (two (any (λ f. not (touched kept f)) facePositions)) [
       | inl e ↦
-          let r = any-true (λ f. not (touched kept f)) facePlaces e in
+          let r = any-true (λ f. not (touched kept f)) facePositions e in
           let bare = not-true (touched kept (r .0)) (r .2) in
           (r .0, r .1, bare, bare-gone kept (r .0) (face-place (r .0) (r .1)) bare)
       | inr e ↦ let z : ⊥ = omega (arith, no-bare-cell kept e) in absurd z
     ]
 
 -- the same, by the voxels
-pub face-gone : (kept : ℕ → Bool) → 1 ≤ test kept .m → any (λ c. not (kept c)) facePlaces ≡ true
-face-gone kept h = let r = bare-face kept h in true-any (λ c. not (kept c)) facePlaces (r .0) (r .1) (ap not (r .3))
+pub face-gone : (kept : ℕ → Bool) → 1 ≤ test kept .m → any (λ c. not (kept c)) facePositions ≡ true
+face-gone kept h = let r = bare-face kept h in true-any (λ c. not (kept c)) facePositions (r .0) (r .1) (ap not (r .3))

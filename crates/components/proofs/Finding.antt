@@ -11,15 +11,15 @@ use lib.IntN.{ℤ}
 use lib.ListN.{length, getD, List·getD-eq-default}
 use borrow.Author.Tests.{eq-eqb, lt-ltb, le-ltb}
 use Rattle.cells.specs.Linked.{Linked}
-use Rattle.cells.specs.Groups.{those}
+use Rattle.cells.specs.Groups.{filter}
 use Rattle.prelude.proofs.Bools.{two, not-both, and-true}
 use Rattle.cells.proofs.Chains.{carry}
 use Rattle.rules.specs.declared.Sides.{Sides}
-use Rattle.rules.specs.Grid.{from, size, voxels, onBorder, touch, measuredNegative, valueAt, amount}
+use Rattle.rules.specs.Grid.{range, size, voxels, onBorder, touch, measuredNegative, valueAt, amount}
 use Rattle.rules.specs.Begin.{isIn, inside}
 use Rattle.rules.specs.Meaning.{negative, GroupOf, found}
 use Rattle.rules.proofs.Places.{Fit, fit}
-use Rattle.prelude.proofs.Ranges.{getD-map-from, length-map-from}
+use Rattle.prelude.proofs.Ranges.{getD-map-range, length-map-range}
 use Rattle.rules.proofs.Inside.{negative-lt, touch-back, found-is-inside}
 use Rattle.values.specs.Values.{labelsOf}
 use Rattle.loops.specs.InPlace.{Each}
@@ -55,10 +55,10 @@ module _ (s : Sides) (values : List ℤ) (dist status : ℕ) (A : Accepted s val
       let n = A .len in
       ⊎-elim
       (λ h.
-      List·getD-eq-default (map one (from 0 (length values))) 0 {n = k} (let e = length-map-from one (length values) in omega arith)
+      List·getD-eq-default (map one (range 0 (length values))) 0 {n = k} (let e = length-map-range one (length values) in omega arith)
       ∙ ap (λ (t : Bool). cond {A = ℕ} (t && measuredNegative (valueAt values k)) 1 0) (sym (le-ltb k (size s) h)))
       (λ h.
-      getD-map-from one 0 (length values) k (omega arith)
+      getD-map-range one 0 (length values) k (omega arith)
       ∙ ap (λ (t : Bool). cond {A = ℕ} (t && measuredNegative (valueAt values k)) 1 0) (sym (lt-ltb k (size s) h)))
       (split (size s) k)
 
@@ -68,7 +68,7 @@ module _ (s : Sides) (values : List ℤ) (dist status : ℕ) (A : Accepted s val
 
     len : length l ≡ size s
     unfolding labelsOf
-    len = ap length e ∙ length-map-from (λ k. cond (measuredNegative (valueAt values k)) 1 0) (length values) ∙ A .len
+    len = ap length e ∙ length-map-range (λ k. cond (measuredNegative (valueAt values k)) 1 0) (length values) ∙ A .len
 
     -- just the measured negative voxels are labelled 1
     member-is : (k : ℕ) → labelled 1 l k ≡ negative s values k
@@ -122,7 +122,7 @@ module _ (s : Sides) (values : List ℤ) (dist status : ℕ) (A : Accepted s val
 
     size-is : (test : ℕ → Bool) → sizeOf (length l) test ≡ found s test
     unfolding voxels
-    size-is test = ap (λ (n : ℕ). length (those test (from 0 n))) len
+    size-is test = ap (λ (n : ℕ). length (filter test (range 0 n))) len
 
     module _ (work : List ℤ) (first end : ℕ) (W : Longest near-by l work first end) where
       inside-is : (k : ℕ) → k < size s → isIn (inside s values) k ≡ W .test k

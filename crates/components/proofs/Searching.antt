@@ -9,13 +9,13 @@ use lib.Dec.{eqb}
 use lib.IntN.{ℤ, pos}
 use lib.ListN.{length, getD}
 use borrow.Author.Tests.{eq-eqb, ne-eqb, eqb-true, eqb-false}
-use Rattle.cells.specs.Groups.{those}
+use Rattle.cells.specs.Groups.{filter}
 use Rattle.cells.specs.Linked.{Linked, stay, step}
 use Rattle.prelude.proofs.Bools.{two, and-true, true-and, both-ways}
-use Rattle.prelude.proofs.Lists.{mem-those, those-ext}
+use Rattle.prelude.proofs.Lists.{mem-filter, filter-ext}
 use Rattle.cells.proofs.Chains.{last-member, append, follow, widen}
-use Rattle.rules.specs.Grid.{from}
-use Rattle.prelude.proofs.Ranges.{from-mem, mem-from}
+use Rattle.rules.specs.Grid.{range}
+use Rattle.prelude.proofs.Ranges.{range-mem, mem-range}
 use Rattle.components.specs.Flood.{fillOf, labelled, untaken, Ready, Taken, Lists, Flooded, Component, sizeOf, Longest, nearBy, Floodable, Searchable}
 use Rattle.components.proofs.Counting.{Parts, left, right, none, count-parts, count-labels, mem-some}
 use Rattle.components.proofs.Pushes.{label-lt}
@@ -52,9 +52,9 @@ module _ (near : ℕ → ℕ → Bool) (L : List ℕ) (turn : (u v : ℕ) → ge
   same-size : (v w : ℕ) (p q : ℕ → Bool) → Component n member near v p → Component n member near w q → Linked member near v w → sizeOf n p ≡ sizeOf n q
   same-size v w p q P Q l =
       ap length
-      (those-ext p q (from 0 n)
+      (filter-ext p q (range 0 n)
       (λ i m.
-      let h = from-mem 0 n i m in
+      let h = range-mem 0 n i m in
       both-ways (p i) (q i)
       (λ e. Q .whole i (append (turned l) (P .linked i (omega arith) e)))
       (λ e. P .whole i (append l (Q .linked i (omega arith) e)))))
@@ -206,9 +206,9 @@ module _ (near : ℕ → ℕ → Bool) (L : List ℕ) (turn : (u v : ℕ) → ge
     fresh-found : sizeOf n fresh ≡ e - end
     unfolding untaken
     fresh-found =
-        let sum = count-parts fresh (labelled 1 l′) (labelled 1 l) (from 0 n) (λ k m. parts k) in
-        let a = ap (λ (x : ℕ). length (those (labelled 1 l) (from 0 x))) (T .len) in
-        let b = ap (λ (x : ℕ). length (those (labelled 1 l′) (from 0 x))) (F .len ∙ T .len) in
+        let sum = count-parts fresh (labelled 1 l′) (labelled 1 l) (range 0 n) (λ k m. parts k) in
+        let a = ap (λ (x : ℕ). length (filter (labelled 1 l) (range 0 x))) (T .len) in
+        let b = ap (λ (x : ℕ). length (filter (labelled 1 l′) (range 0 x))) (F .len ∙ T .len) in
         omega (arith, F .counted, F .longer)
 
     smallest : (k : ℕ) → Linked member near i k → i ≤ k
@@ -339,7 +339,7 @@ module _ (near : ℕ → ℕ → Bool) (L : List ℕ) (turn : (u v : ℕ) → ge
         let y = eq-eqb (getD L some 0) 1 some-is in
         let c = count-of some y in
         let h = member-lt some y in
-        let m = mem-some (mem-those (c .test) (from 0 n) some (mem-from 0 n some (omega arith) (omega arith)) (c .component .whole some (c .chain))) in
+        let m = mem-some (mem-filter (c .test) (range 0 n) some (mem-range 0 n some (omega arith) (omega arith)) (c .component .whole some (c .chain))) in
         let f = c .fits in
         omega arith
 

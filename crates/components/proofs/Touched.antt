@@ -10,9 +10,9 @@ use borrow.Author.Tests.{le-leb, leb-true, eqb-false}
 use Rattle.prelude.proofs.Bools.{and-true, or-false, both-ways}
 use Rattle.prelude.proofs.Lists.{Mem}
 use Rattle.rules.specs.declared.Sides.{Sides}
-use Rattle.rules.specs.Grid.{size, from, voxel, end, onBorder, gap, near, touch}
+use Rattle.rules.specs.Grid.{size, range, voxel, end, onBorder, gap, near, touch}
 use Rattle.rules.proofs.Places.{Fit, voxel-in}
-use Rattle.prelude.proofs.Ranges.{from-mem, mem-from, getD-map-from, length-map-from}
+use Rattle.prelude.proofs.Ranges.{range-mem, mem-range, getD-map-range, length-map-range}
 use Rattle.rules.proofs.InsideLeast.{mem-map, map-mem}
 use Rattle.loops.proofs.Coordinates.{index-is, coords}
 use Rattle.components.specs.Flood.{shifted, nearBy, offsetOf, touching}
@@ -53,13 +53,13 @@ module _ (a ab base j : ℕ) where
   offset-mem : (p : ℕ) → p < 27 → j ≡ base + offsetOf a ab p → Mem j (shifted base (touching a ab))
   offset-mem p h e =
       subst (λ (x : ℕ). Mem x (shifted base (touching a ab))) (sym e)
-      (mem-map (λ o. base + o) (touching a ab) (offsetOf a ab p) (mem-map (offsetOf a ab) (from 0 27) p (mem-from 0 27 p (omega arith) (omega arith))))
+      (mem-map (λ o. base + o) (touching a ab) (offsetOf a ab p) (mem-map (offsetOf a ab) (range 0 27) p (mem-range 0 27 p (omega arith) (omega arith))))
 
   mem-offset : Mem j (shifted base (touching a ab)) → (p : ℕ) × (p < 27) × (j ≡ base + offsetOf a ab p)
   mem-offset m =
       let w = map-mem (λ o. base + o) (touching a ab) j m in
-      let v = map-mem (offsetOf a ab) (from 0 27) (w .0) (w .1) in
-      let r = from-mem 0 27 (v .0) (v .1) in
+      let v = map-mem (offsetOf a ab) (range 0 27) (w .0) (w .1) in
+      let r = range-mem 0 27 (v .0) (v .1) in
       (v .0, omega arith, w .2 ∙ ap (λ (x : ℕ). base + x) (v .2))
 
 -- n less one, and so many of w more or fewer
@@ -112,8 +112,8 @@ module _ (s : Sides) (F : Fit s) (v : ℕ) (I : Inner s v) where
 
   pub offset-in : (k : ℕ) → k < length (touching (s .a) ab) → v - back + getD (touching (s .a) ab) k 0 < size s
   offset-in k h =
-      let l : k < 27 = omega (arith, length-map-from (offsetOf (s .a) ab) 27) in
-      let e = getD-map-from (offsetOf (s .a) ab) 0 27 k l in
+      let l : k < 27 = omega (arith, length-map-range (offsetOf (s .a) ab) 27) in
+      let e = getD-map-range (offsetOf (s .a) ab) 0 27 k l in
       let y : k / 3 % 3 ≤ 2 = omega arith in
       let z : k / 9 ≤ 2 = omega arith in
       let x : k % 3 ≤ 2 = omega arith in

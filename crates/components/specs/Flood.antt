@@ -8,9 +8,9 @@ use Prim.Native.Nat.{ℕ, _+_, _-_, _*_, _/_, _%_, _≤_, _<_}
 use lib.Dec.{eqb}
 use lib.IntN.{ℤ, pos}
 use lib.ListN.{length, getD, set}
-use Rattle.cells.specs.Groups.{any, those}
+use Rattle.cells.specs.Groups.{any, filter}
 use Rattle.cells.specs.Linked.{Linked}
-use Rattle.rules.specs.Grid.{from}
+use Rattle.rules.specs.Grid.{range}
 
 -- ---- pushes
 
@@ -39,7 +39,7 @@ labelled x l k = eqb (getD l k 0) x
 
 -- how many voxels a flood may still take
 unfoldable pub untaken : List ℕ → ℕ
-untaken l = length (those (labelled 1 l) (from 0 (length l)))
+untaken l = length (filter (labelled 1 l) (range 0 (length l)))
 
 -- the work list has room for all of them
 pub record Ready (f : Fill) : Type 0 where
@@ -60,7 +60,7 @@ abbrev pub offsetOf : ℕ → ℕ → ℕ → ℕ
 offsetOf a ab p = p % 3 + p / 3 % 3 * a + p / 9 * ab
 
 abbrev pub touching : ℕ → ℕ → List ℕ
-touching a ab = map (offsetOf a ab) (from 0 27)
+touching a ab = map (offsetOf a ab) (range 0 27)
 
 pub record Pushable (offsets : List ℕ) (base : ℕ) (f : Fill) : Type 0 where
   pub ready : Ready f
@@ -105,7 +105,7 @@ pub record Component (n : ℕ) (member : ℕ → Bool) (near : ℕ → ℕ → B
   pub whole : (i : ℕ) → Linked member near v i → test i ≡ true
 
 abbrev pub sizeOf : ℕ → (ℕ → Bool) → ℕ
-sizeOf n test = length (those test (from 0 n))
+sizeOf n test = length (filter test (range 0 n))
 
 -- the test finds a component that none exceeds, and that exceeds every one with a smaller index
 pub record Largest (n : ℕ) (member : ℕ → Bool) (near : ℕ → ℕ → Bool) (test : ℕ → Bool) : Type 0 where

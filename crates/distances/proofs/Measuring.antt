@@ -9,10 +9,10 @@ use native.Mathlib.Nat.{mul-le-mul, add-mul, mul-comm, mul-assoc, mul-one, one-m
 use lib.ListN.{length, getD, List·getD-eq-default}
 use Rattle.prelude.proofs.Bools.{two}
 use Rattle.rules.specs.declared.Sides.{Sides}
-use Rattle.rules.specs.Grid.{size, voxel, gap, apart, steps}
+use Rattle.rules.specs.Grid.{size, voxel, gap, apart, taxicab}
 use Rattle.rules.specs.Begin.{isIn, distance}
 use Rattle.rules.proofs.Places.{Fit, InGrid, voxel-in}
-use Rattle.rules.proofs.Distance.{steps-lt, nearest-distance}
+use Rattle.rules.proofs.Distance.{taxicab-lt, nearest-distance}
 use Rattle.loops.proofs.Orders.{split}
 use Rattle.loops.proofs.Coordinates.{index-is, coords, grid-in}
 use Rattle.distances.specs.Sweep.{Whole, Axis}
@@ -162,8 +162,8 @@ module _ (s : Sides) (F : Fit s) where
     in-grid : (i : ℕ) → i < size s → InGrid s (voxel s i)
     in-grid i h = voxel-in s i pa pb h
 
-    all-le : (i j : ℕ) → i < size s → j < size s → getD D₃ i 0 ≤ getD D j 0 + steps s i j
-    unfolding steps apart
+    all-le : (i j : ℕ) → i < size s → j < size s → getD D₃ i 0 ≤ getD D j 0 + taxicab s i j
+    unfolding taxicab apart
     all-le i j h k =
         let u = voxel s i in
         let v = voxel s j in
@@ -176,13 +176,13 @@ module _ (s : Sides) (F : Fit s) where
         let f = ap (λ (n : ℕ). getD D n 0) (index-is s pa pb j) in
         omega arith
 
-    steps-to : (i x y z : ℕ) → x < s .a → y < s .b → steps s i (point x y z) ≡ gap (voxel s i .x) x + gap (voxel s i .y) y + gap (voxel s i .z) z
-    unfolding steps apart
-    steps-to i x y z h k =
+    taxicab-to : (i x y z : ℕ) → x < s .a → y < s .b → taxicab s i (point x y z) ≡ gap (voxel s i .x) x + gap (voxel s i .y) y + gap (voxel s i .z) z
+    unfolding taxicab apart
+    taxicab-to i x y z h k =
         let q = coords s pa pb (point x y z) x y z h k refl in
         rw (q .0, q .1, q .2)
 
-    all-ge : (i : ℕ) → i < size s → (j : ℕ) × (j < size s) × (getD D j 0 + steps s i j ≤ getD D₃ i 0)
+    all-ge : (i : ℕ) → i < size s → (j : ℕ) × (j < size s) × (getD D j 0 + taxicab s i j ≤ getD D₃ i 0)
     all-ge i h =
         let u = voxel s i in
         let g = in-grid i h in
@@ -192,7 +192,7 @@ module _ (s : Sides) (F : Fit s) where
         let e = ap (λ (n : ℕ). getD D₃ n 0) (index-is s pa pb i) in (
           point (c .0) (b .0) (a .0),
           grid-in s pa pb pc (c .0) (b .0) (a .0) (c .1) (b .1) (a .1),
-          omega (arith, steps-to i (c .0) (b .0) (a .0) (c .1) (b .1), a .2, b .2, c .2),
+          omega (arith, taxicab-to i (c .0) (b .0) (a .0) (c .1) (b .1), a .2, b .2, c .2),
         )
 
     -- ---- from S
@@ -201,7 +201,7 @@ module _ (s : Sides) (F : Fit s) where
       in-zero : (k : ℕ) → isIn S k ≡ true → getD D k 0 ≡ 0
       in-zero k e = E .seeds .is k (E .filled .within k e) ∙ ap (λ (t : Bool). cond t 0 (s .a + s .b + s .c)) e
 
-      to-each : (i j : ℕ) → i < size s → isIn S j ≡ true → getD D₃ i 0 ≤ steps s i j
+      to-each : (i j : ℕ) → i < size s → isIn S j ≡ true → getD D₃ i 0 ≤ taxicab s i j
       to-each i j h e = omega (arith, all-le i j h (E .filled .within j e), in-zero j e)
 
       pub swept-measured : Measured s S D₃
@@ -213,7 +213,7 @@ module _ (s : Sides) (F : Fit s) where
                 let g = w .2 in
                 let j = E .filled .filled .0 in
                 let up = to-each i j h (E .filled .filled .1) in
-                let lt = steps-lt s i j h (E .filled .within j (E .filled .filled .1)) in
+                let lt = taxicab-lt s i j h (E .filled .within j (E .filled .filled .1)) in
                 let near : isIn S (w .0) ≡ true =
                 elim (two (isIn S (w .0))) [
                   | inl y ↦ y

@@ -10,7 +10,7 @@ use lib.ListN.{length}
 use Rattle.cells.specs.Groups.{any}
 use Rattle.cells.specs.Cells.{passes}
 use Rattle.rules.specs.declared.Sides.{Sides}
-use Rattle.rules.specs.Grid.{size, from, voxels}
+use Rattle.rules.specs.Grid.{size, range, voxels}
 use Rattle.rules.specs.Status.{isPending, anyPending, testAt, firstOf, examine, Progress, progress, counted, carving}
 use Rattle.rules.specs.Machine.{outside, farther}
 use Rattle.pending.specs.declared.Choice.{Choice}
@@ -158,7 +158,7 @@ pub tallied :
     → Workable s before
     → length after ≡ length before
     → Run s dist limit before after offsets tree c
-    → p ≡ any (isPending after) (from 0 (length after))
+    → p ≡ any (isPending after) (range 0 (length after))
     → Tallied s dist limit before after (record { examined = c .examined; removed = c .removed; pending = p })
 unfolding anyPending voxels
 tallied s dist limit before after offsets tree c p w l r e =
@@ -166,5 +166,5 @@ tallied s dist limit before after offsets tree c p w l r e =
       rule = r .rule;
       up-to = r .up-to;
       fewer = r .fewer;
-      left = e ∙ ap (λ (n : ℕ). any (isPending after) (from 0 n)) (l ∙ w .body .statuses);
+      left = e ∙ ap (λ (n : ℕ). any (isPending after) (range 0 n)) (l ∙ w .body .statuses);
     }

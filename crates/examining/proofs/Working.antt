@@ -12,7 +12,7 @@ use lib.ListN.{length, set, length-set}
 use lib.Seq.{getD-set-same, getD-set-other}
 use Rattle.cells.specs.Cells.{passes}
 use Rattle.prelude.proofs.Bools.{and-true, true-and, or-true, not-both}
-use Rattle.prelude.proofs.Ranges.{getD-map-from, length-map-from}
+use Rattle.prelude.proofs.Ranges.{getD-map-range, length-map-range}
 use Rattle.rules.specs.declared.Sides.{Sides}
 use Rattle.rules.specs.Grid.{size, voxels, touch}
 use Rattle.rules.specs.Status.{statusOf, keptByte, pendingByte, isKept, isPending, rested, removable, testAt, statusWithout, without, examinedAs, examine}
@@ -47,11 +47,11 @@ module _ (s : Sides) (status : List ℕ) (w : Workable s status) where
 
     length-after : length after ≡ size s
     unfolding without voxels
-    length-after = length-map-from (statusWithout s free status i) (size s)
+    length-after = length-map-range (statusWithout s free status i) (size s)
 
     byte-after : (j : ℕ) → j < size s → statusOf after j ≡ statusWithout s free status i j
     unfolding without voxels
-    byte-after j h = getD-map-from (statusWithout s free status i) 0 (size s) j h
+    byte-after j h = getD-map-range (statusWithout s free status i) 0 (size s) j h
 
     kept-after : (j : ℕ) → j < size s → isKept after j ≡ isKept status j && not (eqb j i)
     unfolding statusWithout removable isKept

@@ -4,7 +4,7 @@ ghost use mathlib.Core.Bool.{true};
 ghost use Prim.Native.Nat.{_<_};
 ghost use lib.ListN.{length};
 ghost use Rattle.cells.specs.Groups.{any};
-ghost use Rattle.rules.specs.Grid.{from};
+ghost use Rattle.rules.specs.Grid.{range};
 ghost use Rattle.rules.specs.Status.{statusOf, isPending, rested};
 ghost use Rattle.rules.specs.Machine.{outside};
 ghost use Rattle.waking.specs.Waking.{Only, AtBits, fromVoxel};
@@ -140,7 +140,7 @@ fn run(
 
 fn any_pending(dist: &[i32], status: &[u8], offsets: &[u8], tree: &[u64]) -> bool
     requires { ⌜ Index (now dist) (now status) (now offsets) (now tree) ⌝ }
-    ensures { λ r. ⌜ r ≡ any (isPending (now (status .entry))) (from 0 (length (now (status .entry)))) ⌝ }
+    ensures { λ r. ⌜ r ≡ any (isPending (now (status .entry))) (range 0 (length (now (status .entry)))) ⌝ }
 {
     let next = pending::best(dist, status, offsets, tree);
     match next {

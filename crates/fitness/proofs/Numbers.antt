@@ -9,7 +9,7 @@ use lib.ListN.{length}
 use Rattle.cells.specs.Groups.{any}
 use Rattle.prelude.proofs.Bools.{or-one}
 use Rattle.rules.specs.declared.Sides.{Sides}
-use Rattle.rules.specs.Grid.{fitSides, size, from, voxels}
+use Rattle.rules.specs.Grid.{fitSides, size, range, voxels}
 use Rattle.rules.specs.Checks.{_when_, firstFailing}
 use Rattle.rules.specs.Machine.{State, unfitCounts, unfitVoxel, unfit, wrongLength, stateChecks}
 use Rattle.rules.specs.Fit.{Lent}
@@ -35,7 +35,7 @@ module _ (g : State) where
   length-refused e h = after-sides e ∙ fails-first 2 (wrongLength g) _ (not-both-true _ _ (λ d t. h (eqb-true _ _ d) (eqb-true _ _ t)))
 
   module _ (lent : Lent s (g .dist) (g .status)) (counts grid : Bool) (e : counts ≡ unfitCounts (g .rec))
-      (f : grid ≡ any (unfitVoxel s (g .dist) (g .status)) (from 0 (size s))) where
+      (f : grid ≡ any (unfitVoxel s (g .dist) (g .status)) (range 0 (size s))) where
     right-length : wrongLength g ≡ false
     unfolding wrongLength
     right-length = ap₂ (λ (p q : Bool). not (p && q)) (eq-eqb _ _ (lent .distances)) (eq-eqb _ _ (lent .statuses))

@@ -1,6 +1,6 @@
 -- The worked files, by computation.
 use mathlib.Core.Path.{refl}
-use Rattle.prelude.specs.Lists.{any, from}
+use Rattle.prelude.specs.Lists.{any, range}
 use Rattle.rules.specs.Grid.{fitSides, size}
 use Rattle.rules.specs.Checks.{unless}
 use Rattle.rules.specs.Begin.{isIn}
@@ -10,7 +10,7 @@ use Rattle.gridfile.specs.File.{fitUpTo, layersChecks, layersFilled, rea
 use Rattle.gridfile.specs.Examples.{Examples}
 
 pub examples : Examples
-unfolding any from fitSides size unless isIn signed valueOf valuesOf withLayer fitUpTo layersChecks layersFilled readUpTo read
+unfolding any range fitSides size unless isIn signed valueOf valuesOf withLayer fitUpTo layersChecks layersFilled readUpTo read
 examples =
     record {
       grid = refl;

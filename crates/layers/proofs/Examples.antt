@@ -1,6 +1,6 @@
 -- The worked records, by computation.
 use mathlib.Core.Path.{refl}
-use Rattle.prelude.specs.Lists.{from}
+use Rattle.prelude.specs.Lists.{range}
 use Rattle.rules.specs.Grid.{fitSides}
 use Rattle.rules.specs.Checks.{unless}
 use Rattle.words.specs.Words.{signed, valueOf, valuesOf}
@@ -8,7 +8,7 @@ use Rattle.layers.specs.Layer.{readLayer, withLayer}
 use Rattle.layers.specs.Examples.{Examples}
 
 pub examples : Examples
-unfolding from fitSides unless signed valueOf valuesOf readLayer withLayer
+unfolding range fitSides unless signed valueOf valuesOf readLayer withLayer
 examples =
     record {
       found = refl;

@@ -6,8 +6,8 @@ use native.Mathlib.Omega.{arith}
 use native.Mathlib.Decide.{ℕ-discrete}
 use lib.ListN.{length, getD, set, length-set}
 use lib.Seq.{getD-set-same, getD-set-other}
-use Rattle.prelude.specs.Lists.{from}
-use Rattle.prelude.proofs.Ranges.{is-map-from}
+use Rattle.prelude.specs.Lists.{range}
+use Rattle.prelude.proofs.Ranges.{is-map-range}
 
 module _ {A : Type 0} (f : ℕ → A) (d : A) where
   -- the elements below i stand, in a buffer of n
@@ -28,5 +28,5 @@ module _ {A : Type 0} (f : ℕ → A) (d : A) where
           ap (λ (j : ℕ). getD (set buffer i x) j d) q ∙ getD-set-same buffer i x d (omega (arith, p .long)) ∙ e ∙ ap f (sym q)
       at k l (no q) = getD-set-other buffer i k x d q ∙ p .stands k (omega arith)
 
-  pub filling-done : (n : ℕ) (buffer : List A) (i : ℕ) → Filling n buffer i → n ≤ i → buffer ≡ map f (from 0 n)
-  filling-done n buffer i p h = is-map-from f d n buffer (p .long) (λ k l. p .stands k (omega arith))
+  pub filling-done : (n : ℕ) (buffer : List A) (i : ℕ) → Filling n buffer i → n ≤ i → buffer ≡ map f (range 0 n)
+  filling-done n buffer i p h = is-map-range f d n buffer (p .long) (λ k l. p .stands k (omega arith))

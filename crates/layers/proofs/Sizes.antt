@@ -8,7 +8,7 @@ use native.Mathlib.Omega.{arith}
 use lib.ListN.{length, take, drop, length-append, length-take, length-drop}
 use lib.Seq.{length-take-le, drop-drop}
 use lib.IntN.{ℤ}
-use Rattle.prelude.proofs.Ranges.{length-map-from}
+use Rattle.prelude.proofs.Ranges.{length-map-range}
 use Rattle.rules.specs.declared.Sides.{Sides}
 use Rattle.rules.specs.Grid.{fitSides, size}
 use Rattle.rules.proofs.Places.{fit}
@@ -38,7 +38,7 @@ pub length-withLayer :
     (s : Sides) (file : List ℕ) (values : List ℤ) (l : LayerSpan) → l .z < s .c → length values ≡ size s → length (withLayer s file values l) ≡ size s
 unfolding withLayer valuesOf
 length-withLayer s file values l h e =
-    let n = length-map-from (λ k. valueOf width (stretch file l) (width * k)) (area s) in
+    let n = length-map-range (λ k. valueOf width (stretch file l) (width * k)) (area s) in
     simp (length-append, length-take, length-drop, n) (omega (arith, layer-room s (l .z) (area s) refl h))
 
 -- a layer's values in the middle of the buffer, by the numbers that the code has

@@ -9,23 +9,23 @@ use borrow.Author.Tests.{eqb-true, eqb-false}
 use lib.Dec.{eqb}
 use lib.ListN.{length, length-append}
 use Rattle.cells.specs.Cells.{bit}
-use Rattle.prelude.specs.Lists.{those, consIf, from}
-use Rattle.prelude.proofs.Lists.{those-append}
-use Rattle.prelude.proofs.Ranges.{from-suc}
+use Rattle.prelude.specs.Lists.{filter, consIf, range}
+use Rattle.prelude.proofs.Lists.{filter-append}
+use Rattle.prelude.proofs.Ranges.{range-suc}
 use Rattle.rules.specs.Status.{statusOf, keptByte, isKept}
 
 -- ---- one index more
 
 module _ (p : ℕ → Bool) where
   abbrev pub counted : ℕ → ℕ
-  counted n = length (those p (from 0 n))
+  counted n = length (filter p (range 0 n))
 
   counted-none : counted 0 ≡ 0
-  unfolding from those
+  unfolding range filter
   counted-none = refl
 
-  one : (i : ℕ) → length (those p (i ∷ [])) ≡ bit (p i)
-  unfolding those
+  one : (i : ℕ) → length (filter p (i ∷ [])) ≡ bit (p i)
+  unfolding filter
   one i = go (p i)
     where
       go : (t : Bool) → length (consIf t i []) ≡ bit t
@@ -35,9 +35,9 @@ module _ (p : ℕ → Bool) where
   counted-more : (i : ℕ) → counted (i + 1) ≡ counted i + bit (p i)
   counted-more i =
       ap counted (add-one i)
-      ∙ ap (λ (l : List ℕ). length (those p l)) (from-suc 0 i ∙ ap (λ (k : ℕ). from 0 i ++ (k ∷ [])) (omega arith))
-      ∙ ap length (those-append p (from 0 i) (i ∷ []))
-      ∙ length-append (those p (from 0 i)) (those p (i ∷ []))
+      ∙ ap (λ (l : List ℕ). length (filter p l)) (range-suc 0 i ∙ ap (λ (k : ℕ). range 0 i ++ (k ∷ [])) (omega arith))
+      ∙ ap length (filter-append p (range 0 i) (i ∷ []))
+      ∙ length-append (filter p (range 0 i)) (filter p (i ∷ []))
       ∙ ap (λ (n : ℕ). counted i + n) (one i)
 
 -- ---- the loop that counts kept voxels

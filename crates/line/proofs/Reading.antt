@@ -10,7 +10,7 @@ use lib.Dec.{leb, ltb, eqb}
 use lib.ListN.{length, take, replicate, length-replicate}
 use lib.IntN.{ℤ, pos}
 use Rattle.prelude.proofs.Bools.{and-true}
-use Rattle.prelude.proofs.Ranges.{length-map-from}
+use Rattle.prelude.proofs.Ranges.{length-map-range}
 use Rattle.rules.specs.declared.Sides.{Sides}
 use Rattle.rules.specs.declared.Record.{Record}
 use Rattle.rules.specs.declared.Begun.{Begun}
@@ -51,7 +51,7 @@ module _ (s : Sides) (T : ℕ) (values dist : List ℤ) (status : List ℕ) wher
       (λ p f.
       let q : newRecord s T ≡ next = cc in
       let S = inside s values in
-      length-map-from (statusAt s S (inBox s S)) (size s) ∙ ap (λ (r : Record). size (r .sides)) q)
+      length-map-range (statusAt s S (inBox s S)) (size s) ∙ ap (λ (r : Record). size (r .sides)) q)
       (sym (ap (λ (o : Outcome Buffers Record). o .answer) e))
 
   -- the line, by begin's answer

@@ -3,7 +3,7 @@ ghost use mathlib.Core.Path.{_≡_};
 ghost use mathlib.Core.Bool.{true};
 ghost use Prim.Native.Nat.{_≤_};
 ghost use lib.ListN.{length};
-ghost use Rattle.prelude.specs.Lists.{those, from};
+ghost use Rattle.prelude.specs.Lists.{filter, range};
 ghost use Rattle.rules.specs.Grid.{size};
 ghost use Rattle.rules.specs.Answer.{refused};
 ghost use Rattle.rules.specs.Status.{isKept};
@@ -26,7 +26,7 @@ use text::Text;
 // ---- after begin
 
 fn kept_voxels(status: &[u8]) -> u64
-    ensures { λ r. ⌜ r ≡ length (those (isKept (now (status .entry))) (from 0 (length (now (status .entry))))) ⌝ }
+    ensures { λ r. ⌜ r ≡ length (filter (isKept (now (status .entry))) (range 0 (length (now (status .entry))))) ⌝ }
 {
     let mut kept = 0;
     let mut i = 0;

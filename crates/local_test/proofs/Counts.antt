@@ -8,13 +8,14 @@ use lib.Dec.{eqb, lit<}
 use lib.Bits.{bitAnd, and-le-l}
 use lib.Count.{ones, ones-le}
 use lib.ListN.{length}
-use Rattle.cells.specs.Groups.{any, consIf, those}
-use Rattle.cells.specs.Cells.{contains, places, touched, dimension, countOf, testOf, test}
+use Rattle.cells.specs.Groups.{any, consIf, filter}
+use Rattle.cells.specs.Cells.{contains, positions, touched, dimension, countOf, testOf, test}
 use Rattle.closed_sets.specs.Rank.{rankBy, rank}
-use Rattle.prelude.proofs.Lists.{those-append}
+use Rattle.prelude.specs.Lists.{range}
+use Rattle.prelude.proofs.Lists.{filter-append}
 use Rattle.closed_sets.proofs.EveryBlock.{place-lt, test-ext, euler, k-by-rank}
 use Rattle.bits.specs.Bits.{has, bits}
-use Rattle.bits.proofs.Bits.{bits-lt, has-bits, bits-and, upFrom, ones-bits}
+use Rattle.bits.proofs.Bits.{bits-lt, has-bits, bits-and, ones-bits}
 
 -- ---- the test goes by the bits of the kept voxels
 
@@ -28,36 +29,36 @@ unfolding touched any contains
 touched-middle kept = refl
 
 -- the middle is no cell
-pub ones-places : (p : ℕ → Bool) → p 13 ≡ false → ones (bits 27 p) ≡ length (those p places)
-unfolding those
-ones-places p e =
+pub ones-positions : (p : ℕ → Bool) → p 13 ≡ false → ones (bits 27 p) ≡ length (filter p positions)
+unfolding filter range
+ones-positions p e =
     ones-bits 27 p
     ∙ ap length
-    (those-append p (upFrom 0 13) (13 ∷ upFrom 14 13)
-    ∙ ap (λ (b : Bool). those p (upFrom 0 13) ++ consIf b 13 (those p (upFrom 14 13))) e
-    ∙ sym (those-append p (upFrom 0 13) (upFrom 14 13)))
+    (filter-append p (range 0 13) (13 ∷ range 14 13)
+    ∙ ap (λ (b : Bool). filter p (range 0 13) ++ consIf b 13 (filter p (range 14 13))) e
+    ∙ sym (filter-append p (range 0 13) (range 14 13)))
 
 -- a cell of dimension d
 abbrev pub isOf : ℕ → ℕ → Bool
 isOf d c = eqb (dimension c) d
 
-pub those-both : (s q : ℕ → Bool) (cs : List ℕ) → those (λ c. s c && q c) cs ≡ those q (those s cs)
-unfolding those
-those-both s q [] = refl
-those-both s q (c ∷ cs) = ap (consIf (s c && q c) c) (those-both s q cs) ∙ split (s c)
+pub filter-both : (s q : ℕ → Bool) (cs : List ℕ) → filter (λ c. s c && q c) cs ≡ filter q (filter s cs)
+unfolding filter
+filter-both s q [] = refl
+filter-both s q (c ∷ cs) = ap (consIf (s c && q c) c) (filter-both s q cs) ∙ split (s c)
   where
-    split : (b : Bool) → consIf (b && q c) c (those q (those s cs)) ≡ those q (consIf b c (those s cs))
+    split : (b : Bool) → consIf (b && q c) c (filter q (filter s cs)) ≡ filter q (consIf b c (filter s cs))
     split true = refl
     split false = refl
 
 countOf-ones : (d : ℕ) (s : ℕ → Bool) {mask : ℕ} → mask ≡ bits 27 (isOf d) → s 13 ≡ false
-    → ones (bitAnd (bits 27 s) mask) ≡ countOf d (those s places)
+    → ones (bitAnd (bits 27 s) mask) ≡ countOf d (filter s positions)
 unfolding countOf
 countOf-ones d s e m =
     ap (λ (x : ℕ). ones (bitAnd (bits 27 s) x)) e
     ∙ ap ones (bits-and 27 s (isOf d))
-    ∙ ones-places (λ c. s c && isOf d c) (ap (λ (b : Bool). b && isOf d 13) m)
-    ∙ ap length (those-both s (isOf d) places)
+    ∙ ones-positions (λ c. s c && isOf d c) (ap (λ (b : Bool). b && isOf d 13) m)
+    ∙ ap length (filter-both s (isOf d) positions)
 
 pub corner-mask : 0o505000505 ≡ bits 27 (isOf 0)
 unfolding bits dimension

@@ -9,14 +9,14 @@ use lib.Bits.{bitAnd, bitXor}
 use lib.Count.{ones}
 use lib.ListN.{length}
 use borrow.Author.Tests.{eqb-true, eq-eqb}
-use Rattle.cells.specs.Groups.{any, those}
-use Rattle.cells.specs.Cells.{bit, places, touched, dimension, countOf, testOf, test, passes}
+use Rattle.cells.specs.Groups.{any, filter}
+use Rattle.cells.specs.Cells.{bit, positions, touched, dimension, countOf, testOf, test, passes}
 use Rattle.prelude.proofs.Bools.{and-true, true-and, both-ways}
 use Rattle.prelude.proofs.Lists.{Mem, here, there}
 use Rattle.closed_sets.proofs.EveryBlock.{all-in}
 use Rattle.bits.specs.Bits.{bits}
 use Rattle.bits.proofs.Bits.{bits-xor, unlike, length-consIf}
-use Rattle.local_test.proofs.Counts.{touched-middle, ones-places, isOf, those-both, edge-mask, Counted}
+use Rattle.local_test.proofs.Counts.{touched-middle, ones-positions, isOf, filter-both, edge-mask, Counted}
 
 -- ---- a sum over cells, from the sum at each
 
@@ -24,22 +24,22 @@ abbrev Balanced : (p q a b e : Bool) → Type 0
 Balanced p q a b e = bit p + bit q ≡ bit a + bit b + bit e
 
 size : (ℕ → Bool) → List ℕ → ℕ
-size p cs = length (those p cs)
+size p cs = length (filter p cs)
 
 balance : (p q a b e : ℕ → Bool) (cs : List ℕ) → ((c : ℕ) → Mem c cs → Balanced (p c) (q c) (a c) (b c) (e c))
     → size p cs + size q cs ≡ size a cs + size b cs + size e cs
-unfolding size those
+unfolding size filter
 balance p q a b e [] h = refl
 balance p q a b e (c ∷ cs) h =
     let i = balance p q a b e cs (λ d m. h d (there m)) in
     let z = h c here in
     omega (
       arith,
-      length-consIf (p c) c (those p cs),
-      length-consIf (q c) c (those q cs),
-      length-consIf (a c) c (those a cs),
-      length-consIf (b c) c (those b cs),
-      length-consIf (e c) c (those e cs),
+      length-consIf (p c) c (filter p cs),
+      length-consIf (q c) c (filter q cs),
+      length-consIf (a c) c (filter a cs),
+      length-consIf (b c) c (filter b cs),
+      length-consIf (e c) c (filter e cs),
     )
 
 -- ---- a cell is a corner, an edge or a face
@@ -72,24 +72,24 @@ at-cell false corner = refl
 at-cell false edge = refl
 at-cell false face = refl
 
-kind-of : (c : ℕ) → Mem c places → Kind (isOf 0 c) (isOf 1 c) (isOf 2 c)
+kind-of : (c : ℕ) → Mem c positions → Kind (isOf 0 c) (isOf 1 c) (isOf 2 c)
 unfolding any dimension
-kind-of c m = kind (isOf 0 c) (isOf 1 c) (isOf 2 c) (all-in (λ c. one (isOf 0 c) (isOf 1 c) (isOf 2 c)) places refl c m)
+kind-of c m = kind (isOf 0 c) (isOf 1 c) (isOf 2 c) (all-in (λ c. one (isOf 0 c) (isOf 1 c) (isOf 2 c)) positions refl c m)
 
-twelve-edges : size (isOf 1) places ≡ 12
-unfolding size those dimension
+twelve-edges : size (isOf 1) positions ≡ 12
+unfolding size filter dimension
 twelve-edges = refl
 
-size-both : (s : ℕ → Bool) (d : ℕ) → size (λ c. s c && isOf d c) places ≡ countOf d (those s places)
+size-both : (s : ℕ → Bool) (d : ℕ) → size (λ c. s c && isOf d c) positions ≡ countOf d (filter s positions)
 unfolding size countOf
-size-both s d = ap length (those-both s (isOf d) places)
+size-both s d = ap length (filter-both s (isOf d) positions)
 
-ones-unlike : (s : ℕ → Bool) → s 13 ≡ false → ones (bitXor (bits 27 s) 0o252505252) ≡ size (λ c. unlike (s c) (isOf 1 c)) places
+ones-unlike : (s : ℕ → Bool) → s 13 ≡ false → ones (bitXor (bits 27 s) 0o252505252) ≡ size (λ c. unlike (s c) (isOf 1 c)) positions
 unfolding size dimension
 ones-unlike s e =
     ap (λ (x : ℕ). ones (bitXor (bits 27 s) x)) edge-mask
     ∙ ap ones (bits-xor 27 s (isOf 1))
-    ∙ ones-places (λ c. unlike (s c) (isOf 1 c)) (ap (λ (b : Bool). unlike b (isOf 1 13)) e)
+    ∙ ones-positions (λ c. unlike (s c) (isOf 1 c)) (ap (λ (b : Bool). unlike b (isOf 1 13)) e)
 
 -- there are 12 edges, so the touched ones count against the corners and the faces
 unlike-edges : (kept : ℕ → Bool) → ones (bitXor (bits 27 (touched kept)) 0o252505252) + test kept .edges ≡ test kept .corners + test kept .faces + 12
@@ -99,7 +99,7 @@ unlike-edges kept =
     omega (
       arith,
       ones-unlike s (touched-middle kept),
-      balance (λ c. unlike (s c) (isOf 1 c)) (λ c. s c && isOf 1 c) (λ c. s c && isOf 0 c) (λ c. s c && isOf 2 c) (isOf 1) places
+      balance (λ c. unlike (s c) (isOf 1 c)) (λ c. s c && isOf 1 c) (λ c. s c && isOf 0 c) (λ c. s c && isOf 2 c) (isOf 1) positions
           (λ c m. at-cell (s c) (kind-of c m)),
       size-both s 0,
       size-both s 1,

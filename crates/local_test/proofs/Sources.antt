@@ -5,7 +5,7 @@ use mathlib.Core.List.{List, [], _∷_, _++_}
 use Prim.Native.Nat.{ℕ}
 use lib.Dec.{eqb}
 use borrow.Author.Tests.{eqb-true}
-use Rattle.cells.specs.Groups.{any, consIf, those}
+use Rattle.cells.specs.Groups.{any, consIf, filter}
 use Rattle.prelude.proofs.Bools.{and-true, not-true, not-false, both-ways}
 use Rattle.prelude.proofs.Lists.{any-true, true-any, any-false, any-append}
 
@@ -14,10 +14,10 @@ unfolding any
 any-consIf true p x xs = refl
 any-consIf false p x xs = refl
 
-pub any-those : (q p : ℕ → Bool) (xs : List ℕ) → any p (those q xs) ≡ any (λ x. q x && p x) xs
-unfolding any those
-any-those q p [] = refl
-any-those q p (x ∷ xs) = any-consIf (q x) p x (those q xs) ∙ ap (λ (b : Bool). (q x && p x) || b) (any-those q p xs)
+pub any-filter : (q p : ℕ → Bool) (xs : List ℕ) → any p (filter q xs) ≡ any (λ x. q x && p x) xs
+unfolding any filter
+any-filter q p [] = refl
+any-filter q p (x ∷ xs) = any-consIf (q x) p x (filter q xs) ∙ ap (λ (b : Bool). (q x && p x) || b) (any-filter q p xs)
 
 abbrev pub bind : (ℕ → List ℕ) → List ℕ → List ℕ
 bind f [] = []

@@ -8,12 +8,12 @@ use native.Mathlib.Omega.{arith}
 use lib.Dec.{leb, lit<}
 use lib.Pow.{shr-le}
 use lib.Bits.{bitAnd, bitOr, and-le-l, and-le-r, or-lt}
-use Rattle.cells.specs.Groups.{any, consIf, those}
-use Rattle.cells.specs.Cells.{contains, places, touched}
+use Rattle.cells.specs.Groups.{any, consIf, filter}
+use Rattle.cells.specs.Cells.{contains, positions, touched}
 use Rattle.prelude.proofs.Bools.{and-comm, or-zero, or-assoc}
 use Rattle.prelude.proofs.Lists.{any-ext}
 use Rattle.bits.specs.Bits.{has, bits}
-use Rattle.local_test.proofs.Sources.{any-consIf, any-those, bind, any-bind, within, any-same}
+use Rattle.local_test.proofs.Sources.{any-consIf, any-filter, bind, any-bind, within, any-same}
 use Rattle.bits.proofs.Bits.{has-or, has-and, has-shr, has-shl, bits-has, bits-ext, below}
 
 and-assoc : (p q r : Bool) → (p && (q && r)) ≡ ((p && q) && r)
@@ -79,13 +79,13 @@ sources c = bind (reach 1 midX) (bind (reach 3 midY) (reach 9 midZ c))
 
 -- the neighbours that contain the cell c, by the steps and by the rule
 abbrev inside : ℕ → List ℕ
-inside c = those (has cells) (sources c)
+inside c = filter (has cells) (sources c)
 
 abbrev around : ℕ → List ℕ
-around c = those (λ v. contains v c) places
+around c = filter (λ v. contains v c) positions
 
 same-sources : (c : ℕ) → c < 27 → (within (inside c) (around c) && within (around c) (inside c)) ≡ true
-unfolding any those contains has
+unfolding any filter contains has
 same-sources = below 27 (λ c. within (inside c) (around c) && within (around c) (inside c)) refl
 
 module _ (kept : ℕ) where
@@ -114,9 +114,9 @@ module _ (kept : ℕ) where
   touched-has c h =
       all-three c
       ∙ any-ext (has start) (λ v. has cells v && has kept v) (sources c) (λ v _. has-and kept cells v ∙ and-comm (has kept v) (has cells v))
-      ∙ sym (any-those (has cells) (has kept) (sources c))
+      ∙ sym (any-filter (has cells) (has kept) (sources c))
       ∙ any-same (has kept) (inside c) (around c) (same-sources c h)
-      ∙ any-those (λ v. contains v c) (has kept) places
+      ∙ any-filter (λ v. contains v c) (has kept) positions
 
   pub touched-spread : alongZ ≡ bits 27 (touched (has kept))
   touched-spread =

@@ -5,20 +5,20 @@ use mathlib.Core.List.{List, [], _∷_, _++_, map}
 use Prim.Native.Nat.{ℕ, _+_, _<_, max}
 use native.Mathlib.Omega.{arith}
 use native.Mathlib.Numerals.{add-one}
-use Rattle.cells.specs.Groups.{consIf, those}
-use Rattle.prelude.proofs.Lists.{those-append}
-use Rattle.rules.specs.Grid.{from}
+use Rattle.cells.specs.Groups.{consIf, filter}
+use Rattle.prelude.proofs.Lists.{filter-append}
+use Rattle.rules.specs.Grid.{range}
 use Rattle.rules.specs.Begin.{greatest}
-use Rattle.prelude.proofs.Ranges.{from-suc, getD-map-from, length-map-from, is-map-from}
+use Rattle.prelude.proofs.Ranges.{range-suc, getD-map-range, length-map-range, is-map-range}
 
-from-more : (i : ℕ) → from 0 (i + 1) ≡ from 0 i ++ (i ∷ [])
-from-more i =
+range-more : (i : ℕ) → range 0 (i + 1) ≡ range 0 i ++ (i ∷ [])
+range-more i =
     let e : 0 + i ≡ i = omega arith in
-    ap (from 0) (add-one i) ∙ from-suc 0 i ∙ ap (λ (j : ℕ). from 0 i ++ (j ∷ [])) e
+    ap (range 0) (add-one i) ∙ range-suc 0 i ∙ ap (λ (j : ℕ). range 0 i ++ (j ∷ [])) e
 
-those-more : (p : ℕ → Bool) (i : ℕ) → those p (from 0 (i + 1)) ≡ those p (from 0 i) ++ consIf (p i) i []
-unfolding those
-those-more p i = ap (those p) (from-more i) ∙ those-append p (from 0 i) (i ∷ [])
+filter-more : (p : ℕ → Bool) (i : ℕ) → filter p (range 0 (i + 1)) ≡ filter p (range 0 i) ++ consIf (p i) i []
+unfolding filter
+filter-more p i = ap (filter p) (range-more i) ∙ filter-append p (range 0 i) (i ∷ [])
 
 -- ---- the greatest of a list with one more at the end
 
@@ -37,15 +37,15 @@ map-nil f (y ∷ l) = ap (λ (r : List ℕ). f y ∷ r) (map-nil f l)
 
 module _ (f : ℕ → ℕ) (p : ℕ → Bool) (start i : ℕ) where
   abbrev pub so-far : ℕ
-  so-far = greatest start (map f (those p (from 0 i)))
+  so-far = greatest start (map f (filter p (range 0 i)))
 
-  pub greatest-more : greatest start (map f (those p (from 0 (i + 1)))) ≡ cond (p i) (max (f i) so-far) so-far
-  greatest-more = ap (λ (l : List ℕ). greatest start (map f l)) (those-more p i) ∙ go (p i)
+  pub greatest-more : greatest start (map f (filter p (range 0 (i + 1)))) ≡ cond (p i) (max (f i) so-far) so-far
+  greatest-more = ap (λ (l : List ℕ). greatest start (map f l)) (filter-more p i) ∙ go (p i)
     where
-      go : (t : Bool) → greatest start (map f (those p (from 0 i) ++ consIf t i [])) ≡ cond t (max (f i) so-far) so-far
-      go true = ap (greatest start) (map-end f i (those p (from 0 i))) ∙ greatest-end start (f i) (map f (those p (from 0 i)))
-      go false = ap (greatest start) (map-nil f (those p (from 0 i)))
+      go : (t : Bool) → greatest start (map f (filter p (range 0 i) ++ consIf t i [])) ≡ cond t (max (f i) so-far) so-far
+      go true = ap (greatest start) (map-end f i (filter p (range 0 i))) ∙ greatest-end start (f i) (map f (filter p (range 0 i)))
+      go false = ap (greatest start) (map-nil f (filter p (range 0 i)))
 
 -- two lists made from the indices are equal where their elements are
-pub map-same : {A : Type 0} (f g : ℕ → A) (d : A) (n : ℕ) → ((k : ℕ) → k < n → f k ≡ g k) → map f (from 0 n) ≡ map g (from 0 n)
-map-same f g d n e = is-map-from g d n (map f (from 0 n)) (length-map-from f n) (λ i h. getD-map-from f d n i h ∙ e i h)
+pub map-same : {A : Type 0} (f g : ℕ → A) (d : A) (n : ℕ) → ((k : ℕ) → k < n → f k ≡ g k) → map f (range 0 n) ≡ map g (range 0 n)
+map-same f g d n e = is-map-range g d n (map f (range 0 n)) (length-map-range f n) (λ i h. getD-map-range f d n i h ∙ e i h)

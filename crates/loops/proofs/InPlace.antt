@@ -7,8 +7,8 @@ use native.Mathlib.Omega.{arith}
 use native.Mathlib.Nat.{eq-or-lt-of-le}
 use lib.ListN.{length, getD, set, length-set}
 use lib.Seq.{getD-set-same, getD-set-other}
-use Rattle.rules.specs.Grid.{from}
-use Rattle.prelude.proofs.Ranges.{is-map-from}
+use Rattle.rules.specs.Grid.{range}
+use Rattle.prelude.proofs.Ranges.{is-map-range}
 use Rattle.loops.specs.InPlace.{Each}
 use Rattle.loops.proofs.Orders.{split}
 
@@ -51,5 +51,5 @@ module _ {A : Type 0} (d : A) (f : ℕ → A → A) where
   each-as g lo hi l l′ e E = record { len = E .len; inside = λ k p q. E .inside k p q ∙ e k p q; outside = E .outside }
 
   -- all of a list
-  pub each-all : (n i : ℕ) (l l′ : List A) → length l ≡ n → n ≤ i → Each d f 0 i l l′ → l′ ≡ map (λ k. f k (getD l k d)) (from 0 n)
-  each-all n i l l′ e h E = is-map-from _ d n l′ (E .len ∙ e) (λ k q. E .inside k (omega arith) (omega arith))
+  pub each-all : (n i : ℕ) (l l′ : List A) → length l ≡ n → n ≤ i → Each d f 0 i l l′ → l′ ≡ map (λ k. f k (getD l k d)) (range 0 n)
+  each-all n i l l′ e h E = is-map-range _ d n l′ (E .len ∙ e) (λ k q. E .inside k (omega arith) (omega arith))

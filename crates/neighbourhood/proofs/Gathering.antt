@@ -11,7 +11,7 @@ use lib.Dec.{eqb, leb}
 use Rattle.cells.specs.Cells.{test}
 use Rattle.prelude.proofs.Bools.{true-and}
 use Rattle.rules.specs.declared.Sides.{Sides}
-use Rattle.rules.specs.Grid.{voxel, index, reaches, neighbour, blockOf, block}
+use Rattle.rules.specs.Grid.{voxel, index, reaches, neighbour, neighbourhoodOf, neighbourhood}
 use Rattle.rules.specs.Status.{statusOf, keptByte, pendingByte, isKept, isPending, testAt}
 use Rattle.bits.specs.Bits.{has, bits}
 use Rattle.bits.proofs.Bits.{has-and, bits-ext, has-bits, below}
@@ -101,9 +101,9 @@ all-true : (p q r t : Bool) → p ≡ true → q ≡ true → r ≡ true → (p 
 all-true p q r t e f g = ap (λ (u : Bool). u && (q && (r && t))) e ∙ ap (λ (u : Bool). u && (r && t)) f ∙ ap (λ (u : Bool). u && t) g
 
 module _ (s : Sides) (i : ℕ) (n : Inner s i) where
-  pub block-around : (found : ℕ → Bool) (p : ℕ) → p < 27 → block s found i p ≡ found (around s i p)
-  unfolding block blockOf
-  block-around found p h =
+  pub neighbourhood-around : (found : ℕ → Bool) (p : ℕ) → p < 27 → neighbourhood s found i p ≡ found (around s i p)
+  unfolding neighbourhood neighbourhoodOf
+  neighbourhood-around found p h =
       let k = interior s i n in
       let v = voxel s i in
       all-true _ _ _ (found (index s (neighbour v p)))
@@ -115,5 +115,5 @@ module _ (s : Sides) (i : ℕ) (n : Inner s i) where
   pub code-test : (status : List ℕ) {x : ℕ} → x ≡ bits 27 (keptOf (codeOf s status i)) → test (has x) ≡ testAt s status i
   unfolding testAt
   code-test status e =
-      test-of-bits (block s (isKept status) i)
-      (e ∙ bits-ext 27 (keptOf (codeOf s status i)) (block s (isKept status) i) (λ p h. code-kept s status i p h ∙ sym (block-around (isKept status) p h)))
+      test-of-bits (neighbourhood s (isKept status) i)
+      (e ∙ bits-ext 27 (keptOf (codeOf s status i)) (neighbourhood s (isKept status) i) (λ p h. code-kept s status i p h ∙ sym (neighbourhood-around (isKept status) p h)))

@@ -6,12 +6,12 @@ use Prim.Native.Nat.{ℕ, _+_, _*_, _/_, _^_, _<_}
 use native.Mathlib.Nat.{lt-of-le-of-lt}
 use lib.Dec.{lit<}
 use lib.Bits.{bitAnd, bitOr, and-le-r}
-use Rattle.cells.specs.Groups.{any, consIf, those}
+use Rattle.cells.specs.Groups.{any, consIf, filter}
 use Rattle.prelude.proofs.Bools.{and-comm, or-zero}
 use Rattle.prelude.proofs.Lists.{any-ext}
 use Rattle.bits.specs.Bits.{has, bits}
 use Rattle.bits.proofs.Bits.{has-or, has-and, has-shr, bits-has, bits-ext, below}
-use Rattle.local_test.proofs.Sources.{any-those, bind, any-bind, within, any-same}
+use Rattle.local_test.proofs.Sources.{any-filter, bind, any-bind, within, any-same}
 use Rattle.neighbourhood.specs.Neighbourhood.{keptOf}
 
 -- a step by j bits, of which the mask m keeps some
@@ -54,10 +54,10 @@ five c =
 
 -- of the bits that the steps join, one is of a kept voxel
 abbrev origin : ℕ → List ℕ
-origin c = those (has even) (five c)
+origin c = filter (has even) (five c)
 
 one-origin : (c : ℕ) → c < 27 → (within (origin c) (2 * c ∷ []) && within (2 * c ∷ []) (origin c)) ≡ true
-unfolding any those has
+unfolding any filter has
 one-origin = below 27 (λ c. within (origin c) (2 * c ∷ []) && within (2 * c ∷ []) (origin c)) refl
 
 module _ (code : ℕ) where
@@ -95,7 +95,7 @@ module _ (code : ℕ) where
   kept-has c h =
       all-five c
       ∙ any-ext (has x1) (λ v. has even v && has code v) (five c) (λ v _. has-and code even v ∙ and-comm (has code v) (has even v))
-      ∙ sym (any-those (has even) (has code) (five c))
+      ∙ sym (any-filter (has even) (has code) (five c))
       ∙ any-same (has code) (origin c) (2 * c ∷ []) (one-origin c h)
       ∙ or-zero (has code (2 * c))
 

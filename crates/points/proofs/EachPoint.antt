@@ -9,7 +9,7 @@ use borrow.Author.Tests.{ltb-false}
 use lib.Dec.{ltb}
 use lib.Ieee.{Float}
 use lib.ListN.{length, drop}
-use Rattle.prelude.specs.Lists.{from}
+use Rattle.prelude.specs.Lists.{range}
 use Rattle.rules.specs.Grid.{size}
 use Rattle.rules.specs.Checks.{_when_, AllHold}
 use Rattle.rules.specs.Answer.{Reply, refused, done, Outcome, untouched}
@@ -28,19 +28,19 @@ zero-one z = let f : ⊥ = omega arith in absurd f
 record Gathers (at : ℕ → Option Point) (k room p : ℕ) (w : Walk) : Type 0 where
   pub low : p ≤ w .next
   pub high : w .next ≤ p + k
-  pub all : w .points ≡ gathered at (from p (w .next - p))
+  pub all : w .points ≡ gathered at (range p (w .next - p))
   pub stopped : (w .next ≡ p + k) ⊎ (length (w .points) ≡ room)
 
 gather-next :
     (at : ℕ → Option Point) (p next : ℕ)
     → suc p ≤ next
-    → gathered at (from p (next - p)) ≡ consFound (at p) (gathered at (from (suc p) (next - suc p)))
-unfolding gathered from
-gather-next at p next h = let e : next - p ≡ suc (next - suc p) = omega arith in ap (λ (m : ℕ). gathered at (from p m)) e
+    → gathered at (range p (next - p)) ≡ consFound (at p) (gathered at (range (suc p) (next - suc p)))
+unfolding gathered range
+gather-next at p next h = let e : next - p ≡ suc (next - suc p) = omega arith in ap (λ (m : ℕ). gathered at (range p m)) e
 
-none-over : (at : ℕ → Option Point) (p : ℕ) → [] ≡ gathered at (from p (p - p))
-unfolding gathered from
-none-over at p = let e : 0 ≡ p - p = omega arith in ap (λ (m : ℕ). gathered at (from p m)) e
+none-over : (at : ℕ → Option Point) (p : ℕ) → [] ≡ gathered at (range p (p - p))
+unfolding gathered range
+none-over at p = let e : 0 ≡ p - p = omega arith in ap (λ (m : ℕ). gathered at (range p m)) e
 
 walk-gathers : (at : ℕ → Option Point) (k room p : ℕ) → Gathers at k room p (walk at k room p)
 unfolding walk
@@ -61,7 +61,7 @@ walk-gathers at (suc k) (suc room) p = go (at p) refl (λ left. walk-gathers at 
         record {
           low = omega arith;
           high = omega arith;
-          all = g .all ∙ sym (gather-next at p (w .next) l ∙ ap (λ (x : Option Point). consFound x (gathered at (from (suc p) (w .next - suc p)))) e);
+          all = g .all ∙ sym (gather-next at p (w .next) l ∙ ap (λ (x : Option Point). consFound x (gathered at (range (suc p) (w .next - suc p)))) e);
           stopped = elim (g .stopped) [ inl s ↦ inl (omega arith) | inr s ↦ inr s ];
         }
     go (some q) e ih =
@@ -74,7 +74,7 @@ walk-gathers at (suc k) (suc room) p = go (at p) refl (λ left. walk-gathers at 
           high = omega arith;
           all =
               ap (λ (qs : List Point). q ∷ qs) (g .all)
-              ∙ sym (gather-next at p (w .next) l ∙ ap (λ (x : Option Point). consFound x (gathered at (from (suc p) (w .next - suc p)))) e);
+              ∙ sym (gather-next at p (w .next) l ∙ ap (λ (x : Option Point). consFound x (gathered at (range (suc p) (w .next - suc p)))) e);
           stopped = elim (g .stopped) [ inl s ↦ inl (omega arith) | inr s ↦ inr (ap suc s) ];
         }
 
@@ -134,12 +134,12 @@ module _ (at : ℕ → Option Point) (p m : ℕ) (rest : List Float) where
 
 gathered-at :
     (at : ℕ → Option Point) (m p k : ℕ) (rest : List Float)
-    → k < length (gathered at (from p m))
-    → FoundAt at p (p + m) k (doubles (gathered at (from p m)) ++ rest)
-unfolding gathered from
+    → k < length (gathered at (range p m))
+    → FoundAt at p (p + m) k (doubles (gathered at (range p m)) ++ rest)
+unfolding gathered range
 gathered-at at zero p k rest h = let z : ⊥ = omega arith in absurd z
 gathered-at at (suc m) p k rest h =
-    one-more at p m rest (at p) (gathered at (from (suc p) m)) k refl h (λ j l. gathered-at at m (suc p) j rest l)
+    one-more at p m rest (at p) (gathered at (range (suc p) m)) k refl h (λ j l. gathered-at at m (suc p) j rest l)
 
 -- ---- the call
 
@@ -168,7 +168,7 @@ module _ (p : ℕ) (g : State) (given : List Float) where
 
   of-walk : p ≤ n → (w : Walk) → Gathers (pointAt g) (n - p) (length given / 3) p w → EachPoint p g given (told w) (written w given .lent)
   of-walk within w h =
-      let ps = from p (w .next - p) in
+      let ps = range p (w .next - p) in
       let low = h .low in
       let rest = drop (3 * length (w .points)) given in
       let out : written w given .lent ≡ doubles (gathered (pointAt g) ps) ++ rest = ap (λ (qs : List Point). doubles qs ++ rest) (h .all) in

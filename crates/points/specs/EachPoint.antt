@@ -6,7 +6,7 @@ use mathlib.Core.Option.{Option, none, some}
 use Prim.Native.Nat.{ℕ, _+_, _-_, _*_, _/_, _%_, _≤_, _<_}
 use lib.Ieee.{Float, nan}
 use lib.ListN.{length, getD, drop}
-use Rattle.prelude.specs.Lists.{from}
+use Rattle.prelude.specs.Lists.{range}
 use Rattle.rules.specs.Grid.{size}
 use Rattle.rules.specs.Answer.{done}
 use Rattle.rules.specs.Machine.{State}
@@ -46,8 +46,8 @@ gathered at (p ∷ ps) = consFound (at p) (gathered at ps)
 pub record EachPoint (p : ℕ) (g : State) (given : List Float) (l : Listing) (out : List Float) : Type 0 where
   pub each : (k : ℕ) → k < l .count → FromCrossing g p (l .next) k out
   -- all positions from p up to the one to go on from, in rising order
-  pub all : out ≡ doubles (gathered (pointAt g) (from p (l .next - p))) ++ drop (3 * l .count) given
-  pub counted : l .count ≡ length (gathered (pointAt g) (from p (l .next - p)))
+  pub all : out ≡ doubles (gathered (pointAt g) (range p (l .next - p))) ++ drop (3 * l .count) given
+  pub counted : l .count ≡ length (gathered (pointAt g) (range p (l .next - p)))
   -- the positions ended, or the buffer was full
   pub stopped : (l .next ≡ 3 * size (g .rec .sides)) ⊎ (l .count ≡ length given / 3)
 

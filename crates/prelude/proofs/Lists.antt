@@ -1,4 +1,4 @@
--- Members of a list; `any` and `those` by members.
+-- Members of a list; `any` and `filter` by members.
 use mathlib.Core.Path.{_≡_, refl, ap, ap₂, sym, _∙_, subst}
 use mathlib.Core.Logic.{_⊎_, inl, inr}
 use mathlib.Core.Bool.{Bool, true, false, cond, _||_, true≢false}
@@ -6,7 +6,7 @@ use mathlib.Core.List.{List, [], _∷_, _++_}
 use Prim.Native.Nat.{ℕ, zero, suc, _+_, _≤_}
 use native.Mathlib.Omega.{arith}
 use lib.ListN.{length}
-use Rattle.prelude.specs.Lists.{any, consIf, those}
+use Rattle.prelude.specs.Lists.{any, consIf, filter}
 use Rattle.prelude.proofs.Bools.{or-true, true-or, or-false, or-assoc, not-both}
 
 pub data Mem {A : Type 0} (x : A) : List A → Type 0 where
@@ -69,11 +69,11 @@ module _ {A : Type 0} where
 
   -- ---- those
 
-  pub those-mem : (p : A → Bool) (xs : List A) (x : A) → Mem x (those p xs) → (Mem x xs) × (p x ≡ true)
-  unfolding those
-  those-mem p (y ∷ xs) x m = go (p y) refl m (λ m. those-mem p xs x m)
+  pub filter-mem : (p : A → Bool) (xs : List A) (x : A) → Mem x (filter p xs) → (Mem x xs) × (p x ≡ true)
+  unfolding filter
+  filter-mem p (y ∷ xs) x m = go (p y) refl m (λ m. filter-mem p xs x m)
     where
-      go : (t : Bool) → p y ≡ t → Mem x (consIf t y (those p xs)) → (Mem x (those p xs) → (Mem x xs) × (p x ≡ true)) → (Mem x (y ∷ xs)) × (p x ≡ true)
+      go : (t : Bool) → p y ≡ t → Mem x (consIf t y (filter p xs)) → (Mem x (filter p xs) → (Mem x xs) × (p x ≡ true)) → (Mem x (y ∷ xs)) × (p x ≡ true)
       go false e m ih = let r = ih m in (there (r .0), r .1)
       go true e m ih =
           elim (mem-cons m) [
@@ -81,25 +81,25 @@ module _ {A : Type 0} where
             | inr n ↦ let r = ih n in (there (r .0), r .1)
           ]
 
-  pub mem-those : (p : A → Bool) (xs : List A) (x : A) → Mem x xs → p x ≡ true → Mem x (those p xs)
-  unfolding those
-  mem-those p (y ∷ xs) x here e = subst (λ (t : Bool). Mem x (consIf t x (those p xs))) (sym e) here
-  mem-those p (y ∷ xs) x (there m) e = go (p y) (mem-those p xs x m e)
+  pub mem-filter : (p : A → Bool) (xs : List A) (x : A) → Mem x xs → p x ≡ true → Mem x (filter p xs)
+  unfolding filter
+  mem-filter p (y ∷ xs) x here e = subst (λ (t : Bool). Mem x (consIf t x (filter p xs))) (sym e) here
+  mem-filter p (y ∷ xs) x (there m) e = go (p y) (mem-filter p xs x m e)
     where
-      go : (t : Bool) → Mem x (those p xs) → Mem x (consIf t y (those p xs))
+      go : (t : Bool) → Mem x (filter p xs) → Mem x (consIf t y (filter p xs))
       go true n = there n
       go false n = n
 
-  pub those-ext : (p q : A → Bool) (xs : List A) → ((x : A) → Mem x xs → p x ≡ q x) → those p xs ≡ those q xs
-  unfolding those
-  those-ext p q [] h = refl
-  those-ext p q (y ∷ xs) h = ap₂ (λ (t : Bool) (r : List A). consIf t y r) (h y here) (those-ext p q xs (λ x m. h x (there m)))
+  pub filter-ext : (p q : A → Bool) (xs : List A) → ((x : A) → Mem x xs → p x ≡ q x) → filter p xs ≡ filter q xs
+  unfolding filter
+  filter-ext p q [] h = refl
+  filter-ext p q (y ∷ xs) h = ap₂ (λ (t : Bool) (r : List A). consIf t y r) (h y here) (filter-ext p q xs (λ x m. h x (there m)))
 
-  pub those-append : (p : A → Bool) (xs ys : List A) → those p (xs ++ ys) ≡ those p xs ++ those p ys
-  unfolding those
-  those-append p [] ys = refl
-  those-append p (x ∷ xs) ys = go (p x) (those-append p xs ys)
+  pub filter-append : (p : A → Bool) (xs ys : List A) → filter p (xs ++ ys) ≡ filter p xs ++ filter p ys
+  unfolding filter
+  filter-append p [] ys = refl
+  filter-append p (x ∷ xs) ys = go (p x) (filter-append p xs ys)
     where
-      go : (t : Bool) → those p (xs ++ ys) ≡ those p xs ++ those p ys → consIf t x (those p (xs ++ ys)) ≡ consIf t x (those p xs) ++ those p ys
+      go : (t : Bool) → filter p (xs ++ ys) ≡ filter p xs ++ filter p ys → consIf t x (filter p (xs ++ ys)) ≡ consIf t x (filter p xs) ++ filter p ys
       go true e = ap (λ (r : List A). x ∷ r) e
       go false e = e

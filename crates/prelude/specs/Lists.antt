@@ -13,11 +13,11 @@ abbrev pub consIf : {A : Type 0} → Bool → A → List A → List A
 consIf t x xs = cond t (x ∷ xs) xs
 
 -- the elements that pass the test, in the list's order
-unfoldable pub those : {A : Type 0} → (A → Bool) → List A → List A
-those p [] = []
-those p (x ∷ xs) = consIf (p x) x (those p xs)
+unfoldable pub filter : {A : Type 0} → (A → Bool) → List A → List A
+filter p [] = []
+filter p (x ∷ xs) = consIf (p x) x (filter p xs)
 
 -- k, k + 1, .., n of them
-unfoldable pub from : ℕ → ℕ → List ℕ
-from k zero = []
-from k (suc n) = k ∷ from (suc k) n
+unfoldable pub range : ℕ → ℕ → List ℕ
+range k zero = []
+range k (suc n) = k ∷ range (suc k) n

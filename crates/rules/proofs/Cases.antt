@@ -1,8 +1,8 @@
 -- The cases, by computation from the rules.
 use mathlib.Core.Path.{refl}
-use Rattle.cells.specs.Groups.{any, those, reached, others, enter, gather, groups}
+use Rattle.cells.specs.Groups.{any, filter, reached, others, enter, gather, groups}
 use Rattle.cells.specs.Cells.{contains, joined, touched, groupCount, dimension, countOf, testOf, test, passes}
-use Rattle.rules.specs.Grid.{fitSides, size, index, voxel, from, voxels, onBorder, gap, near, touch, apart, steps, shareFace, blockOf, block}
+use Rattle.rules.specs.Grid.{fitSides, size, index, voxel, range, voxels, onBorder, gap, near, touch, apart, taxicab, shareFace, neighbourhoodOf, neighbourhood}
 use Rattle.rules.specs.Grid.{measuredNegative, measuredNonNegative}
 use Rattle.rules.specs.Checks.{unless}
 use Rattle.rules.specs.Begin.{least, greatest, isIn, negatives, larger, largest, inside, facing, greatestFacing, distance, workedAt, worked, inBox}
@@ -16,7 +16,7 @@ use Rattle.rules.specs.Cases.{Arc, Bar, Numbers}
 
 -- all that a case computes with: to unfold this name is to unfold the rules
 unfoldable pub all-rules : Unit {0}
-unfolding any those reached others enter gather groups contains joined touched groupCount dimension countOf testOf test passes fitSides size index voxel from voxels onBorder gap near touch apart steps shareFace blockOf block measuredNegative measuredNonNegative unless least greatest isIn negatives larger largest inside facing greatestFacing distance workedAt worked inBox exposed statusAt startStatus begun begin keptByte pendingByte woken rested isKept isPending anyPending testAt prefer foremost firstOf removable statusWithout without examine carving openable isInside outside farther unfitCounts unfitVoxel unfit wrongLength carved carve taken take toOpen opened openNext closed closedAt finishedOf finish start carvedTo ended caseA plate valuesC caseC layerD valuesD caseD valuesArc arc bar
+unfolding any filter reached others enter gather groups contains joined touched groupCount dimension countOf testOf test passes fitSides size index voxel range voxels onBorder gap near touch apart taxicab shareFace neighbourhoodOf neighbourhood measuredNegative measuredNonNegative unless least greatest isIn negatives larger largest inside facing greatestFacing distance workedAt worked inBox exposed statusAt startStatus begun begin keptByte pendingByte woken rested isKept isPending anyPending testAt prefer foremost firstOf removable statusWithout without examine carving openable isInside outside farther unfitCounts unfitVoxel unfit wrongLength carved carve taken take toOpen opened openNext closed closedAt finishedOf finish start carvedTo ended caseA plate valuesC caseC layerD valuesD caseD valuesArc arc bar
 all-rules = tt
 
 pub case-a : CaseA

@@ -9,11 +9,11 @@ use native.Mathlib.Nat.{zero-mul}
 use lib.Dec.{eqb}
 use lib.IntN.{ℤ, pos}
 use borrow.Author.Tests.{eqb-true, eq-eqb}
-use Rattle.cells.specs.Groups.{those}
+use Rattle.cells.specs.Groups.{filter}
 use Rattle.prelude.proofs.Bools.{and-true, true-and, not-both, both-ways}
-use Rattle.prelude.proofs.Lists.{Mem, any-true, true-any, those-mem, mem-those}
+use Rattle.prelude.proofs.Lists.{Mem, any-true, true-any, filter-mem, mem-filter}
 use Rattle.rules.specs.declared.Sides.{Sides}
-use Rattle.rules.specs.Grid.{size, index, voxel, gap, apart, steps, shareFace, voxels, measuredNonNegative, amount, valueAt}
+use Rattle.rules.specs.Grid.{size, index, voxel, gap, apart, taxicab, shareFace, voxels, measuredNonNegative, amount, valueAt}
 use Rattle.rules.specs.Begin.{greatest, isIn, inside, facing, greatestFacing, distance, workedAt}
 use Rattle.rules.specs.Meaning.{negative, SomeVoxels, Nearest, DistanceIsNearest, DistanceTells, GreatestBeside, GreatestIsBeside}
 use Rattle.rules.proofs.Places.{InGrid, voxel-eq, index-voxel, voxel-in}
@@ -55,9 +55,9 @@ gap-none : (p : ℕ) → gap p p ≡ 0
 unfolding gap
 gap-none p = omega arith
 
-pub steps-lt : (s : Sides) (i j : ℕ) → i < size s → j < size s → steps s i j < s .a + s .b + s .c
-unfolding steps apart
-steps-lt s i j h k =
+pub taxicab-lt : (s : Sides) (i j : ℕ) → i < size s → j < size s → taxicab s i j < s .a + s .b + s .c
+unfolding taxicab apart
+taxicab-lt s i j h k =
     let p = voxel-inside s i h in
     let q = voxel-inside s j k in
     let x = gap-lt (s .a) (voxel s i .x) (voxel s j .x) (p .x-in) (q .x-in) in
@@ -65,13 +65,13 @@ steps-lt s i j h k =
     let z = gap-lt (s .c) (voxel s i .z) (voxel s j .z) (p .z-in) (q .z-in) in
     omega arith
 
-pub steps-self : (s : Sides) (i : ℕ) → steps s i i ≡ 0
-unfolding steps apart
-steps-self s i = rw (gap-none (voxel s i .x), gap-none (voxel s i .y), gap-none (voxel s i .z))
+pub taxicab-self : (s : Sides) (i : ℕ) → taxicab s i i ≡ 0
+unfolding taxicab apart
+taxicab-self s i = rw (gap-none (voxel s i .x), gap-none (voxel s i .y), gap-none (voxel s i .z))
 
-pub steps-zero : (s : Sides) (i j : ℕ) → i < size s → steps s i j ≡ 0 → i ≡ j
-unfolding steps apart
-steps-zero s i j h e =
+pub taxicab-zero : (s : Sides) (i j : ℕ) → i < size s → taxicab s i j ≡ 0 → i ≡ j
+unfolding taxicab apart
+taxicab-zero s i j h e =
     let p = sides-positive s i h in
     let x = gap-zero (voxel s i .x) (voxel s j .x) (omega arith) in
     let y = gap-zero (voxel s i .y) (voxel s j .y) (omega arith) in
@@ -81,18 +81,18 @@ steps-zero s i j h e =
 -- ---- the nearest voxel of S
 
 module _ (s : Sides) (S : List ℕ) where
-  pub distance-le : (i j : ℕ) → isIn S j ≡ true → distance s S i ≤ steps s i j
+  pub distance-le : (i j : ℕ) → isIn S j ≡ true → distance s S i ≤ taxicab s i j
   unfolding distance
-  distance-le i j m = least-le (s .a + s .b + s .c) (map (steps s i) S) (steps s i j) (mem-map (steps s i) S j (isIn-mem S j m))
+  distance-le i j m = least-le (s .a + s .b + s .c) (map (taxicab s i) S) (taxicab s i j) (mem-map (taxicab s i) S j (isIn-mem S j m))
 
 module _ (s : Sides) (S : List ℕ) (v : SomeVoxels s S) (i : ℕ) (h : i < size s) where
   pub distance-lt : distance s S i < s .a + s .b + s .c
-  distance-lt = let p = v .filled in omega (arith, distance-le s S i (p .0) (p .1), steps-lt s i (p .0) h (v .within (p .0) (p .1)))
+  distance-lt = let p = v .filled in omega (arith, distance-le s S i (p .0) (p .1), taxicab-lt s i (p .0) h (v .within (p .0) (p .1)))
 
   pub distance-nearest : Nearest s S i (distance s S i)
   unfolding distance
   distance-nearest =
-      let r = map-mem (steps s i) S (distance s S i) (least-mem (s .a + s .b + s .c) (map (steps s i) S) distance-lt) in
+      let r = map-mem (taxicab s i) S (distance s S i) (least-mem (s .a + s .b + s .c) (map (taxicab s i) S) distance-lt) in
       record { nearest = r .0; listed = mem-isIn S (r .0) (r .1); away = sym (r .2); none-nearer = distance-le s S i }
 
   pub nearest-distance : (d : ℕ) → Nearest s S i d → distance s S i ≡ d
@@ -103,18 +103,18 @@ module _ (s : Sides) (S : List ℕ) (v : SomeVoxels s S) (i : ℕ) (h : i < size
       omega (arith, p .away, n .away)
 
   pub in-distance : isIn S i ≡ true → distance s S i ≡ 0
-  in-distance m = omega (arith, distance-le s S i i m, steps-self s i)
+  in-distance m = omega (arith, distance-le s S i i m, taxicab-self s i)
 
   pub distance-in : distance s S i ≡ 0 → isIn S i ≡ true
   distance-in e =
       let p = distance-nearest in
-      subst (λ (j : ℕ). isIn S j ≡ true) (sym (steps-zero s i (p .nearest) h (p .away ∙ e))) (p .listed)
+      subst (λ (j : ℕ). isIn S j ≡ true) (sym (taxicab-zero s i (p .nearest) h (p .away ∙ e))) (p .listed)
 
   pub facing-distance : isIn S i ≡ false → facing s S i ≡ true → distance s S i ≡ 1
   unfolding facing shareFace
   facing-distance o f =
       let r = any-true (shareFace s i) S f in
-      let e = eqb-true (steps s i (r .0)) 1 (r .2) in
+      let e = eqb-true (taxicab s i (r .0)) 1 (r .2) in
       let l = distance-le s S i (r .0) (mem-isIn S (r .0) (r .1)) in
       let z : distance s S i ≡ 0 → ⊥ = λ q. not-both (isIn S i) (distance-in q) o in
       omega arith
@@ -123,7 +123,7 @@ module _ (s : Sides) (S : List ℕ) (v : SomeVoxels s S) (i : ℕ) (h : i < size
   unfolding facing shareFace
   distance-facing e =
       let p = distance-nearest in
-      true-any (shareFace s i) S (p .nearest) (isIn-mem S (p .nearest) (p .listed)) (eq-eqb (steps s i (p .nearest)) 1 (p .away ∙ e))
+      true-any (shareFace s i) S (p .nearest) (isIn-mem S (p .nearest) (p .listed)) (eq-eqb (taxicab s i (p .nearest)) 1 (p .away ∙ e))
 
   -- both tests by the distance alone
   pub in-eqb : isIn S i ≡ eqb (distance s S i) 0
@@ -178,21 +178,21 @@ greatest-beside s values S =
     beside i = measuredNonNegative (valueAt values i) && facing s S i
 
     amounts : List ℕ
-    amounts = map (λ i. amount (valueAt values i)) (those beside (voxels s))
+    amounts = map (λ i. amount (valueAt values i)) (filter beside (voxels s))
 
     none : (i : ℕ) → i < size s → measuredNonNegative (valueAt values i) ≡ true → facing s S i ≡ true → amount (valueAt values i) ≤ greatest 1 amounts
     none i h m f =
         le-greatest 1 amounts (amount (valueAt values i))
-        (mem-map (λ i. amount (valueAt values i)) (those beside (voxels s)) i
-        (mem-those beside (voxels s) i (mem-voxels s i h) (true-and (measuredNonNegative (valueAt values i)) (facing s S i) m f)))
+        (mem-map (λ i. amount (valueAt values i)) (filter beside (voxels s)) i
+        (mem-filter beside (voxels s) i (mem-voxels s i h) (true-and (measuredNonNegative (valueAt values i)) (facing s S i) m f)))
 
     reached : (greatest 1 amounts ≡ 1) ⊎ (Mem (greatest 1 amounts) amounts)
         → (greatest 1 amounts ≡ 1)
         ⊎ ((i : ℕ) × (i < size s) × (measuredNonNegative (valueAt values i) ≡ true) × (facing s S i ≡ true) × (amount (valueAt values i) ≡ greatest 1 amounts))
     reached (inl e) = inl e
     reached (inr m) =
-        let r = map-mem (λ i. amount (valueAt values i)) (those beside (voxels s)) (greatest 1 amounts) m in
-        let q = those-mem beside (voxels s) (r .0) (r .1) in
+        let r = map-mem (λ i. amount (valueAt values i)) (filter beside (voxels s)) (greatest 1 amounts) m in
+        let q = filter-mem beside (voxels s) (r .0) (r .1) in
         let p = and-true (measuredNonNegative (valueAt values (r .0))) (facing s S (r .0)) (q .1) in
         inr (r .0, voxels-mem s (r .0) (q .0), p .0, p .1, sym (r .2))
 

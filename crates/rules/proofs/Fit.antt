@@ -14,7 +14,7 @@ use Rattle.cells.specs.Cells.{passes}
 use Rattle.prelude.proofs.Bools.{and-true, or-true, or-false, not-false, not-both, two}
 use Rattle.rules.specs.declared.Sides.{Sides}
 use Rattle.rules.specs.declared.Record.{Record}
-use Rattle.rules.specs.Grid.{fitSides, size, from, voxels, onBorder, isNegative, distanceAt}
+use Rattle.rules.specs.Grid.{fitSides, size, range, voxels, onBorder, isNegative, distanceAt}
 use Rattle.rules.specs.Checks.{_when_, AllHold}
 use Rattle.rules.specs.Status.{statusOf, isKept, anyPending, testAt}
 use Rattle.rules.specs.Machine.{State, isInside, unfitCounts, unfitVoxel, unfit, wrongLength, stateChecks, workingChecks, finishedChecks, voxelChecks}
@@ -93,7 +93,7 @@ module _ (g : State) where
   pub fit-state : AllHold (stateChecks g) → FitState g
   unfolding unfit unfitCounts voxels
   fit-state h =
-      let u = or-false (unfitCounts r) (any (unfitVoxel (r .sides) (g .dist) (g .status)) (from 0 n)) (h .1 .1 .0) in
+      let u = or-false (unfitCounts r) (any (unfitVoxel (r .sides) (g .dist) (g .status)) (range 0 n)) (h .1 .1 .0) in
       let a = or-false (ltb (r .allowed) (r .openings)) _ (u .0) in
       let b = or-false (ltb n (r .removals)) _ (a .1) in
       let c = or-false (ltb (27 * n) (r .examinations)) _ (b .1) in

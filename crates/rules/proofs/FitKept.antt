@@ -14,7 +14,7 @@ use lib.ListN.{length, set, length-set, List·getD-eq-default}
 use lib.Seq.{getD-set-same, getD-set-other}
 use Rattle.cells.specs.Cells.{passes}
 use Rattle.prelude.proofs.Bools.{and-true, two, not-both, not-true}
-use Rattle.prelude.proofs.Ranges.{getD-map-from, length-map-from}
+use Rattle.prelude.proofs.Ranges.{getD-map-range, length-map-range}
 use Rattle.rules.specs.declared.Sides.{Sides}
 use Rattle.rules.specs.Grid.{size, voxels, onBorder, touch, isNegative}
 use Rattle.rules.specs.Status.{Progress, statusOf, keptByte, pendingByte, woken, rested, isKept, isPending, removable, testAt, statusWithout, without}
@@ -94,11 +94,11 @@ module _ (s : Sides) (dist : List ℤ) (status : List ℕ) (fit : FitVoxels s di
 
     length-after : length after ≡ size s
     unfolding without voxels
-    length-after = length-map-from (statusWithout s (outside dist) status i) (size s)
+    length-after = length-map-range (statusWithout s (outside dist) status i) (size s)
 
     at-after : (j : ℕ) → j < size s → statusOf after j ≡ statusWithout s (outside dist) status i j
     unfolding without voxels
-    at-after j h = getD-map-from (statusWithout s (outside dist) status i) 0 (size s) j h
+    at-after j h = getD-map-range (statusWithout s (outside dist) status i) 0 (size s) j h
 
     beyond-after : (j : ℕ) → size s ≤ j → statusOf after j ≡ 0
     beyond-after j h = List·getD-eq-default after 0 (omega (arith, length-after))

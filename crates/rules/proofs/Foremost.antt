@@ -10,16 +10,16 @@ use native.Mathlib.Decide.{decLt}
 use lib.IntN.{ℤ, pos, negsuc}
 use lib.Signed.{ltZ}
 use borrow.Author.Tests.{ltb-true, ltb-false, le-ltb}
-use Rattle.cells.specs.Groups.{consIf, those}
+use Rattle.cells.specs.Groups.{consIf, filter}
 use Rattle.prelude.proofs.Bools.{two, not-both}
-use Rattle.prelude.proofs.Lists.{Mem, here, there, mem-cons, those-mem, mem-those}
+use Rattle.prelude.proofs.Lists.{Mem, here, there, mem-cons, filter-mem, mem-filter}
 use Rattle.cells.proofs.Groups.{mem-none}
 use Rattle.rules.specs.declared.Sides.{Sides}
-use Rattle.rules.specs.Grid.{size, from, voxels, distanceAt}
+use Rattle.rules.specs.Grid.{size, range, voxels, distanceAt}
 use Rattle.rules.specs.Status.{prefer, foremost, firstOf}
 use Rattle.rules.specs.Machine.{farther}
 use Rattle.rules.specs.Choice.{Order, Foremost, FartherIsOrder, FirstIsForemost, NoneIsFirst}
-use Rattle.prelude.proofs.Ranges.{from-mem, mem-from}
+use Rattle.prelude.proofs.Ranges.{range-mem, mem-range}
 
 -- ---- the order of distances
 
@@ -63,18 +63,18 @@ abbrev pub Rising : List ℕ → Type 0
 Rising [] = Unit {0}
 Rising (x ∷ xs) = ((y : ℕ) → Mem y xs → x < y) × (Rising xs)
 
-pub from-rising : (k n : ℕ) → Rising (from k n)
-unfolding from
-from-rising k zero = tt
-from-rising k (suc n) = (λ y m. from-mem (suc k) n y m .0, from-rising (suc k) n)
+pub range-rising : (k n : ℕ) → Rising (range k n)
+unfolding range
+range-rising k zero = tt
+range-rising k (suc n) = (λ y m. range-mem (suc k) n y m .0, range-rising (suc k) n)
 
-pub those-rising : (p : ℕ → Bool) (xs : List ℕ) → Rising xs → Rising (those p xs)
-unfolding those
-those-rising p [] r = tt
-those-rising p (x ∷ xs) r = go (p x) (those-rising p xs (r .1))
+pub filter-rising : (p : ℕ → Bool) (xs : List ℕ) → Rising xs → Rising (filter p xs)
+unfolding filter
+filter-rising p [] r = tt
+filter-rising p (x ∷ xs) r = go (p x) (filter-rising p xs (r .1))
   where
-    go : (t : Bool) → Rising (those p xs) → Rising (consIf t x (those p xs))
-    go true q = (λ y m. r .0 y (those-mem p xs y m .0), q)
+    go : (t : Bool) → Rising (filter p xs) → Rising (consIf t x (filter p xs))
+    go true q = (λ y m. r .0 y (filter-mem p xs y m .0), q)
     go false q = q
 
 -- ---- the first of a list
@@ -136,27 +136,27 @@ module _ (ahead : ℕ → ℕ → Bool) (order : Order ahead) where
 -- ---- the first of the voxels
 
 module _ (s : Sides) (ahead : ℕ → ℕ → Bool) (p : ℕ → Bool) where
-  listed : (i : ℕ) → i < size s → p i ≡ true → Mem i (those p (voxels s))
+  listed : (i : ℕ) → i < size s → p i ≡ true → Mem i (filter p (voxels s))
   unfolding voxels
-  listed i h e = mem-those p (from 0 (size s)) i (mem-from 0 (size s) i (omega arith) (omega arith)) e
+  listed i h e = mem-filter p (range 0 (size s)) i (mem-range 0 (size s) i (omega arith) (omega arith)) e
 
-  voxel-listed : (i : ℕ) → Mem i (those p (voxels s)) → (i < size s) × (p i ≡ true)
+  voxel-listed : (i : ℕ) → Mem i (filter p (voxels s)) → (i < size s) × (p i ≡ true)
   unfolding voxels
   voxel-listed i m =
-      let r = those-mem p (from 0 (size s)) i m in
-      let h = from-mem 0 (size s) i (r .0) in
+      let r = filter-mem p (range 0 (size s)) i m in
+      let h = range-mem 0 (size s) i (r .0) in
       (omega arith, r .1)
 
   pub first-none : firstOf s ahead p ≡ none → (i : ℕ) → i < size s → p i ≡ false
   unfolding firstOf
-  first-none e i h = elim (two (p i)) [ inl t ↦ absurd (foremost-none ahead (those p (voxels s)) e i (listed i h t)) | inr f ↦ f ]
+  first-none e i h = elim (two (p i)) [ inl t ↦ absurd (foremost-none ahead (filter p (voxels s)) e i (listed i h t)) | inr f ↦ f ]
 
 module _ (s : Sides) (ahead : ℕ → ℕ → Bool) (order : Order ahead) (p : ℕ → Bool) where
   pub first-foremost : (i : ℕ) → firstOf s ahead p ≡ some i → Foremost s ahead p i
   unfolding firstOf voxels
   first-foremost i e =
       let n : ℕ = size s in
-      let f = foremost-first ahead order (those p (from 0 n)) (those-rising p (from 0 n) (from-rising 0 n)) i e in
+      let f = foremost-first ahead order (filter p (range 0 n)) (filter-rising p (range 0 n) (range-rising 0 n)) i e in
       let m = voxel-listed s ahead p i (f .listed) in
       record {
         below = m .0;
@@ -196,7 +196,7 @@ first-is-foremost s ahead order p i = (first-foremost s ahead order p i, foremos
 
 none-first-any : (s : Sides) (ahead : ℕ → ℕ → Bool) (p : ℕ → Bool) → ((i : ℕ) → i < size s → p i ≡ false) → firstOf s ahead p ≡ none
 unfolding firstOf
-none-first-any s ahead p h = ap (foremost ahead) (nothing (those p (voxels s)) (λ i m. let r = voxel-listed s ahead p i m in not-both (p i) (r .1) (h i (r .0)))) ∙ unfold foremost in refl
+none-first-any s ahead p h = ap (foremost ahead) (nothing (filter p (voxels s)) (λ i m. let r = voxel-listed s ahead p i m in not-both (p i) (r .1) (h i (r .0)))) ∙ unfold foremost in refl
   where
     nothing : (xs : List ℕ) → ((i : ℕ) → Mem i xs → ⊥) → xs ≡ []
     nothing [] n = refl

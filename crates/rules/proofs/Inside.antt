@@ -10,20 +10,20 @@ use lib.Dec.{ltb, eqb}
 use lib.ListN.{length, getD}
 use lib.IntN.{ℤ}
 use borrow.Author.Tests.{ltb-true, ltb-false, lt-ltb, eqb-true, eqb-false}
-use Rattle.cells.specs.Groups.{those, groups}
+use Rattle.cells.specs.Groups.{filter, groups}
 use Rattle.cells.specs.Linked.{Linked, stay, step, OnePiece}
 use Rattle.prelude.proofs.Bools.{and-true, true-and, and-false, or-true, or-false, both-ways}
-use Rattle.prelude.proofs.Lists.{Mem, here, there, mem-cons, those-mem, mem-those}
+use Rattle.prelude.proofs.Lists.{Mem, here, there, mem-cons, filter-mem, mem-filter}
 use Rattle.cells.proofs.Chains.{first-member, last-member, follow}
 use Rattle.cells.proofs.Groups.{At, mem-none, at-lt, group-filled, group-of, group-member, group-linked, linked-group}
 use Rattle.cells.proofs.GroupsAre.{among-mem, mem-among, mem-getD, getD-mem}
-use Rattle.cells.proofs.GroupsSize.{Distinct, distinct-length, distinct-those, distinct-at, groups-distinct}
+use Rattle.cells.proofs.GroupsSize.{Distinct, distinct-length, distinct-filter, distinct-at, groups-distinct}
 use Rattle.rules.specs.declared.Sides.{Sides}
-use Rattle.rules.specs.Grid.{size, voxel, from, voxels, gap, near, touch, measuredNegative, valueAt}
+use Rattle.rules.specs.Grid.{size, voxel, range, voxels, gap, near, touch, measuredNegative, valueAt}
 use Rattle.rules.specs.Begin.{least, isIn, negatives, larger, largest, inside}
 use Rattle.rules.specs.Meaning.{negative, GroupOf, EveryGroupIsFound, found, IsInside, InsideIsFound, FoundIsInside}
-use Rattle.prelude.proofs.Ranges.{from-mem, mem-from}
-use Rattle.rules.proofs.Foremost.{Rising, from-rising}
+use Rattle.prelude.proofs.Ranges.{range-mem, mem-range}
+use Rattle.rules.proofs.Foremost.{Rising, range-rising}
 use Rattle.rules.proofs.InsideLeast.{least-le, least-mem}
 
 -- ---- touching
@@ -56,15 +56,15 @@ rising-distinct (x ∷ xs) r = (λ m. (let h = r .0 x m in omega arith), rising-
 
 pub voxels-distinct : (s : Sides) → Distinct (voxels s)
 unfolding voxels
-voxels-distinct s = rising-distinct (from 0 (size s)) (from-rising 0 (size s))
+voxels-distinct s = rising-distinct (range 0 (size s)) (range-rising 0 (size s))
 
 pub voxels-mem : (s : Sides) (i : ℕ) → Mem i (voxels s) → i < size s
 unfolding voxels
-voxels-mem s i m = let h = from-mem 0 (size s) i m in omega arith
+voxels-mem s i m = let h = range-mem 0 (size s) i m in omega arith
 
 pub mem-voxels : (s : Sides) (i : ℕ) → i < size s → Mem i (voxels s)
 unfolding voxels
-mem-voxels s i h = mem-from 0 (size s) i (omega arith) (omega arith)
+mem-voxels s i h = mem-range 0 (size s) i (omega arith) (omega arith)
 
 pub isIn-mem : (xs : List ℕ) (i : ℕ) → isIn xs i ≡ true → Mem i xs
 unfolding isIn
@@ -154,14 +154,14 @@ module _ (s : Sides) (values : List ℤ) where
   negative-mem : (i : ℕ) → Mem i (negatives s values) → negative s values i ≡ true
   unfolding negatives
   negative-mem i m =
-      let r = those-mem (λ i. measuredNegative (valueAt values i)) (voxels s) i m in
+      let r = filter-mem (λ i. measuredNegative (valueAt values i)) (voxels s) i m in
       true-and (ltb i (size s)) (measuredNegative (valueAt values i)) (lt-ltb i (size s) (voxels-mem s i (r .0))) (r .1)
 
   mem-negative : (i : ℕ) → negative s values i ≡ true → Mem i (negatives s values)
   unfolding negatives
   mem-negative i e =
       let r = and-true (ltb i (size s)) (measuredNegative (valueAt values i)) e in
-      mem-those (λ i. measuredNegative (valueAt values i)) (voxels s) i (mem-voxels s i (ltb-true i (size s) (r .0))) (r .1)
+      mem-filter (λ i. measuredNegative (valueAt values i)) (voxels s) i (mem-voxels s i (ltb-true i (size s) (r .0))) (r .1)
 
   pub negative-lt : (i : ℕ) → negative s values i ≡ true → i < size s
   negative-lt i e = ltb-true i (size s) (and-true (ltb i (size s)) (measuredNegative (valueAt values i)) e .0)
@@ -173,7 +173,7 @@ module _ (s : Sides) (values : List ℤ) where
   unfolding all negatives
   all-distinct k =
       distinct-at (groups (touch s) (negatives s values)) k
-      (groups-distinct (touch s) (negatives s values) (distinct-those (λ i. measuredNegative (valueAt values i)) (voxels s) (voxels-distinct s)))
+      (groups-distinct (touch s) (negatives s values) (distinct-filter (λ i. measuredNegative (valueAt values i)) (voxels s) (voxels-distinct s)))
 
   all-filled : (k : ℕ) → k < length all → (i : ℕ) × (At all k i)
   unfolding all
@@ -199,9 +199,9 @@ module _ (s : Sides) (values : List ℤ) where
   found-size : (k v : ℕ) (test : ℕ → Bool) → At all k v → GroupOf s values v test → found s test ≡ length (getD all k [])
   unfolding Near
   found-size k v test a g =
-      distinct-length (those test (voxels s)) (getD all k []) (distinct-those test (voxels s) (voxels-distinct s)) (all-distinct k)
-      (λ i m. let r = those-mem test (voxels s) i m in all-whole k v i (g .linked i (voxels-mem s i (r .0)) (r .1)) a)
-      (λ i b. mem-those test (voxels s) i (mem-voxels s i (negative-lt i (all-negative k i b))) (g .whole i (all-linked k v i a b)))
+      distinct-length (filter test (voxels s)) (getD all k []) (distinct-filter test (voxels s) (voxels-distinct s)) (all-distinct k)
+      (λ i m. let r = filter-mem test (voxels s) i m in all-whole k v i (g .linked i (voxels-mem s i (r .0)) (r .1)) a)
+      (λ i b. mem-filter test (voxels s) i (mem-voxels s i (negative-lt i (all-negative k i b))) (g .whole i (all-linked k v i a b)))
 
 pub every-group-is-found : EveryGroupIsFound
 unfolding Near

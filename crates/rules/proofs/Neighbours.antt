@@ -8,16 +8,16 @@ use borrow.Author.Tests.{eqb-true, eq-eqb}
 use Rattle.cells.specs.Groups.{any}
 use Rattle.prelude.proofs.Bools.{not-true}
 use Rattle.prelude.proofs.Lists.{Mem, any-true, true-any}
-use Rattle.prelude.proofs.Ranges.{mem-from}
+use Rattle.prelude.proofs.Ranges.{mem-range}
 use Rattle.closed_sets.proofs.EveryBlock.{all-in}
 use Rattle.rules.specs.declared.Sides.{Sides}
-use Rattle.rules.specs.Grid.{Voxel, index, voxel, size, from, gap, touch, apart, steps, shareFace, neighbour, block, facePlaces}
+use Rattle.rules.specs.Grid.{Voxel, index, voxel, size, range, gap, touch, apart, taxicab, shareFace, neighbour, neighbourhood, facePositions}
 use Rattle.rules.specs.Begin.{exposed}
 use Rattle.rules.specs.Neighbours as told
 use Rattle.rules.specs.Neighbours.{TouchIsBlock, ExposedIsFace}
 use Rattle.rules.proofs.Places.{fit, index-lt, index-voxel, voxel-index}
-use Rattle.rules.proofs.Topology.Around.{Close, touch-close, close-touch, At, at-same, close-at, Inner, neighbour-at, block-at}
-use Rattle.rules.proofs.Topology.Removal.{face-steps}
+use Rattle.rules.proofs.Topology.Around.{Close, touch-close, close-touch, At, at-same, close-at, Inner, neighbour-at, neighbourhood-at}
+use Rattle.rules.proofs.Topology.Removal.{face-taxicab}
 use Rattle.rules.proofs.Topology.Start.{border-inner}
 
 module _ (s : Sides) (i : ℕ) (h : told.Inner s i) where
@@ -66,58 +66,58 @@ module _ (s : Sides) (i : ℕ) (h : told.Inner s i) where
   abbrev away : ℕ → ℕ
   away p = gap (p % 3) 1 + gap (p / 3 % 3) 1 + gap (p / 9) 1
 
-  steps-at : (v : Voxel) (p : ℕ) → At (voxel s i) v p → apart (voxel s i) v ≡ away p
+  taxicab-at : (v : Voxel) (p : ℕ) → At (voxel s i) v p → apart (voxel s i) v ≡ away p
   unfolding apart
-  steps-at v p a = ap₂ _+_ (ap₂ _+_ (axis (voxel s i .x) (v .x) (p % 3) (a .x-at)) (axis (voxel s i .y) (v .y) (p / 3 % 3) (a .y-at))) (axis (voxel s i .z) (v .z) (p / 9) (a .z-at))
+  taxicab-at v p a = ap₂ _+_ (ap₂ _+_ (axis (voxel s i .x) (v .x) (p % 3) (a .x-at)) (axis (voxel s i .y) (v .y) (p / 3 % 3) (a .y-at))) (axis (voxel s i .z) (v .z) (p / 9) (a .z-at))
     where
       axis : (x y d : ℕ) → suc y ≡ x + d → gap x y ≡ gap d 1
       axis x y d e = unfold gap in omega arith
 
-  face-position : (p : ℕ) → p < 27 → away p ≡ 1 → Mem p facePlaces
-  unfolding any from gap
+  face-position : (p : ℕ) → p < 27 → away p ≡ 1 → Mem p facePositions
+  unfolding any range gap
   face-position p l e =
-      let r = any-true (eqb p) facePlaces (decided (eqb (away p) 1) (any (eqb p) facePlaces) (eq-eqb (away p) 1 e)
-      (all-in (λ p. not (eqb (away p) 1 && not (any (eqb p) facePlaces))) (from 0 27) refl p (mem-from 0 27 p (omega arith) (omega arith)))) in
-      subst (λ (q : ℕ). Mem q facePlaces) (sym (eqb-true p (r .0) (r .2))) (r .1)
+      let r = any-true (eqb p) facePositions (decided (eqb (away p) 1) (any (eqb p) facePositions) (eq-eqb (away p) 1 e)
+      (all-in (λ p. not (eqb (away p) 1 && not (any (eqb p) facePositions))) (range 0 27) refl p (mem-range 0 27 p (omega arith) (omega arith)))) in
+      subst (λ (q : ℕ). Mem q facePositions) (sym (eqb-true p (r .0) (r .2))) (r .1)
     where
       decided : (t u : Bool) → t ≡ true → not (t && not u) ≡ true → u ≡ true
       decided true true e f = refl
       decided true false e f = f
       decided false u e f = absurd (true≢false (sym e))
 
-  block-bare : (kept : ℕ → Bool) (v : Voxel) (p : ℕ) → At (voxel s i) v p → block s kept i p ≡ kept (index s v)
-  unfolding block
-  block-bare kept v p a = block-at s kept (voxel s i) v p inner a
+  neighbourhood-bare : (kept : ℕ → Bool) (v : Voxel) (p : ℕ) → At (voxel s i) v p → neighbourhood s kept i p ≡ kept (index s v)
+  unfolding neighbourhood
+  neighbourhood-bare kept v p a = neighbourhood-at s kept (voxel s i) v p inner a
 
   exposed-face : (kept : ℕ → Bool) → exposed s kept i ≡ true → (j : ℕ) × (j < size s) × (shareFace s i j ≡ true) × (kept j ≡ false)
-  unfolding exposed shareFace steps
+  unfolding exposed shareFace taxicab
   exposed-face kept e =
-      let r = any-true (λ p. not (block s kept i p)) facePlaces e in
+      let r = any-true (λ p. not (neighbourhood s kept i p)) facePositions e in
       let p = r .0 in
-      let f = face-steps p (r .1) in
+      let f = face-taxicab p (r .1) in
       let a = at-position p (f .1) in
       let w : Voxel = neighbour (voxel s i) p in
       let g = neighbour-at s (voxel s i) inner p (f .1) .1 in (
         index s w,
         index-lt s w g,
-        eq-eqb (apart (voxel s i) (voxel s (index s w))) 1 (ap (apart (voxel s i)) (a .1) ∙ steps-at w p (a .0) ∙ f .0),
-        sym (block-bare kept w p (a .0)) ∙ not-true (block s kept i p) (r .2),
+        eq-eqb (apart (voxel s i) (voxel s (index s w))) 1 (ap (apart (voxel s i)) (a .1) ∙ taxicab-at w p (a .0) ∙ f .0),
+        sym (neighbourhood-bare kept w p (a .0)) ∙ not-true (neighbourhood s kept i p) (r .2),
       )
 
-  close-steps : (v : Voxel) → apart (voxel s i) v ≡ 1 → Close (voxel s i) v
+  close-taxicab : (v : Voxel) → apart (voxel s i) v ≡ 1 → Close (voxel s i) v
   unfolding apart gap
-  close-steps v e =
+  close-taxicab v e =
       record { x-up = omega arith; x-down = omega arith; y-up = omega arith; y-down = omega arith; z-up = omega arith; z-down = omega arith }
 
   face-exposed : (kept : ℕ → Bool) → (j : ℕ) × (j < size s) × (shareFace s i j ≡ true) × (kept j ≡ false) → exposed s kept i ≡ true
-  unfolding exposed shareFace steps
+  unfolding exposed shareFace taxicab
   face-exposed kept r =
       let j = r .0 in
       let e : apart (voxel s i) (voxel s j) ≡ 1 = eqb-true (apart (voxel s i) (voxel s j)) 1 (r .2) in
-      let q = position-of j (close-steps (voxel s j) e) in
+      let q = position-of j (close-taxicab (voxel s j) e) in
       let p = q .0 in
-      true-any (λ p. not (block s kept i p)) facePlaces p (face-position p (q .1 .low) (sym (steps-at (voxel s j) p (q .1)) ∙ e))
-      (ap not (block-bare kept (voxel s j) p (q .1) ∙ ap kept (index-of j) ∙ r .3))
+      true-any (λ p. not (neighbourhood s kept i p)) facePositions p (face-position p (q .1 .low) (sym (taxicab-at (voxel s j) p (q .1)) ∙ e))
+      (ap not (neighbourhood-bare kept (voxel s j) p (q .1) ∙ ap kept (index-of j) ∙ r .3))
 
 pub touch-is-block : TouchIsBlock
 touch-is-block s i j h l = (touch-position s i h j, position-touch s i h j)

@@ -14,11 +14,11 @@ use borrow.Author.Tests.{ne-eqb}
 use Rattle.cells.specs.Cells.{test}
 use Rattle.closed_sets.proofs.EveryBlock.{k-few, m-few}
 use Rattle.prelude.proofs.Bools.{and-true, not-false, not-both, two}
-use Rattle.prelude.proofs.Ranges.{getD-map-from, length-map-from, none-below}
+use Rattle.prelude.proofs.Ranges.{getD-map-range, length-map-range, none-below}
 use Rattle.prelude.proofs.Integers.{difference-size, sum-size}
 use Rattle.rules.specs.declared.Sides.{Sides}
 use Rattle.rules.specs.declared.Record.{Record}
-use Rattle.rules.specs.Grid.{fitSides, size, from, voxel, voxels, onBorder, block, isNegative, distanceAt}
+use Rattle.rules.specs.Grid.{fitSides, size, range, voxel, voxels, onBorder, neighbourhood, isNegative, distanceAt}
 use Rattle.rules.specs.Checks.{_when_, AllHold}
 use Rattle.rules.specs.Answer.{done, Outcome, Buffers, untouched, buffers, Carving}
 use Rattle.rules.specs.Begin.{exposed, isIn, inside, inBox, greatestFacing, workedAt, worked, statusAt, startStatus, newRecord, beginChecks, begun, begin}
@@ -85,7 +85,7 @@ module _ (g : State) (fair : Fair g) where
   opened-euler : (i : ℕ) → natAbs (g .rec .euler +ℤ (pos (testAt s (g .status) i .k) -ℤ pos (testAt s (g .status) i .m))) ≤ 1 + 8 * (g .rec .openings + 1)
   unfolding testAt
   opened-euler i =
-      let kept = block s (isKept (g .status)) i in
+      let kept = neighbourhood s (isKept (g .status)) i in
       let h = m-few kept in
       let d = difference-size (test kept .k) (test kept .m) 8 (k-few kept) (omega arith) in
       omega (arith, fair .euler, sum-size (g .rec .euler) (pos (test kept .k) -ℤ pos (test kept .m)))
@@ -118,7 +118,7 @@ module _ (g : State) (fair : Fair g) where
 
   length-finished : length finished ≡ size s
   unfolding voxels
-  length-finished = length-map-from (closedAt (g .dist) (g .status)) (size s)
+  length-finished = length-map-range (closedAt (g .dist) (g .status)) (size s)
 
   not-waiting : anyPending s (g .status) ≡ false → (i : ℕ) → i < size s → pendingByte (statusOf (g .status) i) ≡ false
   unfolding anyPending voxels isPending
@@ -126,7 +126,7 @@ module _ (g : State) (fair : Fair g) where
 
   finished-at : (i : ℕ) → i < size s → distanceAt finished i ≡ closedAt (g .dist) (g .status) i
   unfolding voxels
-  finished-at i h = getD-map-from (closedAt (g .dist) (g .status)) (pos 0) (size s) i h
+  finished-at i h = getD-map-range (closedAt (g .dist) (g .status)) (pos 0) (size s) i h
 
   finished-inner : anyPending s (g .status) ≡ false → (i : ℕ) → isInside finished i ≡ true → statusOf (g .status) i ≡ 1
   unfolding isInside isKept closedAt
@@ -226,8 +226,8 @@ start-known : (s : Sides) (S : List ℕ) (kept : ℕ → Bool) (i : ℕ) → Kno
 unfolding startStatus voxels statusAt
 start-known s S kept i =
     elim (decLt i (size s)) [
-      | yes h ↦ subst Known (sym (getD-map-from (statusAt s S kept) 0 (size s) i h)) (byte (kept i) (not (isIn S i) && exposed s kept i))
-      | no n ↦ inl (List·getD-eq-default (map (statusAt s S kept) (from 0 (size s))) 0 (omega (arith, length-map-from (statusAt s S kept) (size s))))
+      | yes h ↦ subst Known (sym (getD-map-range (statusAt s S kept) 0 (size s) i h)) (byte (kept i) (not (isIn S i) && exposed s kept i))
+      | no n ↦ inl (List·getD-eq-default (map (statusAt s S kept) (range 0 (size s))) 0 (omega (arith, length-map-range (statusAt s S kept) (size s))))
     ]
   where
     byte : (t u : Bool) → Known (cond t (cond u 3 1) 0)
@@ -250,7 +250,7 @@ module _ (s : Sides) (T : ℕ) (values dist : List ℤ) (status : List ℕ) (acc
 
   length-worked : length (worked s values S) ≡ size s
   unfolding worked voxels
-  length-worked = length-map-from (workedAt s values S (greatestFacing s values S)) (size s)
+  length-worked = length-map-range (workedAt s values S (greatestFacing s values S)) (size s)
 
   fit-begun : FitVoxels s (worked s values S) (startStatus s S (inBox s S))
   fit-begun =

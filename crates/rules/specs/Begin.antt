@@ -5,10 +5,10 @@ use Prim.Native.Nat.{ℕ, zero, suc, _+_, min, max}
 use lib.Dec.{leb, ltb, eqb}
 use lib.ListN.{length}
 use lib.IntN.{ℤ, pos}
-use Rattle.cells.specs.Groups.{any, those, groups}
+use Rattle.cells.specs.Groups.{any, filter, groups}
 use Rattle.rules.specs.declared.Sides.{Sides}
 use Rattle.rules.specs.declared.Record.{Record}
-use Rattle.rules.specs.Grid.{fitSides, size, voxel, voxels, onBorder, touch, steps, shareFace, block, facePlaces, measuredNegative}
+use Rattle.rules.specs.Grid.{fitSides, size, voxel, voxels, onBorder, touch, taxicab, shareFace, neighbourhood, facePositions, measuredNegative}
 use Rattle.rules.specs.Grid.{measuredNonNegative, amount, valueAt}
 use Rattle.rules.specs.Checks.{Check, _when_, unless}
 use Rattle.rules.specs.Answer.{done, Outcome, outcome, untouched, Buffers, buffers}
@@ -27,7 +27,7 @@ isIn l i = any (eqb i) l
 -- ---- step 1: S is the largest group of measured negative voxels; of equal groups the one with the smallest index
 
 unfoldable pub negatives : Sides → List ℤ → List ℕ
-negatives s values = those (λ i. measuredNegative (valueAt values i)) (voxels s)
+negatives s values = filter (λ i. measuredNegative (valueAt values i)) (voxels s)
 
 -- g goes before h
 unfoldable pub larger : Sides → List ℕ → List ℕ → Bool
@@ -47,11 +47,11 @@ facing s S i = any (shareFace s i) S
 
 unfoldable pub greatestFacing : Sides → List ℤ → List ℕ → ℕ
 greatestFacing s values S =
-    greatest 1 (map (λ i. amount (valueAt values i)) (those (λ i. measuredNonNegative (valueAt values i) && facing s S i) (voxels s)))
+    greatest 1 (map (λ i. amount (valueAt values i)) (filter (λ i. measuredNonNegative (valueAt values i) && facing s S i) (voxels s)))
 
 -- d: no two voxels of the grid are as many steps apart as the sides' sum
 unfoldable pub distance : Sides → List ℕ → ℕ → ℕ
-distance s S i = least (s .a + s .b + s .c) (map (steps s i) S)
+distance s S i = least (s .a + s .b + s .c) (map (taxicab s i) S)
 
 unfoldable pub workedAt : Sides → List ℤ → List ℕ → ℕ → ℕ → ℤ
 workedAt s values S M i =
@@ -73,7 +73,7 @@ inBox s S i =
 
 -- a face neighbour is not kept
 unfoldable pub exposed : Sides → (ℕ → Bool) → ℕ → Bool
-exposed s kept i = any (λ p. not (block s kept i p)) facePlaces
+exposed s kept i = any (λ p. not (neighbourhood s kept i p)) facePositions
 
 -- 0 gone, 1 kept, 3 kept and pending: of any body to start from, the voxels outside S with a face neighbour not kept are pending
 unfoldable pub statusAt : Sides → List ℕ → (ℕ → Bool) → ℕ → ℕ

@@ -5,9 +5,9 @@ use Prim.Native.Nat.{ℕ, suc, _+_, _-_, _*_, _/_, _%_}
 use lib.Dec.{leb, ltb, eqb}
 use lib.ListN.{getD}
 use lib.IntN.{ℤ, pos, negsuc}
-unfoldable pub use Rattle.prelude.specs.Lists.{from}
+unfoldable pub use Rattle.prelude.specs.Lists.{range}
 pub use Rattle.prelude.specs.Integers.{isNegative}
-pub use Rattle.cells.specs.Cells.{facePlaces}
+pub use Rattle.cells.specs.Cells.{facePositions}
 use Rattle.rules.specs.declared.Sides.{Sides}
 
 -- ---- sides and voxels
@@ -35,7 +35,7 @@ voxel s i = record { x = i % s .a; y = i / s .a % s .b; z = i / (s .a * s .b) }
 
 -- every voxel, by its index
 unfoldable pub voxels : Sides → List ℕ
-voxels s = from 0 (size s)
+voxels s = range 0 (size s)
 
 -- at 0 or at the side less 1
 abbrev pub end : ℕ → ℕ → Bool
@@ -60,13 +60,13 @@ touch s i j = near (voxel s i) (voxel s j)
 unfoldable pub apart : Voxel → Voxel → ℕ
 apart u v = gap (u .x) (v .x) + gap (u .y) (v .y) + gap (u .z) (v .z)
 
-unfoldable pub steps : Sides → ℕ → ℕ → ℕ
-steps s i j = apart (voxel s i) (voxel s j)
+unfoldable pub taxicab : Sides → ℕ → ℕ → ℕ
+taxicab s i j = apart (voxel s i) (voxel s j)
 
 unfoldable pub shareFace : Sides → ℕ → ℕ → Bool
-shareFace s i j = eqb (steps s i j) 1
+shareFace s i j = eqb (taxicab s i j) 1
 
--- A digit 0, 1, 2 of a place of the block is one lower, the same, one higher. So x + digit counts coordinates from 1, and is 0, or more
+-- A digit 0, 1, 2 of a position is one lower, the same, one higher. So x + digit counts coordinates from 1, and is 0, or more
 -- than the side, beyond the grid.
 abbrev pub reaches : ℕ → ℕ → ℕ → Bool
 reaches side x digit = leb 1 (x + digit) && leb (x + digit) side
@@ -75,12 +75,12 @@ abbrev pub neighbour : Voxel → ℕ → Voxel
 neighbour v p = record { x = v .x + p % 3 - 1; y = v .y + p / 3 % 3 - 1; z = v .z + p / 9 - 1 }
 
 -- the block around a voxel, of what a test on indices finds: beyond the grid it finds nothing
-unfoldable pub blockOf : Sides → (ℕ → Bool) → Voxel → ℕ → Bool
-blockOf s found v p =
+unfoldable pub neighbourhoodOf : Sides → (ℕ → Bool) → Voxel → ℕ → Bool
+neighbourhoodOf s found v p =
     reaches (s .a) (v .x) (p % 3) && (reaches (s .b) (v .y) (p / 3 % 3) && (reaches (s .c) (v .z) (p / 9) && found (index s (neighbour v p))))
 
-unfoldable pub block : Sides → (ℕ → Bool) → ℕ → ℕ → Bool
-block s found i p = blockOf s found (voxel s i) p
+unfoldable pub neighbourhood : Sides → (ℕ → Bool) → ℕ → ℕ → Bool
+neighbourhood s found i p = neighbourhoodOf s found (voxel s i) p
 
 -- ---- values
 

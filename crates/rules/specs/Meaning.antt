@@ -8,10 +8,10 @@ use Prim.Native.Nat.{ℕ, _≤_, _<_}
 use lib.Dec.{ltb}
 use lib.ListN.{length}
 use lib.IntN.{ℤ}
-use Rattle.cells.specs.Groups.{those}
+use Rattle.cells.specs.Groups.{filter}
 use Rattle.cells.specs.Linked.{Linked}
 use Rattle.rules.specs.declared.Sides.{Sides}
-use Rattle.rules.specs.Grid.{size, voxel, voxels, onBorder, touch, steps, measuredNegative, measuredNonNegative, amount, valueAt}
+use Rattle.rules.specs.Grid.{size, voxel, voxels, onBorder, touch, taxicab, measuredNegative, measuredNonNegative, amount, valueAt}
 use Rattle.rules.specs.Begin.{isIn, inside, facing, greatestFacing, distance, inBox}
 
 -- ---- step 1: S
@@ -30,7 +30,7 @@ EveryGroupIsFound = (s : Sides) (values : List ℤ) (v : ℕ) → negative s val
 
 -- how many voxels the test finds
 abbrev pub found : Sides → (ℕ → Bool) → ℕ
-found s test = length (those test (voxels s))
+found s test = length (filter test (voxels s))
 
 -- the test finds S: a group that no group exceeds, and that exceeds every group with a smaller index
 pub record IsInside (s : Sides) (values : List ℤ) (test : ℕ → Bool) : Type 0 where
@@ -70,8 +70,8 @@ pub record SomeVoxels (s : Sides) (S : List ℕ) : Type 0 where
 pub record Nearest (s : Sides) (S : List ℕ) (i d : ℕ) : Type 0 where
   pub nearest : ℕ
   pub listed : isIn S nearest ≡ true
-  pub away : steps s i nearest ≡ d
-  pub none-nearer : (j : ℕ) → isIn S j ≡ true → d ≤ steps s i j
+  pub away : taxicab s i nearest ≡ d
+  pub none-nearer : (j : ℕ) → isIn S j ≡ true → d ≤ taxicab s i j
 
 abbrev pub DistanceIsNearest : Type 0
 DistanceIsNearest = (s : Sides) (S : List ℕ) → SomeVoxels s S → (i : ℕ) → i < size s → (d : ℕ) → (distance s S i ≡ d) ↔ (Nearest s S i d)

@@ -6,10 +6,10 @@ use mathlib.Core.Option.{Option, none, some}
 use Prim.Native.Nat.{ℕ, zero, suc, _+_, _-_, _/_, _%_}
 use lib.Dec.{eqb}
 use lib.ListN.{getD, set}
-use Rattle.cells.specs.Groups.{any, those}
+use Rattle.cells.specs.Groups.{any, filter}
 use Rattle.cells.specs.Cells.{Test, test, passes}
 use Rattle.rules.specs.declared.Sides.{Sides}
-use Rattle.rules.specs.Grid.{voxels, touch, block}
+use Rattle.rules.specs.Grid.{voxels, touch, neighbourhood}
 use Rattle.rules.specs.Begin.{exposed}
 
 -- ---- status is 0 gone, 1 kept, 3 kept and pending: bit 0 says kept, bit 1 pending
@@ -40,7 +40,7 @@ unfoldable pub anyPending : Sides → List ℕ → Bool
 anyPending s status = any (isPending status) (voxels s)
 
 unfoldable pub testAt : Sides → List ℕ → ℕ → Test
-testAt s status i = test (block s (isKept status) i)
+testAt s status i = test (neighbourhood s (isKept status) i)
 
 -- ---- the voxel that comes first: none goes ahead of it, and of equals it has the smallest index
 
@@ -54,7 +54,7 @@ foremost ahead [] = none
 foremost ahead (i ∷ is) = prefer ahead i (foremost ahead is)
 
 unfoldable pub firstOf : Sides → (ℕ → ℕ → Bool) → (ℕ → Bool) → Option ℕ
-firstOf s ahead p = foremost ahead (those p (voxels s))
+firstOf s ahead p = foremost ahead (filter p (voxels s))
 
 -- ---- removal: the voxel is gone, and every kept voxel that may go and touches it becomes pending
 

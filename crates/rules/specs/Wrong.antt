@@ -8,10 +8,10 @@ use Prim.Native.Nat.{ℕ, zero, suc}
 use lib.Dec.{eqb}
 use lib.IntN.{ℤ, pos}
 use lib.ListN.{length, set}
-use Rattle.cells.specs.Groups.{those, groups}
-use Rattle.cells.specs.Cells.{places, passes}
+use Rattle.cells.specs.Groups.{filter, groups}
+use Rattle.cells.specs.Cells.{positions, passes}
 use Rattle.rules.specs.declared.Sides.{Sides}
-use Rattle.rules.specs.Grid.{apart, Voxel, voxel, block}
+use Rattle.rules.specs.Grid.{apart, Voxel, voxel, neighbourhood}
 use Rattle.rules.specs.Answer.{Reply, refused}
 use Rattle.rules.specs.Status.{isKept, isPending, firstOf, testAt, without, statusOf, rested}
 use Rattle.rules.specs.Machine.{State, state, outside, farther, count, carve, take, openNext, finish}
@@ -54,7 +54,7 @@ dropsFailed g = carvingBy (right g) (λ status i. set status i 0) 9 g
 
 -- it counts groups of kept neighbours that share faces, in place of groups of touched cells
 abbrev pub faceGroups : Sides → List ℕ → ℕ → ℕ
-faceGroups s status i = length (groups (λ p q. eqb (apart (at p) (at q)) 1) (those (block s (isKept status) i) places))
+faceGroups s status i = length (groups (λ p q. eqb (apart (at p) (at q)) 1) (filter (neighbourhood s (isKept status) i) positions))
   where
     at : ℕ → Voxel
     at p = voxel (sides 3 3 3) p

@@ -16,7 +16,7 @@ use Rattle.prelude.proofs.Bools.{two, and-zero, and-one, or-one}
 use Rattle.prelude.proofs.Ranges.{any-run-ext, any-run-one, any-run-none-of, any-or, scan-join}
 use Rattle.prelude.proofs.Signs.{signBit, sign-held}
 use Rattle.rules.specs.declared.Sides.{Sides}
-use Rattle.rules.specs.Grid.{size, from, end, onBorder, isNegative}
+use Rattle.rules.specs.Grid.{size, range, end, onBorder, isNegative}
 use Rattle.rules.specs.Machine.{unfitVoxel}
 use Rattle.rules.proofs.Places.{fit}
 use Rattle.rules.proofs.Rows.{row-end, size-high, edge, border-in-row, border-first, border-last, border-middle}
@@ -51,17 +51,17 @@ module _ (s : Sides) (y z : ℕ) (hy : y < s .b) (status : List ℕ) where
   unfolding usedBorderAt
   at i t e = ap (λ (u : Bool). u && usedAt status i) e
 
-  pub row-on-border : edge s y z ≡ true → any (usedAt status) (from first (s .a)) ≡ any P (from first (s .a))
+  pub row-on-border : edge s y z ≡ true → any (usedAt status) (range first (s .a)) ≡ any P (range first (s .a))
   row-on-border e =
       any-run-ext (usedAt status) P first (s .a)
       (λ i k h. sym (at i true (border-in-row s y z hy i k h ∙ ap (λ (t : Bool). end (s .a) (i - first) || t) e ∙ or-one (end (s .a) (i - first)))))
 
-  pub row-ends : (l : ℕ) → 3 ≤ s .a → l + 1 ≡ first + s .a → edge s y z ≡ false → usedAt status first || usedAt status l ≡ any P (from first (s .a))
+  pub row-ends : (l : ℕ) → 3 ≤ s .a → l + 1 ≡ first + s .a → edge s y z ≡ false → usedAt status first || usedAt status l ≡ any P (range first (s .a))
   row-ends l w h e =
-      let middle : any P (from (first + 1) (s .a - 2)) ≡ false =
+      let middle : any P (range (first + 1) (s .a - 2)) ≡ false =
       any-run-none-of P (first + 1) (s .a - 2) (λ i k m. at i false (border-middle s y z hy i (omega arith) (omega arith) ∙ e)) in
-      let m : any P (from first 1) ≡ usedAt status first = any-run-one P first ∙ at first true (border-first s y z hy first (omega arith) refl) in
-      let o : any P (from l 1) ≡ usedAt status l = any-run-one P l ∙ at l true (border-last s y z hy l h (omega arith)) in
+      let m : any P (range first 1) ≡ usedAt status first = any-run-one P first ∙ at first true (border-first s y z hy first (omega arith) refl) in
+      let o : any P (range l 1) ≡ usedAt status l = any-run-one P l ∙ at l true (border-last s y z hy l h (omega arith)) in
       let t = scan-join P (first + 1) (s .a - 2) 1 l (s .a - 1) false _ (sym middle) (sym o) (omega arith) (omega arith) in
       scan-join P first 1 (s .a - 1) (first + 1) (s .a) _ _ (sym m) t (omega arith) (omega arith)
 
@@ -70,16 +70,16 @@ module _ (s : Sides) (y z : ℕ) (hy : y < s .b) (status : List ℕ) where
 module _ (s : Sides) (dist : List ℤ) (status : List ℕ) (l : length status ≡ size s) where
   pub three-scans :
       (p q r : Bool)
-      → p ≡ any (unknownAt status) (from 0 (length status))
-      → q ≡ any (usedBorderAt s status) (from 0 (size s))
-      → r ≡ any (unheldAt dist status) (from 0 (length status))
-      → p || (q || r) ≡ any (unfitVoxel s dist status) (from 0 (size s))
+      → p ≡ any (unknownAt status) (range 0 (length status))
+      → q ≡ any (usedBorderAt s status) (range 0 (size s))
+      → r ≡ any (unheldAt dist status) (range 0 (length status))
+      → p || (q || r) ≡ any (unfitVoxel s dist status) (range 0 (size s))
   unfolding unfitVoxel unknownAt usedBorderAt usedAt unheldAt
   three-scans p q r e f g =
-      let v = from 0 (size s) in
+      let v = range 0 (size s) in
       let t : q || r ≡ any (λ i. usedBorderAt s status i || unheldAt dist status i) v =
-      ap₂ _||_ f (g ∙ ap (λ (n : ℕ). any (unheldAt dist status) (from 0 n)) l) ∙ sym (any-or (usedBorderAt s status) (unheldAt dist status) v) in
-      ap₂ _||_ (e ∙ ap (λ (n : ℕ). any (unknownAt status) (from 0 n)) l) t
+      ap₂ _||_ f (g ∙ ap (λ (n : ℕ). any (unheldAt dist status) (range 0 n)) l) ∙ sym (any-or (usedBorderAt s status) (unheldAt dist status) v) in
+      ap₂ _||_ (e ∙ ap (λ (n : ℕ). any (unknownAt status) (range 0 n)) l) t
       ∙ sym (any-or (unknownAt status) (λ i. usedBorderAt s status i || unheldAt dist status i) v)
 
 -- ---- the sign of a voxel's distance, counted only where it may not be negative

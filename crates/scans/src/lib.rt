@@ -4,7 +4,7 @@ ghost use mathlib.Core.Bool.{true, _||_};
 ghost use Prim.Native.Nat.{_+_, _-_, _*_, _≤_, _<_};
 ghost use lib.ListN.{length};
 ghost use Rattle.cells.specs.Groups.{any};
-ghost use Rattle.rules.specs.Grid.{size, from};
+ghost use Rattle.rules.specs.Grid.{size, range};
 ghost use Rattle.rules.specs.Machine.{unfitVoxel};
 ghost use Rattle.rules.specs.Fit.{Lent};
 ghost use Rattle.scans.specs.Scans.{unknownAt, heldUp, unheldAt, usedAt, usedBorderAt, Sized};
@@ -12,7 +12,7 @@ use rules::Sides;
 
 // Some voxel has a status that is not 0, 1 or 3.
 fn unknown(status: &[u8]) -> bool
-    ensures { λ r. ⌜ r ≡ any (unknownAt (now (status .entry))) (from 0 (length (now (status .entry)))) ⌝ }
+    ensures { λ r. ⌜ r ≡ any (unknownAt (now (status .entry))) (range 0 (length (now (status .entry)))) ⌝ }
 {
     let mut bad = false;
     let mut i: usize = 0;
@@ -37,7 +37,7 @@ fn held_up(d: i32, s: u8) -> i32
 // Some voxel has a negative distance and a status that is not 1: the bits of such numbers, joined, make a negative one.
 fn unheld(dist: &[i32], status: &[u8]) -> bool
     requires { ⌜ length (now dist) ≡ length (now status) ⌝ }
-    ensures { λ r. ⌜ r ≡ any (unheldAt (now (dist .entry)) (now (status .entry))) (from 0 (length (now (status .entry)))) ⌝ }
+    ensures { λ r. ⌜ r ≡ any (unheldAt (now (dist .entry)) (now (status .entry))) (range 0 (length (now (status .entry)))) ⌝ }
 {
     let mut all: i32 = 0;
     let mut i: usize = 0;
@@ -52,7 +52,7 @@ fn unheld(dist: &[i32], status: &[u8]) -> bool
 // Some voxel from first up to end has a status other than 0.
 fn used_span(status: &[u8], first: usize, end: usize) -> bool
     requires { ⌜ (first ≤ end) × (end ≤ length (now status)) ⌝ }
-    ensures { λ r. ⌜ r ≡ any (usedAt (now (status .entry))) (from first (end - first)) ⌝ }
+    ensures { λ r. ⌜ r ≡ any (usedAt (now (status .entry))) (range first (end - first)) ⌝ }
 {
     let mut found = false;
     let mut i = first;
@@ -66,7 +66,7 @@ fn used_span(status: &[u8], first: usize, end: usize) -> bool
 // Some border voxel of a row has: its first or its last voxel, or any if the row lies on the border.
 fn used_row(s: Sides, status: &[u8], y: usize, z: usize) -> bool
     requires { ⌜ Sized s (now status) × (y < s .b) × (z < s .c) ⌝ }
-    ensures { λ r. ⌜ r ≡ any (usedBorderAt s (now (status .entry))) (from (s .a * (y + s .b * z)) (s .a)) ⌝ }
+    ensures { λ r. ⌜ r ≡ any (usedBorderAt s (now (status .entry))) (range (s .a * (y + s .b * z)) (s .a)) ⌝ }
 {
     let first = s.a * (y + s.b * z);
     let end = first + s.a;
@@ -78,7 +78,7 @@ fn used_row(s: Sides, status: &[u8], y: usize, z: usize) -> bool
 
 fn used_layer(s: Sides, status: &[u8], z: usize) -> bool
     requires { ⌜ Sized s (now status) × (z < s .c) ⌝ }
-    ensures { λ r. ⌜ r ≡ any (usedBorderAt s (now (status .entry))) (from (s .a * (s .b * z)) (s .a * s .b)) ⌝ }
+    ensures { λ r. ⌜ r ≡ any (usedBorderAt s (now (status .entry))) (range (s .a * (s .b * z)) (s .a * s .b)) ⌝ }
 {
     let b = s.b;
     let mut found = false;
@@ -93,7 +93,7 @@ fn used_layer(s: Sides, status: &[u8], z: usize) -> bool
 // Some border voxel has a status other than 0.
 fn used_border(s: Sides, status: &[u8]) -> bool
     requires { ⌜ Sized s (now status) ⌝ }
-    ensures { λ r. ⌜ r ≡ any (usedBorderAt s (now (status .entry))) (from 0 (size s)) ⌝ }
+    ensures { λ r. ⌜ r ≡ any (usedBorderAt s (now (status .entry))) (range 0 (size s)) ⌝ }
 {
     let c = s.c;
     let mut found = false;
@@ -107,7 +107,7 @@ fn used_border(s: Sides, status: &[u8]) -> bool
 
 pub fn unfit_grid(s: Sides, dist: &[i32], status: &[u8]) -> bool
     requires { ⌜ Lent s (now dist) (now status) ⌝ }
-    ensures { λ r. ⌜ r ≡ any (unfitVoxel s (now (dist .entry)) (now (status .entry))) (from 0 (size s)) ⌝ }
+    ensures { λ r. ⌜ r ≡ any (unfitVoxel s (now (dist .entry)) (now (status .entry))) (range 0 (size s)) ⌝ }
 {
     unknown(status) | (used_border(s, status) | unheld(dist, status))
 }

@@ -12,8 +12,8 @@ use lib.Seq.{getD-set-same, getD-set-other}
 use lib.Signed.{ltZ}
 use mir.Syntax.{w32}
 use mir.Val.{SFits}
-use Rattle.prelude.proofs.Ranges.{is-map-from}
-use Rattle.rules.specs.Grid.{from, isNegative, distanceAt}
+use Rattle.prelude.proofs.Ranges.{is-map-range}
+use Rattle.rules.specs.Grid.{range, isNegative, distanceAt}
 use Rattle.rules.specs.Status.{statusOf, keptByte, isKept}
 use Rattle.rules.specs.Machine.{closed, closedAt}
 use Rattle.searching.specs.Closing.{closedIf}
@@ -100,6 +100,6 @@ module _ (before : List ℤ) (status : List ℕ) where
           (getD-set-same dist i v (pos 0) (omega (arith, c .size, c .given)) ∙ e
           ∙ ap (λ (x : ℤ). closedIf x (statusOf status i)) (c .rest i (omega arith)))
 
-  pub closing-done : (dist : List ℤ) (i : ℕ) → Closing before status dist i → length status ≤ i → dist ≡ map (closedAt before status) (from 0 (length status))
+  pub closing-done : (dist : List ℤ) (i : ℕ) → Closing before status dist i → length status ≤ i → dist ≡ map (closedAt before status) (range 0 (length status))
   closing-done dist i c h =
-      is-map-from (closedAt before status) (pos 0) (length status) dist (c .size ∙ c .given) (λ j l. c .done j (omega arith))
+      is-map-range (closedAt before status) (pos 0) (length status) dist (c .size ∙ c .given) (λ j l. c .done j (omega arith))

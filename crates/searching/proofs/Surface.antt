@@ -7,13 +7,13 @@ use native.Mathlib.Omega.{arith}
 use native.Mathlib.Nat.{mul-le-mul-left}
 use Rattle.cells.specs.Groups.{any}
 use Rattle.rules.specs.declared.Sides.{Sides}
-use Rattle.rules.specs.Grid.{block}
+use Rattle.rules.specs.Grid.{neighbourhood}
 use Rattle.rules.specs.Begin.{exposed}
 use Rattle.rules.specs.Status.{isKept}
 use Rattle.rules.proofs.Places.{fit}
 use Rattle.neighbourhood.specs.Neighbourhood.{Inner, around}
 use Rattle.neighbourhood.proofs.Interior.{first-below}
-use Rattle.neighbourhood.proofs.Gathering.{block-around}
+use Rattle.neighbourhood.proofs.Gathering.{neighbourhood-around}
 use Rattle.searching.specs.Argmax.{enclosed}
 
 -- one of six is not
@@ -38,8 +38,8 @@ module _ (s : Sides) (status : List ℕ) (i : ℕ) (n : Inner s i) where
       let m : s .a * 1 ≤ s .a * s .b = mul-le-mul-left (s .a) (let q : 1 ≤ s .b = omega (arith, f .b-low) in q) in
       (omega arith, first-below s i n)
 
-  face : (p j : ℕ) → p < 27 → around s i p ≡ j → block s (isKept status) i p ≡ isKept status j
-  face p j h e = block-around s i n (isKept status) p h ∙ ap (isKept status) e
+  face : (p j : ℕ) → p < 27 → around s i p ≡ j → neighbourhood s (isKept status) i p ≡ isKept status j
+  face p j h e = neighbourhood-around s i n (isKept status) p h ∙ ap (isKept status) e
 
   pub exposed-is : exposed s (isKept status) i ≡ not (enclosed status (s .a) l i)
   unfolding exposed any enclosed around

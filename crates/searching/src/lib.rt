@@ -4,7 +4,7 @@ ghost use mathlib.Core.List.{map};
 ghost use Prim.Native.Nat.{_+_, _-_, _≤_, _<_};
 ghost use lib.ListN.{length};
 ghost use Rattle.cells.specs.Groups.{any};
-ghost use Rattle.rules.specs.Grid.{from};
+ghost use Rattle.rules.specs.Grid.{range};
 ghost use Rattle.rules.specs.Status.{isPending, firstOf, openable};
 ghost use Rattle.rules.specs.Machine.{outside, farther, closedAt};
 ghost use Rattle.searching.specs.Argmax.{found, surfaceAt, heightOf, heightAt, keyAt, rank, higher};
@@ -14,7 +14,7 @@ use rules::Sides;
 
 // Some voxel is pending.
 pub fn any_pending(status: &[u8]) -> bool
-    ensures { λ r. ⌜ r ≡ any (isPending (now (status .entry))) (from 0 (length (now (status .entry)))) ⌝ }
+    ensures { λ r. ⌜ r ≡ any (isPending (now (status .entry))) (range 0 (length (now (status .entry)))) ⌝ }
 {
     let mut found = false;
     let mut i: usize = 0;
@@ -190,7 +190,7 @@ fn closed_value(d: i32, x: u8) -> i32
 // Closes every voxel.
 pub fn close(dist: &mut [i32], status: &[u8])
     requires { ⌜ length (now dist) ≡ length (now status) ⌝ }
-    ensures { λ _. ⌜ now (dist .exit) ≡ map (closedAt (now (dist .entry)) (now (status .entry))) (from 0 (length (now (status .entry)))) ⌝ }
+    ensures { λ _. ⌜ now (dist .exit) ≡ map (closedAt (now (dist .entry)) (now (status .entry))) (range 0 (length (now (status .entry)))) ⌝ }
 {
     let mut i: usize = 0;
     while i < status.len() {

@@ -7,7 +7,7 @@ use lib.IntN.{ℤ, pos, negsuc}
 use lib.Ieee.{Float, fin, add, sub, div, ofInt}
 use lib.ListN.{set, replicate}
 use Rattle.prelude.specs.Lists.{any}
-use Rattle.rules.specs.Grid.{fitSides, size, index, voxel, from, voxels, onBorder}
+use Rattle.rules.specs.Grid.{fitSides, size, index, voxel, range, voxels, onBorder}
 use Rattle.rules.specs.Checks.{unless}
 use Rattle.rules.specs.Answer.{Reply, refused, done}
 use Rattle.rules.specs.Machine.{State, state, isInside, unfitCounts, unfitVoxel, unfit, wrongLength}
@@ -16,7 +16,7 @@ use Rattle.surface.specs.Surface.{share, moved, pointFrom, crossingOf, n
 
 -- what the rule computes with
 unfoldable grid-rule : Unit {0}
-unfolding any fitSides size index voxel from voxels onBorder unless isInside unfitCounts unfitVoxel unfit wrongLength
+unfolding any fitSides size index voxel range voxels onBorder unless isInside unfitCounts unfitVoxel unfit wrongLength
 grid-rule = tt
 
 unfoldable pub rule : Unit {0}

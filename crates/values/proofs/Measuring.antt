@@ -9,14 +9,14 @@ use lib.Dec.{eqb, ltb}
 use lib.IntN.{ℤ, pos, negsuc}
 use lib.ListN.{length, getD}
 use borrow.Author.Tests.{ne-eqb}
-use Rattle.cells.specs.Groups.{those}
+use Rattle.cells.specs.Groups.{filter}
 use Rattle.prelude.proofs.Bools.{two, and-true, and-zero}
-use Rattle.prelude.proofs.Lists.{those-ext}
+use Rattle.prelude.proofs.Lists.{filter-ext}
 use Rattle.rules.specs.declared.Sides.{Sides}
-use Rattle.rules.specs.Grid.{from, size, voxels, measuredNegative, measuredNonNegative, amount, valueAt}
+use Rattle.rules.specs.Grid.{range, size, voxels, measuredNegative, measuredNonNegative, amount, valueAt}
 use Rattle.rules.specs.Begin.{isIn, inside, facing, distance, greatest, greatestFacing, worked, workedAt}
 use Rattle.rules.specs.Meaning.{SomeVoxels}
-use Rattle.prelude.proofs.Ranges.{from-mem}
+use Rattle.prelude.proofs.Ranges.{range-mem}
 use Rattle.rules.proofs.Inside.{inside-members}
 use Rattle.rules.proofs.Distance.{facing-eqb, worked-by-distance}
 use Rattle.loops.proofs.Below.{map-same}
@@ -61,15 +61,15 @@ module _ (s : Sides) (values : List ℤ) (len : length values ≡ size s) (some 
   pub greatest-facing : greatestBy values d ≡ greatestFacing s values (inside s values)
   unfolding greatestBy greatestFacing voxels
   greatest-facing =
-      ap (λ (n : ℕ). greatest 1 (map (λ k. amount (valueAt values k)) (those (counts values d) (from 0 n)))) len
+      ap (λ (n : ℕ). greatest 1 (map (λ k. amount (valueAt values k)) (filter (counts values d) (range 0 n)))) len
       ∙ ap (λ (m : List ℕ). greatest 1 (map (λ k. amount (valueAt values k)) m))
-      (those-ext (counts values d) (λ k. measuredNonNegative (valueAt values k) && facing s (inside s values) k) (from 0 (size s))
-      (λ k m. beside k (let h = from-mem 0 (size s) k m in omega arith)))
+      (filter-ext (counts values d) (λ k. measuredNonNegative (valueAt values k) && facing s (inside s values) k) (range 0 (size s))
+      (λ k m. beside k (let h = range-mem 0 (size s) k m in omega arith)))
 
   pub worked-is : workedBy (greatestFacing s values (inside s values)) values d ≡ worked s values (inside s values)
   unfolding workedBy worked voxels
   worked-is =
-      ap (λ (n : ℕ). map (λ k. workedTo M (valueAt values k) (getD d k 0)) (from 0 n)) len
+      ap (λ (n : ℕ). map (λ k. workedTo M (valueAt values k) (getD d k 0)) (range 0 n)) len
       ∙ map-same (λ k. workedTo M (valueAt values k) (getD d k 0)) (workedAt s values (inside s values) M) (pos 0) (size s)
       (λ k h.
       ap (workedTo M (valueAt values k)) (is k h)

@@ -6,9 +6,9 @@ use Prim.Native.Nat.{ℕ, zero, suc, _+_, _<_}
 use lib.Dec.{eqb}
 use lib.IntN.{ℤ, pos}
 use lib.ListN.{length, getD}
-use Rattle.cells.specs.Groups.{those}
+use Rattle.cells.specs.Groups.{filter}
 use Rattle.rules.specs.Begin.{greatest}
-use Rattle.rules.specs.Grid.{from, voxel, voxels, measuredNegative, measuredNonNegative, amount, valueAt}
+use Rattle.rules.specs.Grid.{range, voxel, voxels, measuredNegative, measuredNonNegative, amount, valueAt}
 
 -- the worked distance of a voxel of value v at d steps
 unfoldable pub workedTo : ℕ → ℤ → ℕ → ℤ
@@ -19,17 +19,17 @@ workedTo m v (suc (suc d)) = pos (m + suc (suc d))
 -- ---- what each scan leaves
 
 unfoldable pub labelsOf : List ℤ → List ℕ
-labelsOf values = map (λ k. cond (measuredNegative (valueAt values k)) 1 0) (from 0 (length values))
+labelsOf values = map (λ k. cond (measuredNegative (valueAt values k)) 1 0) (range 0 (length values))
 
 -- 0 or more, and 1 step from S
 abbrev pub counts : List ℤ → List ℕ → ℕ → Bool
 counts values d k = measuredNonNegative (valueAt values k) && eqb (getD d k 0) 1
 
 unfoldable pub greatestBy : List ℤ → List ℕ → ℕ
-greatestBy values d = greatest 1 (map (λ k. amount (valueAt values k)) (those (counts values d) (from 0 (length values))))
+greatestBy values d = greatest 1 (map (λ k. amount (valueAt values k)) (filter (counts values d) (range 0 (length values))))
 
 unfoldable pub workedBy : ℕ → List ℤ → List ℕ → List ℤ
-workedBy m values d = map (λ k. workedTo m (valueAt values k) (getD d k 0)) (from 0 (length values))
+workedBy m values d = map (λ k. workedTo m (valueAt values k) (getD d k 0)) (range 0 (length values))
 
 -- as many distances, taken from S and worked out, as values, and an M that is a value
 pub record Fillable (values d dist m : ℕ) : Type 0 where

@@ -11,7 +11,7 @@ use lib.Dec.{eqb}
 use lib.ListN.{length, set, length-set}
 use lib.Seq.{getD-set-same, getD-set-other}
 use Rattle.prelude.proofs.Bools.{two, and-true, true-and, not-true}
-use Rattle.prelude.proofs.Ranges.{is-map-from}
+use Rattle.prelude.proofs.Ranges.{is-map-range}
 use Rattle.rules.specs.declared.Sides.{Sides}
 use Rattle.rules.specs.Grid.{size, voxels, touch}
 use Rattle.rules.specs.Status.{statusOf, isKept, isPending, woken, removable, statusWithout, without}
@@ -131,7 +131,7 @@ module _ (s : Sides) (free : ℕ → Bool) (status : List ℕ) (i : ℕ) (n : In
 
   removed-is : after ≡ without s free status i
   unfolding without voxels
-  removed-is = is-map-from (statusWithout s free status i) 0 (size s) after (w .same ∙ length-set status i 0 ∙ l) (λ j h. removed-at j)
+  removed-is = is-map-range (statusWithout s free status i) 0 (size s) after (w .same ∙ length-set status i 0 ∙ l) (λ j h. removed-at j)
 
 -- the same, from what code holds in between
 pub removed-from :

@@ -1,11 +1,11 @@
 -- The worked values, by computation.
 use mathlib.Core.Path.{refl}
-use Rattle.prelude.specs.Lists.{from}
+use Rattle.prelude.specs.Lists.{range}
 use Rattle.words.specs.Words.{signed, valueOf, valuesOf}
 use Rattle.words.specs.Examples.{Examples}
 
 pub examples : Examples
-unfolding from signed valueOf valuesOf
+unfolding range signed valueOf valuesOf
 examples =
     record {
       two-bytes = refl;

@@ -5,7 +5,7 @@ use Prim.Native.Nat.{ℕ, zero, suc, _+_, _-_, _*_}
 use lib.Dec.{ltb, eqb}
 use lib.ListN.{getD}
 use lib.IntN.{ℤ, pos, negsuc}
-use Rattle.prelude.specs.Lists.{from}
+use Rattle.prelude.specs.Lists.{range}
 
 abbrev pub byteAt : List ℕ → ℕ → ℕ
 byteAt file i = getD file i 0
@@ -30,7 +30,7 @@ valueOf width bytes at = signed (half width) (word width bytes at)
 
 -- the first values of so many bytes each
 unfoldable pub valuesOf : ℕ → ℕ → List ℕ → List ℤ
-valuesOf width count bytes = map (λ k. valueOf width bytes (width * k)) (from 0 count)
+valuesOf width count bytes = map (λ k. valueOf width bytes (width * k)) (range 0 count)
 
 -- document 01's mark of a record: hex 56, then the kind
 abbrev pub tagged : ℕ → List ℕ → ℕ → Bool

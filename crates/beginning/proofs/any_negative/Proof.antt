@@ -6,7 +6,7 @@ use Prim.Native.Nat.{ℕ, _-_, _≤_}
 use lib.IntN.{pos}
 use mir.Facts.{toZ-ofZ}
 use Rattle.cells.specs.Groups.{any}
-use Rattle.rules.specs.Grid.{from, measuredNegative, missing}
+use Rattle.rules.specs.Grid.{range, measuredNegative, missing}
 use Rattle.prelude.proofs.Ranges.{any-run-none, scan-more}
 use Rattle.loops.proofs.Orders.{getD-within}
 use Rattle.beginning.specs.Work.{negativeAt}
@@ -14,7 +14,7 @@ use Rattle.beginning.proofs.any_negative.Statement.{statement}
 use Rattle.beginning.proofs.any_negative.Tie as tie
 
 abbrev Inv-loop : tie.InvT-loop
-Inv-loop values first end found₀ i₀ found i = (first ≤ i) × (i ≤ end) × (found ≡ any (negativeAt values) (from first (i - first)))
+Inv-loop values first end found₀ i₀ found i = (first ≤ i) × (i ≤ end) × (found ≡ any (negativeAt values) (range first (i - first)))
 
 abbrev μ-loop : tie.MeasureT-loop
 μ-loop values first end found₀ i₀ found i = end - i
@@ -57,7 +57,7 @@ returns c =
     let l = c .before in
     let a = l .before .args in
     let e : l .loop .i ≡ a .end = omega (arith, c .loop-test .left) in
-    l .loop .inv .2 ∙ ap (λ (i : ℕ). any (negativeAt (a .values .now)) (from (a .first) (i - a .first))) e
+    l .loop .inv .2 ∙ ap (λ (i : ℕ). any (negativeAt (a .values .now)) (range (a .first) (i - a .first))) e
 
 pub any-negative-spec : {M : Type 1} → statement M
 any-negative-spec =

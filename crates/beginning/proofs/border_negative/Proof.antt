@@ -4,7 +4,7 @@ use Prim.Native.Nat.{ℕ, _*_, _-_, _≤_}
 use native.Mathlib.Omega.{arith}
 use native.Mathlib.Nat.{mul-le-mul, mul-zero}
 use Rattle.cells.specs.Groups.{any}
-use Rattle.rules.specs.Grid.{from, size}
+use Rattle.rules.specs.Grid.{range, size}
 use Rattle.rules.proofs.Places.{fit}
 use Rattle.prelude.proofs.Ranges.{any-run-none, scan-join}
 use Rattle.loops.proofs.Rows.{row-of, rows-more, rows-all}
@@ -14,7 +14,7 @@ use Rattle.beginning.proofs.border_negative.Statement.{statement}
 use Rattle.beginning.proofs.border_negative.Tie as tie
 
 abbrev Inv-loop : tie.InvT-loop
-Inv-loop sides values rows found₀ row₀ found row = (row ≤ rows) × (found ≡ any (borderNegative sides values) (from 0 (sides .a * row)))
+Inv-loop sides values rows found₀ row₀ found row = (row ≤ rows) × (found ≡ any (borderNegative sides values) (range 0 (sides .a * row)))
 
 abbrev μ-loop : tie.MeasureT-loop
 μ-loop sides values rows found₀ row₀ found row = rows - row
@@ -61,7 +61,7 @@ returns c =
     let a = l .before .before .args in
     let s = a .sides in
     let rows : l .loop .row ≡ s .b * s .c = omega (arith, l .loop .inv .0, c .loop-test .left) in
-    l .loop .inv .1 ∙ ap (λ (n : ℕ). any (borderNegative s (a .values .now)) (from 0 n)) (ap (λ (n : ℕ). s .a * n) rows ∙ rows-all s)
+    l .loop .inv .1 ∙ ap (λ (n : ℕ). any (borderNegative s (a .values .now)) (range 0 n)) (ap (λ (n : ℕ). s .a * n) rows ∙ rows-all s)
 
 pub border-negative-spec : {M : Type 1} → statement M
 border-negative-spec =

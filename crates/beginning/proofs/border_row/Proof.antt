@@ -7,7 +7,7 @@ use lib.IntN.{pos}
 use borrow.Author.Needs.{sfits-of, needs}
 use mir.Facts.{toZ-ofZ}
 use Rattle.cells.specs.Groups.{any}
-use Rattle.rules.specs.Grid.{from, missing, measuredNegative}
+use Rattle.rules.specs.Grid.{range, missing, measuredNegative}
 use Rattle.loops.proofs.Orders.{getD-within}
 use Rattle.beginning.specs.Work.{negativeAt}
 use Rattle.beginning.proofs.Rows.{row-on-border, row-ends}
@@ -55,7 +55,7 @@ returns c =
     let first = a .sides .a * a .row in
     let n : first + a .sides .a - 1 + 1 - first ≡ a .sides .a = omega (arith, s .pre .a-low) in
     c .any-negative .ensures
-    ∙ ap (λ (k : ℕ). any (negativeAt (a .values .now)) (from first k)) n
+    ∙ ap (λ (k : ℕ). any (negativeAt (a .values .now)) (range first k)) n
     ∙ row-on-border (a .sides) (negativeAt (a .values .now)) (a .row) (t .if1 .taken)
 
 mul-v : tie.Need-mul-v

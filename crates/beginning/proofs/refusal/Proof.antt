@@ -6,7 +6,7 @@ use native.Mathlib.Omega.{arith}
 use lib.ListN.{length}
 use Rattle.cells.specs.Groups.{any}
 use Rattle.prelude.proofs.Bools.{not-true, not-false}
-use Rattle.rules.specs.Grid.{fitSides, size, from}
+use Rattle.rules.specs.Grid.{fitSides, size, range}
 use Rattle.rules.specs.Checks.{firstFailing}
 use Rattle.rules.specs.Begin.{beginChecks}
 use Rattle.beginning.specs.Work.{Sized, negativeAt, borderNegative}
@@ -101,7 +101,7 @@ decided c t e =
     let all : n .result - 0 ≡ size (a .sides) = omega (arith, n .ensures .0) in
     sym (number-is (a .sides) (a .values .now) (a .dist .now) (a .status .now) true true false t (sized l .sides) (right l)
     (sym (b .before .border-negative .ensures) ∙ b .if5 .left)
-    (ap (λ (k : ℕ). any (negativeAt (a .values .now)) (from 0 k)) (sym all) ∙ sym (c .any-negative .ensures) ∙ e))
+    (ap (λ (k : ℕ). any (negativeAt (a .values .now)) (range 0 k)) (sym all) ∙ sym (c .any-negative .ensures) ∙ e))
 
 returns-6 : tie.Need-returns-6
 returns-6 c = decided (c .before) false (not-true _ (c .if6 .taken))

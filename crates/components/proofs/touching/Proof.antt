@@ -4,7 +4,7 @@ use mathlib.Core.Path.{_≡_, refl, _∙_}
 use native.Mathlib.Omega.{arith}
 use native.Mathlib.Nat.{mul-le-mul}
 use lib.ListN.{length, getD, length-set}
-use Rattle.prelude.proofs.Ranges.{is-map-from}
+use Rattle.prelude.proofs.Ranges.{is-map-range}
 use Rattle.loops.proofs.Orders.{store-more}
 use Rattle.components.specs.Flood.{offsetOf}
 use borrow.Author.Needs.{needs}
@@ -68,7 +68,7 @@ loop-again c =
     )
 
 returns : tie.Need-returns Inv-loop μ-loop
-returns c = let l = c .before in is-map-from _ 0 27 (l .loop .offsets) (l .loop .inv .1) (λ k h. l .loop .inv .2 k (omega (arith, c .loop-test .left)))
+returns c = let l = c .before in is-map-range _ 0 27 (l .loop .offsets) (l .loop .inv .1) (λ k h. l .loop .inv .2 k (omega (arith, c .loop-test .left)))
 
 pub touching-spec : {M : Type 1} → statement M
 touching-spec =

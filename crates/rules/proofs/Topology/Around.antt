@@ -6,15 +6,15 @@ use Prim.Native.Nat.{ℕ, suc, _+_, _-_, _*_, _/_, _%_, _≤_, _<_}
 use native.Mathlib.Omega.{arith}
 use lib.Dec.{leb, eqb}
 use borrow.Author.Tests.{leb-true, leb-false, le-leb, eqb-true, eqb-false, ne-eqb}
-use Rattle.cells.specs.Groups.{any, those}
-use Rattle.cells.specs.Cells.{spans, contains, places}
+use Rattle.cells.specs.Groups.{any, filter}
+use Rattle.cells.specs.Cells.{spans, contains, positions}
 use Rattle.prelude.proofs.Bools.{and-true, true-and, or-true, or-false}
-use Rattle.prelude.proofs.Lists.{Mem, any-false, mem-those}
+use Rattle.prelude.proofs.Lists.{Mem, any-false, mem-filter}
 use Rattle.closed_sets.proofs.EveryBlock.{contains-trans}
 use Rattle.rules.specs.declared.Sides.{Sides}
-use Rattle.rules.specs.Grid.{Voxel, index, voxel, from, gap, near, touch, reaches, neighbour, blockOf}
+use Rattle.rules.specs.Grid.{Voxel, index, voxel, range, gap, near, touch, reaches, neighbour, neighbourhoodOf}
 use Rattle.rules.proofs.Places.{InGrid, voxel-eq}
-use Rattle.prelude.proofs.Ranges.{mem-from}
+use Rattle.prelude.proofs.Ranges.{mem-range}
 
 -- ---- voxels that touch
 
@@ -115,9 +115,9 @@ reaches-inner : (side x d : ℕ) → 1 ≤ x → suc x < side → d ≤ 2 → re
 reaches-inner side x d h k l = true-and (leb 1 (x + d)) (leb (x + d) side) (le-leb 1 (x + d) (omega arith)) (le-leb (x + d) side (omega arith))
 
 -- the block reads the voxel at each place
-pub block-at : (s : Sides) (found : ℕ → Bool) (u v : Voxel) (p : ℕ) → Inner s u → At u v p → blockOf s found u p ≡ found (index s v)
-unfolding blockOf
-block-at s found u v p h k =
+pub neighbourhood-at : (s : Sides) (found : ℕ → Bool) (u v : Voxel) (p : ℕ) → Inner s u → At u v p → neighbourhoodOf s found u p ≡ found (index s v)
+unfolding neighbourhoodOf
+neighbourhood-at s found u v p h k =
     let l = k .low in
     ap₂ _&&_ (reaches-inner (s .a) (u .x) (p % 3) (h .x-low) (h .x-high) (omega arith)) (
     ap₂ _&&_ (reaches-inner (s .b) (u .y) (p / 3 % 3) (h .y-low) (h .y-high) (omega arith)) (
@@ -126,19 +126,19 @@ block-at s found u v p h k =
 
 -- ---- the 26 places
 
-pub place-low : (p : ℕ) → Mem p places → (p < 27) × (p ≢ 13)
+pub place-low : (p : ℕ) → Mem p positions → (p < 27) × (p ≢ 13)
 unfolding any
 place-low p m =
-    let h = or-false (leb 27 p) (eqb p 13) (any-false (λ q. leb 27 q || eqb q 13) places refl p m) in
+    let h = or-false (leb 27 p) (eqb p 13) (any-false (λ q. leb 27 q || eqb q 13) positions refl p m) in
     (leb-false 27 p (h .0), eqb-false p 13 (h .1))
 
-pub low-place : (p : ℕ) → p < 27 → p ≢ 13 → Mem p places
-unfolding those from
+pub low-place : (p : ℕ) → p < 27 → p ≢ 13 → Mem p positions
+unfolding filter range
 low-place p h n =
-    mem-those (λ q. not (eqb q 13)) (from 0 27) p (mem-from 0 27 p (omega arith) (omega arith)) (ap not (ne-eqb p 13 n))
+    mem-filter (λ q. not (eqb q 13)) (range 0 27) p (mem-range 0 27 p (omega arith) (omega arith)) (ap not (ne-eqb p 13 n))
 
 -- a voxel other than the middle one stands at one of them
-pub at-place : (u v : Voxel) (p : ℕ) → At u v p → u ≢ v → Mem p places
+pub at-place : (u v : Voxel) (p : ℕ) → At u v p → u ≢ v → Mem p positions
 at-place u v p h n = low-place p (h .low) (λ e. n (at-same u u v p (middle e) h))
   where
     middle : p ≡ 13 → At u u p

@@ -11,7 +11,7 @@ use Rattle.cells.specs.Linked.{Linked, stay, step, OnePiece}
 use Rattle.prelude.proofs.Bools.{and-true, true-and, and-zero, and-false, both-ways, not-true}
 use Rattle.cells.proofs.Chains.{append, before, reverse, carry}
 use Rattle.rules.specs.declared.Sides.{Sides}
-use Rattle.rules.specs.Grid.{Voxel, index, voxel, size, gap, near, touch, apart, steps, shareFace}
+use Rattle.rules.specs.Grid.{Voxel, index, voxel, size, gap, near, touch, apart, taxicab, shareFace}
 use Rattle.rules.specs.Body.{bodyOf, eulerOf}
 use Rattle.rules.proofs.Places.{InGrid, voxel-eq, voxel-index, index-voxel, index-lt, voxel-in}
 use Rattle.rules.proofs.Inside.{touch-back}
@@ -227,7 +227,7 @@ module _ (s : Sides) (b : Bounds) (fits : Fits s b) where
           (walk (λ i. vox i (v .y) (v .z)) (next-x (v .y) (v .z)) (v .x) (λ i l. at i (v .y) (v .z) l (omega arith) (omega arith) (inr o)))
 
   from-origin : (i : ℕ) → background s (boxed s b) i ≡ true → Linked (background s (boxed s b)) (shareFace s) (index s (vox 0 0 0)) i
-  unfolding outside beside shareFace steps
+  unfolding outside beside shareFace taxicab
   from-origin i e =
       let r = and-true (ltb i (size s)) (not (boxed s b i)) e in
       let g = voxel-in s i (omega (arith, fits .x-high)) (omega (arith, fits .y-high)) (ltb-true i (size s) (r .0)) in

@@ -8,13 +8,13 @@ use Prim.Native.Nat.{ℕ, zero, suc, _+_, _*_, _≤_, _<_}
 use native.Mathlib.Omega.{arith}
 use lib.IntN.{ℤ, pos, _+ℤ_, +ℤ-assoc, +ℤ-idr}
 use lib.ListN.{length}
-use Rattle.cells.specs.Groups.{any, those}
+use Rattle.cells.specs.Groups.{any, filter}
 use Rattle.cells.specs.Cells.{passes}
 use Rattle.prelude.proofs.Bools.{and-true, and-one, not-true, not-both, two}
-use Rattle.prelude.proofs.Lists.{Mem, any-true, mem-those}
+use Rattle.prelude.proofs.Lists.{Mem, any-true, mem-filter}
 use Rattle.rules.specs.declared.Sides.{Sides}
 use Rattle.rules.specs.declared.Record.{Record}
-use Rattle.rules.specs.Grid.{size, from, voxels}
+use Rattle.rules.specs.Grid.{size, range, voxels}
 use Rattle.rules.specs.Begin.{exposed}
 use Rattle.rules.specs.Meaning.{found}
 use Rattle.rules.specs.Status.{Progress, isKept, isPending, anyPending, removable, testAt, firstOf, examine, carving, counted, openable}
@@ -32,10 +32,10 @@ use Rattle.rules.proofs.Topology.Steps.{Tally, tally, Sound, sound-take
 
 -- ---- a run of examinations, by any order, with no voxel pinned
 
-none-those : (p : ℕ → Bool) (l : List ℕ) → length (those p l) ≡ 0 → any p l ≡ false
-none-those p l z =
+none-filter : (p : ℕ → Bool) (l : List ℕ) → length (filter p l) ≡ 0 → any p l ≡ false
+none-filter p l z =
     elim (two (any p l)) [
-      | inl t ↦ let r = any-true p l t in not-both false (filled (those p l) (r .0) (mem-those p l (r .0) (r .1) (r .2)) z) refl
+      | inl t ↦ let r = any-true p l t in not-both false (filled (filter p l) (r .0) (mem-filter p l (r .0) (r .1) (r .2)) z) refl
       | inr f ↦ f
     ]
   where
@@ -44,7 +44,7 @@ none-those p l z =
 
 none-pending : (s : Sides) (status : List ℕ) → found s (isPending status) ≡ 0 → anyPending s status ≡ false
 unfolding anyPending
-none-pending s status z = none-those (isPending status) (voxels s) z
+none-pending s status z = none-filter (isPending status) (voxels s) z
 
 module _ (s : Sides) (S held free : ℕ → Bool) (ahead : ℕ → ℕ → Bool) (order : Order ahead) (total : ℕ)
     (free-is : (j : ℕ) → j < size s → free j ≡ not (S j)) where
@@ -117,7 +117,7 @@ module _ (s : Sides) (S held free : ℕ → Bool) (ahead : ℕ → ℕ → Bool)
       quiet : firstOf s ahead (isPending status) ≡ none → anyPending s status ≡ false
       quiet e =
           unfold anyPending voxels in
-          elim (two (any (isPending status) (from 0 (size s)))) [
+          elim (two (any (isPending status) (range 0 (size s)))) [
             | inl t ↦
                 let r = any-below (isPending status) (size s) t in
                 not-both (isPending status (r .0)) (r .2) (first-none s ahead (isPending status) e (r .0) (r .1))

@@ -8,29 +8,29 @@ use native.Mathlib.Decide.{ℕ-discrete}
 use lib.Dec.{eqb}
 use lib.ListN.{length}
 use borrow.Author.Tests.{eq-eqb, ne-eqb}
-use Rattle.cells.specs.Groups.{any, those, consIf}
+use Rattle.cells.specs.Groups.{any, filter, consIf}
 use Rattle.cells.specs.Cells.{bit}
-use Rattle.prelude.proofs.Lists.{Mem, here, there, those-ext}
+use Rattle.prelude.proofs.Lists.{Mem, here, there, filter-ext}
 use Rattle.rules.specs.declared.Sides.{Sides}
-use Rattle.rules.specs.Grid.{size, from, voxels}
+use Rattle.rules.specs.Grid.{size, range, voxels}
 use Rattle.rules.specs.Meaning.{found}
-use Rattle.prelude.proofs.Ranges.{from-mem, mem-from, length-from}
+use Rattle.prelude.proofs.Ranges.{range-mem, mem-range, length-range}
 use Rattle.rules.proofs.Topology.Surface.{omit, omit-true}
 use Rattle.rules.proofs.Topology.Removal.{omit-self}
 
 countIn : (ℕ → Bool) → List ℕ → ℕ
-countIn p l = length (those p l)
+countIn p l = length (filter p l)
 
 count-cons : (p : ℕ → Bool) (x : ℕ) (l : List ℕ) → countIn p (x ∷ l) ≡ bit (p x) + countIn p l
-unfolding countIn those
+unfolding countIn filter
 count-cons p x l = go (p x)
   where
-    go : (t : Bool) → length (consIf t x (those p l)) ≡ bit t + length (those p l)
+    go : (t : Bool) → length (consIf t x (filter p l)) ≡ bit t + length (filter p l)
     go true = omega arith
     go false = omega arith
 
 count-nil : (p : ℕ → Bool) → countIn p [] ≡ 0
-unfolding countIn those
+unfolding countIn filter
 count-nil p = refl
 
 bit-mono : (t u : Bool) → (t ≡ true → u ≡ true) → bit t ≤ bit u
@@ -62,19 +62,19 @@ none-in [] = count-nil (λ j. false)
 none-in (x ∷ l) = omega (arith, count-cons (λ j. false) x l, none-in l)
 
 -- one voxel
-at-from : (x k n : ℕ) → (countIn (λ j. eqb j x) (from k n) ≤ 1) × (x < k → countIn (λ j. eqb j x) (from k n) ≡ 0)
-unfolding from
-at-from x k zero = (omega (arith, count-nil (λ j. eqb j x)), λ h. count-nil (λ j. eqb j x))
-at-from x k (suc n) = go (ℕ-discrete k x) (at-from x (suc k) n)
+at-range : (x k n : ℕ) → (countIn (λ j. eqb j x) (range k n) ≤ 1) × (x < k → countIn (λ j. eqb j x) (range k n) ≡ 0)
+unfolding range
+at-range x k zero = (omega (arith, count-nil (λ j. eqb j x)), λ h. count-nil (λ j. eqb j x))
+at-range x k (suc n) = go (ℕ-discrete k x) (at-range x (suc k) n)
   where
-    go : Dec (k ≡ x) → (countIn (λ j. eqb j x) (from (suc k) n) ≤ 1) × (x < suc k → countIn (λ j. eqb j x) (from (suc k) n) ≡ 0)
-        → (countIn (λ j. eqb j x) (k ∷ from (suc k) n) ≤ 1) × (x < k → countIn (λ j. eqb j x) (k ∷ from (suc k) n) ≡ 0)
+    go : Dec (k ≡ x) → (countIn (λ j. eqb j x) (range (suc k) n) ≤ 1) × (x < suc k → countIn (λ j. eqb j x) (range (suc k) n) ≡ 0)
+        → (countIn (λ j. eqb j x) (k ∷ range (suc k) n) ≤ 1) × (x < k → countIn (λ j. eqb j x) (k ∷ range (suc k) n) ≡ 0)
     go (yes e) ih =
-        let z : countIn (λ j. eqb j x) (from (suc k) n) ≡ 0 = ih .1 (omega arith) in
-        (omega (arith, count-cons (λ j. eqb j x) k (from (suc k) n), ap (λ (t : Bool). bit t) (eq-eqb k x e)), λ h. let f : ⊥ = omega arith in absurd f)
+        let z : countIn (λ j. eqb j x) (range (suc k) n) ≡ 0 = ih .1 (omega arith) in
+        (omega (arith, count-cons (λ j. eqb j x) k (range (suc k) n), ap (λ (t : Bool). bit t) (eq-eqb k x e)), λ h. let f : ⊥ = omega arith in absurd f)
     go (no f) ih =
         let z : bit (eqb k x) ≡ 0 = ap (λ (t : Bool). bit t) (ne-eqb k x f) in
-        (omega (arith, count-cons (λ j. eqb j x) k (from (suc k) n), ih .0), λ h. omega (arith, count-cons (λ j. eqb j x) k (from (suc k) n), ih .1 (omega arith)))
+        (omega (arith, count-cons (λ j. eqb j x) k (range (suc k) n), ih .0), λ h. omega (arith, count-cons (λ j. eqb j x) k (range (suc k) n), ih .1 (omega arith)))
 
 omit-in : (p : ℕ → Bool) (i : ℕ) (l : List ℕ) → Mem i l → p i ≡ true → suc (countIn (omit p i) l) ≤ countIn p l
 omit-in p i (x ∷ l) here e =
@@ -102,20 +102,20 @@ module _ (s : Sides) where
 
   pub found-omit : (p : ℕ → Bool) (i : ℕ) → i < size s → p i ≡ true → suc (found s (omit p i)) ≤ found s p
   unfolding countIn voxels
-  found-omit p i h e = omit-in p i (voxels s) (mem-from 0 (size s) i (omega arith) (omega arith)) e
+  found-omit p i h e = omit-in p i (voxels s) (mem-range 0 (size s) i (omega arith) (omega arith)) e
 
   -- at most as many as a list has
   pub found-list : (xs : List ℕ) → found s (λ j. any (eqb j) xs) ≤ length xs
   unfolding any countIn voxels
   found-list [] = omega (arith, none-in (voxels s))
-  found-list (x ∷ xs) = omega (arith, or-in (λ j. eqb j x) (λ j. any (eqb j) xs) (voxels s), at-from x 0 (size s) .0, found-list xs)
+  found-list (x ∷ xs) = omega (arith, or-in (λ j. eqb j x) (λ j. any (eqb j) xs) (voxels s), at-range x 0 (size s) .0, found-list xs)
 
   -- tests that agree on the grid
   pub found-same : (p q : ℕ → Bool) → ((j : ℕ) → j < size s → p j ≡ q j) → found s p ≡ found s q
   unfolding voxels
-  found-same p q h = ap length (those-ext p q (from 0 (size s)) (λ j m. h j (omega (arith, from-mem 0 (size s) j m .1))))
+  found-same p q h = ap length (filter-ext p q (range 0 (size s)) (λ j m. h j (omega (arith, range-mem 0 (size s) j m .1))))
 
   -- at most all voxels
   pub found-all : (p : ℕ → Bool) → found s p ≤ size s
   unfolding countIn voxels
-  found-all p = omega (arith, all-in p (voxels s), length-from 0 (size s))
+  found-all p = omega (arith, all-in p (voxels s), length-range 0 (size s))

@@ -11,11 +11,11 @@ use lib.IntN.{ℤ, pos, _+ℤ_, _-ℤ_}
 use borrow.Author.Tests.{eq-eqb}
 use Rattle.cells.specs.Groups.{any}
 use Rattle.cells.specs.Linked.{OnePiece}
-use Rattle.cells.specs.Cells.{places, test, passes}
+use Rattle.cells.specs.Cells.{positions, test, passes}
 use Rattle.prelude.proofs.Bools.{and-true, and-false, or-true, or-false, true-or, not-true, not-false, not-both, two}
 use Rattle.prelude.proofs.Lists.{true-any}
 use Rattle.rules.specs.declared.Sides.{Sides}
-use Rattle.rules.specs.Grid.{index, voxel, touch, shareFace, neighbour, block}
+use Rattle.rules.specs.Grid.{index, voxel, touch, shareFace, neighbour, neighbourhood}
 use Rattle.rules.specs.Begin.{exposed}
 use Rattle.rules.specs.Body.{bodyOf, eulerOf}
 use Rattle.rules.specs.Meaning.{found}
@@ -39,23 +39,23 @@ module _ (s : Sides) (kept : ℕ → Bool) (opened : ℕ) (number : ℤ) (shape 
   still-inner : AllInner s (omit kept i)
   still-inner j e = shape .inner j (omit-true kept i j e .0)
 
-  pub shape-passed : passes (test (block s kept i)) ≡ true → Shape s (omit kept i) opened number
+  pub shape-passed : passes (test (neighbourhood s kept i)) ≡ true → Shape s (omit kept i) opened number
   shape-passed e =
       record {
         inner = still-inner;
         outside = removal-background s kept (shape .inner) i ki (passes-exposed s kept i e) (shape .outside);
         counted = shape .counted ∙ sym (passing-euler s kept (shape .inner) i ki e);
-        unopened = λ z. let h = shape .unopened z in (removal-body s kept (shape .inner) i ki (passes-parts (test (block s kept i)) e .0) (h .0), h .1);
+        unopened = λ z. let h = shape .unopened z in (removal-body s kept (shape .inner) i ki (passes-parts (test (neighbourhood s kept i)) e .0) (h .0), h .1);
       }
 
   pub shape-opened : exposed s kept i ≡ true
-      → Shape s (omit kept i) (suc opened) (number +ℤ (pos (test (block s kept i) .k) -ℤ pos (test (block s kept i) .m)))
+      → Shape s (omit kept i) (suc opened) (number +ℤ (pos (test (neighbourhood s kept i) .k) -ℤ pos (test (neighbourhood s kept i) .m)))
   shape-opened e =
       record {
         inner = still-inner;
         outside = removal-background s kept (shape .inner) i ki e (shape .outside);
         counted =
-            ap (λ (q : ℤ). q +ℤ (pos (test (block s kept i) .k) -ℤ pos (test (block s kept i) .m))) (shape .counted)
+            ap (λ (q : ℤ). q +ℤ (pos (test (neighbourhood s kept i) .k) -ℤ pos (test (neighbourhood s kept i) .m))) (shape .counted)
             ∙ sym (removal-euler s kept (shape .inner) i ki);
         unopened = λ z. let f : ⊥ = omega arith in absurd f;
       }
@@ -90,23 +90,23 @@ module _ (s : Sides) (S : ℕ → Bool) where
   -- a move of a call that pins these voxels
   pub data Move (pins : ℕ → Bool) (g : Sets) : Sets → Type 0 where
     -- examined, and it stays: it does not pass, or it is pinned
-    stayed : (i : ℕ) → g .pending i ≡ true → (passes (test (block s (g .kept) i)) && not (pins i)) ≡ false
+    stayed : (i : ℕ) → g .pending i ≡ true → (passes (test (neighbourhood s (g .kept) i)) && not (pins i)) ≡ false
         → Move pins g (record { kept = g .kept; pending = omit (g .pending) i; examined = suc (g .examined); removed = g .removed; opened = g .opened; number = g .number })
     -- examined, and gone
-    passed : (i : ℕ) → g .pending i ≡ true → pins i ≡ false → passes (test (block s (g .kept) i)) ≡ true
+    passed : (i : ℕ) → g .pending i ≡ true → pins i ≡ false → passes (test (neighbourhood s (g .kept) i)) ≡ true
         → Move pins g (gone pins g i (suc (g .examined)) (g .opened) (g .number))
     -- gone without an examination
-    taken : (i : ℕ) → g .kept i ≡ true → S i ≡ false → pins i ≡ false → passes (test (block s (g .kept) i)) ≡ true
+    taken : (i : ℕ) → g .kept i ≡ true → S i ≡ false → pins i ≡ false → passes (test (neighbourhood s (g .kept) i)) ≡ true
         → Move pins g (gone pins g i (g .examined) (g .opened) (g .number))
     opened-up : (i : ℕ) → g .kept i ≡ true → S i ≡ false → pins i ≡ false → exposed s (g .kept) i ≡ true
-        → Move pins g (gone pins g i (g .examined) (suc (g .opened)) (g .number +ℤ (pos (test (block s (g .kept) i) .k) -ℤ pos (test (block s (g .kept) i) .m))))
+        → Move pins g (gone pins g i (g .examined) (suc (g .opened)) (g .number +ℤ (pos (test (neighbourhood s (g .kept) i) .k) -ℤ pos (test (neighbourhood s (g .kept) i) .m))))
 
   -- held: every voxel that some call of the list pins, or more
   pub record Inv (held : ℕ → Bool) (total : ℕ) (g : Sets) : Type 0 where
     pub shape : Shape s (g .kept) (g .opened) (g .number)
     pub inside : (j : ℕ) → S j ≡ true → g .kept j ≡ true
     pub waiting : (j : ℕ) → g .pending j ≡ true → (g .kept j ≡ true) × (S j ≡ false)
-    pub failing : (j : ℕ) → g .kept j ≡ true → S j ≡ false → held j ≡ false → g .pending j ≡ false → passes (test (block s (g .kept) j)) ≡ false
+    pub failing : (j : ℕ) → g .kept j ≡ true → S j ≡ false → held j ≡ false → g .pending j ≡ false → passes (test (neighbourhood s (g .kept) j)) ≡ false
     pub bounded : g .examined + found s (g .pending) ≤ total + 26 * g .removed
     pub spent : found s (g .kept) + g .removed ≤ total
 
@@ -126,7 +126,7 @@ module _ (s : Sides) (S : ℕ → Bool) where
         shape = start .shape;
         inside = start .inside;
         waiting = start .waiting;
-        failing = λ j kj sj hj pj. elim (two (passes (test (block s kept j)))) [
+        failing = λ j kj sj hj pj. elim (two (passes (test (neighbourhood s kept j)))) [
           | inl e ↦ not-both (pending j) (start .surface j kj sj hj (passes-exposed s kept j e)) pj
           | inr e ↦ e
         ];
@@ -168,7 +168,7 @@ module _ (s : Sides) (S : ℕ → Bool) where
     unpinned j h = elim (two (pins j)) [ inl e ↦ not-both (held j) (sub j e) h | inr e ↦ e ]
 
     still-failing : (j : ℕ) → omit (g .kept) i j ≡ true → S j ≡ false → held j ≡ false → pendingAfter pins (g .kept) (g .pending) i j ≡ false
-        → passes (test (block s (omit (g .kept) i) j)) ≡ false
+        → passes (test (neighbourhood s (omit (g .kept) i) j)) ≡ false
     unfolding pendingAfter
     still-failing j kj sj hj wj =
         let t = omit-true (g .kept) i j kj in
@@ -186,7 +186,7 @@ module _ (s : Sides) (S : ℕ → Bool) where
     at-place-of p = index s (neighbour (voxel s i) p)
 
     around : List ℕ
-    around = map at-place-of places
+    around = map at-place-of positions
 
     touching-around : (j : ℕ) → omit (g .kept) i j ≡ true → touch s i j ≡ true → any (eqb j) around ≡ true
     unfolding around at-place-of
@@ -199,7 +199,7 @@ module _ (s : Sides) (S : ℕ → Bool) where
         let m = at-place (voxel s i) (voxel s j) p (a .1) (λ q. r .1 (sym (index-of j) ∙ ap (index s) (sym q) ∙ index-of i)) in
         let e : at-place-of p ≡ j =
         ap (index s) (at-same (voxel s i) (neighbour (voxel s i) p) (voxel s j) p (neighbour-at s (voxel s i) u p (a .1 .low) .0) (a .1)) ∙ index-of j in
-        true-any (eqb j) (map at-place-of places) (at-place-of p) (mem-map at-place-of places p m) (eq-eqb j (at-place-of p) (sym e))
+        true-any (eqb j) (map at-place-of positions) (at-place-of p) (mem-map at-place-of positions p m) (eq-eqb j (at-place-of p) (sym e))
 
     woken-found : found s (pendingAfter pins (g .kept) (g .pending) i) ≤ found s (omit (g .pending) i) + 26
     unfolding around
@@ -244,7 +244,7 @@ module _ (s : Sides) (S : ℕ → Bool) where
         waiting = λ j h. inv .waiting j (omit-true (g .pending) i j h .0);
         failing = λ j kj sj hj pj. elim (two (g .pending j)) [
           | inl h ↦ elim (omit-split (g .pending) i j h) [
-            | inl q ↦ ap (λ (n : ℕ). passes (test (block s (g .kept) n))) q ∙ fails (ap pins (sym q) ∙ free j hj)
+            | inl q ↦ ap (λ (n : ℕ). passes (test (neighbourhood s (g .kept) n))) q ∙ fails (ap pins (sym q) ∙ free j hj)
             | inr w ↦ not-both (omit (g .pending) i j) w pj
           ]
           | inr h ↦ inv .failing j kj sj hj h
@@ -256,8 +256,8 @@ module _ (s : Sides) (S : ℕ → Bool) where
       free : (j : ℕ) → held j ≡ false → pins j ≡ false
       free j h = elim (two (pins j)) [ inl e ↦ not-both (held j) (sub j e) h | inr e ↦ e ]
 
-      fails : pins i ≡ false → passes (test (block s (g .kept) i)) ≡ false
-      fails f = elim (and-false (passes (test (block s (g .kept) i))) (not (pins i)) e) [ inl h ↦ h | inr h ↦ not-both (pins i) (not-false (pins i) h) f ]
+      fails : pins i ≡ false → passes (test (neighbourhood s (g .kept) i)) ≡ false
+      fails f = elim (and-false (passes (test (neighbourhood s (g .kept) i))) (not (pins i)) e) [ inl h ↦ h | inr h ↦ not-both (pins i) (not-false (pins i) h) f ]
   move-keeps held total pins sub {g} inv (passed i pi fi e) =
       let w = inv .waiting i pi in
       inv-gone held total pins sub g inv i (w .0) (w .1) (suc (g .examined)) (g .opened) (g .number)
@@ -268,7 +268,7 @@ module _ (s : Sides) (S : ℕ → Bool) where
       (shape-passed s (g .kept) (g .opened) (g .number) (inv .shape) i ki e)
       (omega (arith, fewer held total pins sub g inv i ki si, inv .bounded))
   move-keeps held total pins sub {g} inv (opened-up i ki si fi e) =
-      inv-gone held total pins sub g inv i ki si (g .examined) (suc (g .opened)) (g .number +ℤ (pos (test (block s (g .kept) i) .k) -ℤ pos (test (block s (g .kept) i) .m)))
+      inv-gone held total pins sub g inv i ki si (g .examined) (suc (g .opened)) (g .number +ℤ (pos (test (neighbourhood s (g .kept) i) .k) -ℤ pos (test (neighbourhood s (g .kept) i) .m)))
       (shape-opened s (g .kept) (g .opened) (g .number) (inv .shape) i ki e)
       (omega (arith, fewer held total pins sub g inv i ki si, inv .bounded))
 

@@ -8,23 +8,23 @@ use native.Mathlib.Decide.{ℕ-discrete}
 use lib.Dec.{leb, ltb, eqb}
 use lib.IntN.{pos, _+ℤ_, _-ℤ_, +ℤ-idr}
 use borrow.Author.Tests.{leb-false, lt-ltb, eqb-true, eq-eqb}
-use Rattle.cells.specs.Groups.{any, those}
+use Rattle.cells.specs.Groups.{any, filter}
 use Rattle.cells.specs.Linked.{Linked, OnePiece}
 use Rattle.cells.specs.Classes.{cells, among}
-use Rattle.cells.specs.Cells.{contains, joined, places, touched, Test, testOf, test, passes}
+use Rattle.cells.specs.Cells.{contains, joined, positions, touched, Test, testOf, test, passes}
 use Rattle.prelude.proofs.Bools.{and-true, true-and, or-true, or-false, both-ways, not-true, not-false, not-both, two, and-zero}
 use Rattle.prelude.proofs.Lists.{Mem, any-true, true-any, any-false, any-ext}
 use Rattle.cells.proofs.GroupsAre.{mem-among, cells-one-piece}
 use Rattle.closed_sets.proofs.EveryBlock.{contains-self, bare-face}
 use Rattle.rules.specs.declared.Sides.{Sides}
-use Rattle.rules.specs.Grid.{Voxel, index, voxel, size, gap, touch, apart, steps, shareFace, neighbour, blockOf, block, facePlaces}
+use Rattle.rules.specs.Grid.{Voxel, index, voxel, size, gap, touch, apart, taxicab, shareFace, neighbour, neighbourhoodOf, neighbourhood, facePositions}
 use Rattle.rules.specs.Begin.{exposed}
 use Rattle.rules.specs.Body.{bodyOf, eulerOf}
 use Rattle.rules.proofs.Places.{InGrid, voxel-index, index-voxel, index-lt, voxel-in}
 use Rattle.rules.proofs.Inside.{touch-back}
 use Rattle.rules.proofs.Topology.Cells.{Gone, euler-gone}
 use Rattle.rules.proofs.Topology.Links.{one-taken, one-put, cells-carry}
-use Rattle.rules.proofs.Topology.Around.{Close, touch-close, close-touch, At, close-at, Inner, inner-in, neighbour-at, block-at, place-low, at-place}
+use Rattle.rules.proofs.Topology.Around.{Close, touch-close, close-touch, At, close-at, Inner, inner-in, neighbour-at, neighbourhood-at, place-low, at-place}
 use Rattle.rules.proofs.Topology.Around.{Contains, contains-close, contains-border}
 use Rattle.rules.proofs.Topology.Surface.{omit, omit-true, true-omit, body-true, body-in, touched-contains, contains-touched, surface-euler}
 
@@ -45,23 +45,23 @@ omit-split p i j e = elim (ℕ-discrete j i) [ yes q ↦ inl q | no n ↦ inr (t
 
 -- ---- the local test sees only the 26 places
 
-pub test-ext : (f g : ℕ → Bool) → ((p : ℕ) → Mem p places → f p ≡ g p) → test f ≡ test g
+pub test-ext : (f g : ℕ → Bool) → ((p : ℕ) → Mem p positions → f p ≡ g p) → test f ≡ test g
 unfolding test touched
 test-ext f g h =
-    ap (λ (t : ℕ → Bool). testOf (those t places) (those (λ c. not (t c)) places))
-    (fun-ext (λ c. any-ext (λ v. contains v c && f v) (λ v. contains v c && g v) places (λ v m. ap (λ (t : Bool). contains v c && t) (h v m))))
+    ap (λ (t : ℕ → Bool). testOf (filter t positions) (filter (λ c. not (t c)) positions))
+    (fun-ext (λ c. any-ext (λ v. contains v c && f v) (λ v. contains v c && g v) positions (λ v m. ap (λ (t : Bool). contains v c && t) (h v m))))
 
 pub passes-parts : (t : Test) → passes t ≡ true → (t .k ≡ 1) × (t .m ≡ 1)
 unfolding passes
 passes-parts t e = let r = and-true (eqb (t .k) 1) (eqb (t .m) 1) e in (eqb-true (t .k) 1 (r .0), eqb-true (t .m) 1 (r .1))
 
 -- a voxel that passes has a face neighbour that is not kept
-pub passes-exposed : (s : Sides) (kept : ℕ → Bool) (i : ℕ) → passes (test (block s kept i)) ≡ true → exposed s kept i ≡ true
+pub passes-exposed : (s : Sides) (kept : ℕ → Bool) (i : ℕ) → passes (test (neighbourhood s kept i)) ≡ true → exposed s kept i ≡ true
 unfolding exposed
 passes-exposed s kept i e =
-    let m : test (block s kept i) .m ≡ 1 = passes-parts (test (block s kept i)) e .1 in
-    let f = bare-face (block s kept i) (omega arith) in
-    true-any (λ p. not (block s kept i p)) facePlaces (f .0) (f .1) (ap not (f .3))
+    let m : test (neighbourhood s kept i) .m ≡ 1 = passes-parts (test (neighbourhood s kept i)) e .1 in
+    let f = bare-face (neighbourhood s kept i) (omega arith) in
+    true-any (λ p. not (neighbourhood s kept i p)) facePositions (f .0) (f .1) (ap not (f .3))
 
 -- ---- voxels that share a face
 
@@ -69,19 +69,19 @@ gap-place : (u v d : ℕ) → suc v ≡ u + d → gap u v ≡ gap d 1
 unfolding gap
 gap-place u v d h = omega arith
 
-pub face-steps : (f : ℕ) → Mem f facePlaces → (gap (f % 3) 1 + gap (f / 3 % 3) 1 + gap (f / 9) 1 ≡ 1) × (f < 27)
+pub face-taxicab : (f : ℕ) → Mem f facePositions → (gap (f % 3) 1 + gap (f / 3 % 3) 1 + gap (f / 9) 1 ≡ 1) × (f < 27)
 unfolding any gap
-face-steps f m =
+face-taxicab f m =
     let d : ℕ → ℕ = λ f. gap (f % 3) 1 + gap (f / 3 % 3) 1 + gap (f / 9) 1 in
-    let h = or-false (not (eqb (d f) 1)) (leb 27 f) (any-false (λ f. not (eqb (d f) 1) || leb 27 f) facePlaces refl f m) in
+    let h = or-false (not (eqb (d f) 1)) (leb 27 f) (any-false (λ f. not (eqb (d f) 1) || leb 27 f) facePositions refl f m) in
     (eqb-true (d f) 1 (not-false (eqb (d f) 1) (h .0)), leb-false 27 f (h .1))
 
-pub face-at : (u v : Voxel) (f : ℕ) → Mem f facePlaces → At u v f → apart u v ≡ 1
+pub face-at : (u v : Voxel) (f : ℕ) → Mem f facePositions → At u v f → apart u v ≡ 1
 unfolding apart
 face-at u v f m a =
     omega (
       arith,
-      face-steps f m .0,
+      face-taxicab f m .0,
       gap-place (u .x) (v .x) (f % 3) (a .x-at),
       gap-place (u .y) (v .y) (f / 3 % 3) (a .y-at),
       gap-place (u .z) (v .z) (f / 9) (a .z-at),
@@ -92,7 +92,7 @@ unfolding gap
 gap-turn u v = omega arith
 
 pub face-turn : (s : Sides) (i j : ℕ) → shareFace s i j ≡ true → shareFace s j i ≡ true
-unfolding shareFace steps apart
+unfolding shareFace taxicab apart
 face-turn s i j e =
     let u = voxel s i in
     let v = voxel s j in
@@ -151,16 +151,16 @@ module _ (s : Sides) (kept : ℕ → Bool) (all : AllInner s kept) (i : ℕ) (ki
           body-in s left v (b .0) ∙ true-omit kept i (index s v) (b .1) (λ q. n (sym (voxel-of v (b .0)) ∙ ap (voxel s) q)))
           (λ e. let b = body-true s left v e in body-in s kept v (b .0) ∙ omit-true kept i (index s v) (b .1) .0)
 
-  pub removal-euler : eulerOf s (bodyOf s left) ≡ eulerOf s (bodyOf s kept) +ℤ (pos (test (block s kept i) .k) -ℤ pos (test (block s kept i) .m))
-  unfolding block
+  pub removal-euler : eulerOf s (bodyOf s left) ≡ eulerOf s (bodyOf s kept) +ℤ (pos (test (neighbourhood s kept i) .k) -ℤ pos (test (neighbourhood s kept i) .m))
+  unfolding neighbourhood
   removal-euler =
-      euler-gone s (voxel s i .x) (voxel s i .y) (voxel s i .z) (bodyOf s kept) (bodyOf s left) gone (test (block s kept i) .k) (test (block s kept i) .m)
+      euler-gone s (voxel s i .x) (voxel s i .y) (voxel s i .z) (bodyOf s kept) (bodyOf s left) gone (test (neighbourhood s kept i) .k) (test (neighbourhood s kept i) .m)
       (rw (← others-left) (surface-euler s kept (voxel s i) inner))
 
   -- a voxel that passes leaves the Euler number as it was
-  pub passing-euler : passes (test (block s kept i)) ≡ true → eulerOf s (bodyOf s left) ≡ eulerOf s (bodyOf s kept)
+  pub passing-euler : passes (test (neighbourhood s kept i)) ≡ true → eulerOf s (bodyOf s left) ≡ eulerOf s (bodyOf s kept)
   passing-euler e =
-      let t = passes-parts (test (block s kept i)) e in
+      let t = passes-parts (test (neighbourhood s kept i)) e in
       removal-euler ∙ ap₂ (λ (k m : ℕ). eulerOf s (bodyOf s kept) +ℤ (pos k -ℤ pos m)) (t .0) (t .1) ∙ +ℤ-idr (eulerOf s (bodyOf s kept))
 
   -- ---- the body
@@ -173,10 +173,10 @@ module _ (s : Sides) (kept : ℕ → Bool) (all : AllInner s kept) (i : ℕ) (ki
   left-in : (j : ℕ) → left j ≡ true → (j < size s) × (j ≢ i)
   left-in j e = let r = omit-true kept i j e in (all j (r .0) .0, r .1)
 
-  holder : (c : ℕ) → cells (touched (block s kept i)) c ≡ true → (j : ℕ) × (left j ≡ true) × (Holds c j)
-  unfolding block
+  holder : (c : ℕ) → cells (touched (neighbourhood s kept i)) c ≡ true → (j : ℕ) × (left j ≡ true) × (Holds c j)
+  unfolding neighbourhood
   holder c e =
-      let r = touched-contains s kept (voxel s i) inner c (and-true (among places c) (touched (block s kept i) c) e .1) in
+      let r = touched-contains s kept (voxel s i) inner c (and-true (among positions c) (touched (neighbourhood s kept i) c) e .1) in
       let v = r .0 in (
         index s v,
         ap (λ (f : ℕ → Bool). f (index s v)) (sym others-left) ∙ r .2,
@@ -184,8 +184,8 @@ module _ (s : Sides) (kept : ℕ → Bool) (all : AllInner s kept) (i : ℕ) (ki
       )
 
   -- a neighbour that stays contains a touched cell
-  shares : (j : ℕ) → left j ≡ true → touch s i j ≡ true → (c : ℕ) × (cells (touched (block s kept i)) c ≡ true) × (Holds c j)
-  unfolding block
+  shares : (j : ℕ) → left j ≡ true → touch s i j ≡ true → (c : ℕ) × (cells (touched (neighbourhood s kept i)) c ≡ true) × (Holds c j)
+  unfolding neighbourhood
   shares j e t =
       let h = left-in j e in
       let r = close-at (voxel s i) (voxel s j) (touch-close s i j t) in
@@ -193,7 +193,7 @@ module _ (s : Sides) (kept : ℕ → Bool) (all : AllInner s kept) (i : ℕ) (ki
       let n : voxel s i ≢ voxel s j = λ q. h .1 (sym (index-of j) ∙ ap (index s) (sym q) ∙ index-u) in
       let c : Contains (voxel s i) p (voxel s j) = record { place = p; at = r .1; has = contains-self p } in (
         p,
-        true-and (among places p) (touched (block s kept i) p) (mem-among places p (at-place (voxel s i) (voxel s j) p (r .1) n))
+        true-and (among positions p) (touched (neighbourhood s kept i) p) (mem-among positions p (at-place (voxel s i) (voxel s j) p (r .1) n))
             (contains-touched s kept (voxel s i) inner p (voxel s j) (in-grid j (h .0))
             (ap (λ (f : ℕ → Bool). f (index s (voxel s j))) others-left ∙ ap left (index-of j) ∙ e) c),
         record { in-size = h .0; holds = c },
@@ -207,12 +207,12 @@ module _ (s : Sides) (kept : ℕ → Bool) (all : AllInner s kept) (i : ℕ) (ki
         | inr h ↦ inl (λ j k. record { in-size = k .in-size; holds = contains-border (voxel s i) d c (voxel s j) h (k .holds) })
       ]
 
-  k-is-one : test (block s kept i) .k ≡ 1 → OnePiece (cells (touched (block s kept i))) joined
+  k-is-one : test (neighbourhood s kept i) .k ≡ 1 → OnePiece (cells (touched (neighbourhood s kept i))) joined
   unfolding test testOf
-  k-is-one e = cells-one-piece (touched (block s kept i)) e
+  k-is-one e = cells-one-piece (touched (neighbourhood s kept i)) e
 
   -- a body in one piece stays so if the touched cells of the voxel are one group
-  pub removal-body : test (block s kept i) .k ≡ 1 → OnePiece kept (touch s) → OnePiece left (touch s)
+  pub removal-body : test (neighbourhood s kept i) .k ≡ 1 → OnePiece kept (touch s) → OnePiece left (touch s)
   removal-body one =
       one-taken kept left (touch s) i (omit-self kept i) (omit-split kept i) bridge (λ j e. omit-true kept i j e .0)
     where
@@ -223,21 +223,21 @@ module _ (s : Sides) (kept : ℕ → Bool) (all : AllInner s kept) (i : ℕ) (ki
       bridge n o ln lo tn to =
           let p = shares n ln (touch-back s n i tn) in
           let q = shares o lo to in
-          cells-carry left (touch s) (cells (touched (block s kept i))) joined Holds held holder border
+          cells-carry left (touch s) (cells (touched (neighbourhood s kept i))) joined Holds held holder border
           (k-is-one one (p .0) (q .0) (p .1) (q .1)) n o ln (p .2) lo (q .2)
 
   -- ---- the background
 
   open-face : exposed s kept i ≡ true → (n : ℕ) × (background s kept n ≡ true) × (shareFace s i n ≡ true)
-  unfolding exposed block shareFace steps
+  unfolding exposed neighbourhood shareFace taxicab
   open-face e =
-      let r = any-true (λ p. not (block s kept i p)) facePlaces e in
+      let r = any-true (λ p. not (neighbourhood s kept i p)) facePositions e in
       let f = r .0 in
-      let a = neighbour-at s (voxel s i) inner f (face-steps f (r .1) .1) in
+      let a = neighbour-at s (voxel s i) inner f (face-taxicab f (r .1) .1) in
       let v : Voxel = neighbour (voxel s i) f in (
         index s v,
         true-and (ltb (index s v) (size s)) (not (kept (index s v))) (lt-ltb (index s v) (size s) (index-lt s v (a .1)))
-            (ap not (sym (block-at s kept (voxel s i) v f inner (a .0))) ∙ r .2),
+            (ap not (sym (neighbourhood-at s kept (voxel s i) v f inner (a .0))) ∙ r .2),
         ap (λ (w : Voxel). eqb (apart (voxel s i) w) 1) (voxel-of v (a .1)) ∙ eq-eqb (apart (voxel s i) v) 1 (face-at (voxel s i) v f (r .1) (a .0)),
       )
 
@@ -263,19 +263,19 @@ module _ (s : Sides) (kept : ℕ → Bool) (all : AllInner s kept) (i : ℕ) (ki
 
   -- ---- the local test of a voxel that does not touch i
 
-  pub removal-elsewhere : (j : ℕ) → kept j ≡ true → touch s i j ≡ false → test (block s left j) ≡ test (block s kept j)
-  unfolding block
-  removal-elsewhere j kj far = test-ext (block s left j) (block s kept j) same
+  pub removal-elsewhere : (j : ℕ) → kept j ≡ true → touch s i j ≡ false → test (neighbourhood s left j) ≡ test (neighbourhood s kept j)
+  unfolding neighbourhood
+  removal-elsewhere j kj far = test-ext (neighbourhood s left j) (neighbourhood s kept j) same
     where
-      same : (p : ℕ) → Mem p places → blockOf s left (voxel s j) p ≡ blockOf s kept (voxel s j) p
+      same : (p : ℕ) → Mem p positions → neighbourhoodOf s left (voxel s j) p ≡ neighbourhoodOf s kept (voxel s j) p
       same p m =
           let h = all j kj .1 in
           let a = neighbour-at s (voxel s j) h p (place-low p m .0) in
           let v : Voxel = neighbour (voxel s j) p in
-          block-at s left (voxel s j) v p h (a .0)
+          neighbourhood-at s left (voxel s j) v p h (a .0)
           ∙ both-ways (left (index s v)) (kept (index s v)) (λ e. omit-true kept i (index s v) e .0)
           (λ e. elim (omit-split kept i (index s v) e) [ inl q ↦ not-both (touch s i j) (meets v (a .1) (a .0) q) far | inr l ↦ l ])
-          ∙ sym (block-at s kept (voxel s j) v p h (a .0))
+          ∙ sym (neighbourhood-at s kept (voxel s j) v p h (a .0))
         where
           meets : (v : Voxel) → InGrid s v → At (voxel s j) v p → index s v ≡ i → touch s i j ≡ true
           meets v g a q =

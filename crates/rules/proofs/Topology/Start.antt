@@ -13,20 +13,20 @@ use borrow.Author.Tests.{lt-ltb, le-ltb, eqb-false}
 use Rattle.prelude.proofs.Bools.{and-true, true-and, or-false, not-true, not-both}
 use Rattle.prelude.proofs.Lists.{Mem, any-ext}
 use Rattle.rules.specs.declared.Sides.{Sides}
-use Rattle.rules.specs.Grid.{size, Voxel, index, voxel, voxels, end, onBorder, neighbour, block, facePlaces, measuredNegative, measuredNonNegative}
+use Rattle.rules.specs.Grid.{size, Voxel, index, voxel, voxels, end, onBorder, neighbour, neighbourhood, facePositions, measuredNegative, measuredNonNegative}
 use Rattle.rules.specs.Grid.{isNegative, valueAt}
 use Rattle.rules.specs.Begin.{least, greatest, isIn, inside, facing, greatestFacing, distance, workedAt, worked, inBox, exposed, statusAt, startStatus}
 use Rattle.rules.specs.Status.{statusOf, keptByte, pendingByte, isKept, isPending}
 use Rattle.rules.specs.Machine.{isInside}
 use Rattle.rules.specs.Meaning.{found, negative}
-use Rattle.prelude.proofs.Ranges.{getD-map-from, length-map-from}
+use Rattle.prelude.proofs.Ranges.{getD-map-range, length-map-range}
 use Rattle.rules.proofs.Places.{Fit, index-lt}
 use Rattle.rules.proofs.InsideLeast.{least-le, least-is, le-greatest, greatest-is, mem-map, map-mem}
 use Rattle.rules.proofs.Inside.{isIn-mem, mem-isIn, inside-some, inside-members, negative-lt}
 use Rattle.rules.proofs.Distance.{voxel-inside}
 use Rattle.rules.proofs.Boxes.{in-box, inside-off-border}
-use Rattle.rules.proofs.Topology.Around.{Inner, neighbour-at, block-at}
-use Rattle.rules.proofs.Topology.Removal.{face-steps}
+use Rattle.rules.proofs.Topology.Around.{Inner, neighbour-at, neighbourhood-at}
+use Rattle.rules.proofs.Topology.Removal.{face-taxicab}
 use Rattle.rules.proofs.Topology.Count.{found-same}
 use Rattle.rules.proofs.Topology.Moves.{Shape, Inv, Start, start-inv}
 use Rattle.rules.proofs.Topology.BoxCells.{among, Bounds, box}
@@ -139,11 +139,11 @@ module _ (s : Sides) (S : List ℕ) (K : ℕ → Bool) (shape : Shape s (inGrid 
 
   status-lent : length started ≡ size s
   unfolding startStatus voxels
-  status-lent = length-map-from (statusAt s S K) (size s)
+  status-lent = length-map-range (statusAt s S K) (size s)
 
   status-start : (j : ℕ) → j < size s → statusOf started j ≡ statusAt s S K j
   unfolding startStatus voxels
-  status-start j h = getD-map-from (statusAt s S K) 0 (size s) j h
+  status-start j h = getD-map-range (statusAt s S K) 0 (size s) j h
 
   -- pending at first
   abbrev waits : ℕ → Bool
@@ -173,14 +173,14 @@ module _ (s : Sides) (S : List ℕ) (K : ℕ → Bool) (shape : Shape s (inGrid 
 
   -- the body by index has the same face neighbours
   exposed-same : (j : ℕ) → inGrid s K j ≡ true → exposed s K j ≡ exposed s (inGrid s K) j
-  unfolding exposed block
+  unfolding exposed neighbourhood
   exposed-same j e =
-      any-ext (λ p. not (block s K j p)) (λ p. not (block s (inGrid s K) j p)) facePlaces (λ p m.
+      any-ext (λ p. not (neighbourhood s K j p)) (λ p. not (neighbourhood s (inGrid s K) j p)) facePositions (λ p m.
       let u = shape .inner j e .1 in
-      let a = neighbour-at s (voxel s j) u p (face-steps p m .1) in
+      let a = neighbour-at s (voxel s j) u p (face-taxicab p m .1) in
       let w : Voxel = neighbour (voxel s j) p in
       ap not (
-      block-at s K (voxel s j) w p u (a .0) ∙ sym (body-in-grid (index s w) (index-lt s w (a .1))) ∙ sym (block-at s (inGrid s K) (voxel s j) w p u (a .0))))
+      neighbourhood-at s K (voxel s j) w p u (a .0) ∙ sym (body-in-grid (index s w) (index-lt s w (a .1))) ∙ sym (neighbourhood-at s (inGrid s K) (voxel s j) w p u (a .0))))
 
   -- what holds at the start, whatever voxels are held
   pub start-sound : (held : ℕ → Bool) → Sound s (isIn S) held (found s K) started (tally 0 0 0 (pos 1))
@@ -245,7 +245,7 @@ unfolding isInside worked workedAt voxels
 worked-signs s values i h =
     let S = inside s values in
     let M = greatestFacing s values S in
-    ap (λ (w : ℤ). isNegative w) (getD-map-from (workedAt s values S M) (pos 0) (size s) i h)
+    ap (λ (w : ℤ). isNegative w) (getD-map-range (workedAt s values S M) (pos 0) (size s) i h)
     ∙ worked-sign (isIn S i) (measuredNonNegative (valueAt values i)) (facing s S i) (valueAt values i) (cond (facing s S i) M (M + distance s S i))
     (λ m. negative-sign (valueAt values i) (and-true (ltb i (size s)) (measuredNegative (valueAt values i)) (inside-members s values i m) .1))
     (non-negative-sign (valueAt values i))

@@ -13,10 +13,10 @@ use borrow.Author.Tests.{eq-eqb, ne-eqb}
 use Rattle.cells.specs.Cells.{test, passes}
 use Rattle.prelude.proofs.Bools.{and-zero, and-one, not-both}
 use Rattle.rules.specs.declared.Sides.{Sides}
-use Rattle.rules.specs.Grid.{size, voxels, touch, block}
+use Rattle.rules.specs.Grid.{size, voxels, touch, neighbourhood}
 use Rattle.rules.specs.Begin.{exposed}
 use Rattle.rules.specs.Status.{statusOf, keptByte, pendingByte, rested, isKept, isPending, removable, testAt, statusWithout, without, examinedAs, examine}
-use Rattle.prelude.proofs.Ranges.{getD-map-from, length-map-from}
+use Rattle.prelude.proofs.Ranges.{getD-map-range, length-map-range}
 use Rattle.rules.proofs.Topology.Surface.{omit}
 use Rattle.rules.proofs.Topology.Moves.{Sets, pendingAfter, gone, Move, stayed, passed, taken, opened-up, Inv, move-keeps}
 use Rattle.rules.proofs.Topology.Bytes.{rested-kept, rested-pending, still-kept, now-pending}
@@ -69,11 +69,11 @@ module _ (s : Sides) (S pins held free : ℕ → Bool) (total : ℕ) (within : (
 
   status-without : (i j : ℕ) → j < size s → statusOf (without s free status i) j ≡ statusWithout s free status i j
   unfolding without voxels
-  status-without i j h = getD-map-from (statusWithout s free status i) 0 (size s) j h
+  status-without i j h = getD-map-range (statusWithout s free status i) 0 (size s) j h
 
   pub length-without : (i : ℕ) → length (without s free status i) ≡ size s
   unfolding without voxels
-  length-without i = length-map-from (statusWithout s free status i) (size s)
+  length-without i = length-map-range (statusWithout s free status i) (size s)
 
   kept-at : (i j : ℕ) → j < size s → isKept (without s free status i) j ≡ omit (isKept status) i j
   unfolding statusWithout removable isKept omit
@@ -138,7 +138,7 @@ module _ (s : Sides) (S pins held free : ℕ → Bool) (total : ℕ) (within : (
       (tally (t .examined) (suc (t .removed)) (suc (t .opened)) (t .number +ℤ (pos (testAt s status i .k) -ℤ pos (testAt s status i .m))))
   unfolding testAt
   sound-opened i ki si fi e =
-      sound-gone i (t .examined) (suc (t .opened)) (t .number +ℤ (pos (test (block s (isKept status) i) .k) -ℤ pos (test (block s (isKept status) i) .m)))
+      sound-gone i (t .examined) (suc (t .opened)) (t .number +ℤ (pos (test (neighbourhood s (isKept status) i) .k) -ℤ pos (test (neighbourhood s (isKept status) i) .m)))
       (keeps (opened-up i ki si fi e))
 
   sound-passed : (i : ℕ) → isPending status i ≡ true → pins i ≡ false → passes (testAt s status i) ≡ true

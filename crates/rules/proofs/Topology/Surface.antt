@@ -8,18 +8,18 @@ use native.Mathlib.Omega.{arith}
 use lib.Dec.{ltb, eqb}
 use lib.ListN.{length}
 use borrow.Author.Tests.{ltb-true, lt-ltb, eqb-true, eqb-false, eq-eqb, ne-eqb}
-use Rattle.cells.specs.Groups.{those, consIf}
-use Rattle.cells.specs.Cells.{spans, contains, places, touched, bit, dimension, countOf, testOf, test}
+use Rattle.cells.specs.Groups.{filter, consIf}
+use Rattle.cells.specs.Cells.{spans, contains, positions, touched, bit, dimension, countOf, testOf, test}
 use Rattle.prelude.proofs.Bools.{and-true, true-and, or-true, true-or, both-ways, not-true}
 use Rattle.prelude.proofs.Lists.{Mem, here, there, any-true, true-any}
 use Rattle.closed_sets.proofs.EveryBlock.{euler}
 use Rattle.rules.specs.declared.Sides.{Sides}
-use Rattle.rules.specs.Grid.{Voxel, index, voxel, neighbour, blockOf}
+use Rattle.rules.specs.Grid.{Voxel, index, voxel, neighbour, neighbourhoodOf}
 use Rattle.rules.specs.Body.{Voxels, bodyOf, Piece, plane, stretch, covered, Has}
 use Rattle.rules.proofs.Places.{InGrid, voxel-index}
 use Rattle.rules.proofs.Topology.Sum.{win, win3}
 use Rattle.rules.proofs.Topology.Cells.{covered-in, covered-out, countAt}
-use Rattle.rules.proofs.Topology.Around.{At, at-middle, close-at, Inner, inner-in, neighbour-at, block-at, place-low, at-place, Contains}
+use Rattle.rules.proofs.Topology.Around.{At, at-middle, close-at, Inner, inner-in, neighbour-at, neighbourhood-at, place-low, at-place, Contains}
 use Rattle.rules.proofs.Topology.Around.{contains-spans, spans-contains}
 
 -- a set of indices without one
@@ -93,29 +93,29 @@ module _ (s : Sides) (kept : ℕ → Bool) (u : Voxel) (inner : Inner s u) where
       n (sym (voxel-index s u (h .x-in) (h .y-in)) ∙ ap (voxel s) (sym e) ∙ voxel-index s v (g .x-in) (g .y-in))
 
   -- a cell is touched in the block exactly if another voxel of the body contains it
-  pub touched-contains : (c : ℕ) → touched (blockOf s kept u) c ≡ true → (v : Voxel) × (InGrid s v) × (others (index s v) ≡ true) × (Contains u c v)
+  pub touched-contains : (c : ℕ) → touched (neighbourhoodOf s kept u) c ≡ true → (v : Voxel) × (InGrid s v) × (others (index s v) ≡ true) × (Contains u c v)
   unfolding touched
   touched-contains c e =
-      let r = any-true (λ p. contains p c && blockOf s kept u p) places e in
+      let r = any-true (λ p. contains p c && neighbourhoodOf s kept u p) positions e in
       let p = r .0 in
       let low = place-low p (r .1) in
-      let t = and-true (contains p c) (blockOf s kept u p) (r .2) in
+      let t = and-true (contains p c) (neighbourhoodOf s kept u p) (r .2) in
       let n = neighbour-at s u inner p (low .0) in
       let v : Voxel = neighbour u p in
       let other : u ≢ v = λ q. low .1 (at-middle u p (subst (λ (w : Voxel). At u w p) (sym q) (n .0))) in (
         v,
         n .1,
-        true-omit kept (index s u) (index s v) (sym (block-at s kept u v p inner (n .0)) ∙ t .1) (other-index v (n .1) other),
+        true-omit kept (index s u) (index s v) (sym (neighbourhood-at s kept u v p inner (n .0)) ∙ t .1) (other-index v (n .1) other),
         record { place = p; at = n .0; has = t .0 },
       )
 
-  pub contains-touched : (c : ℕ) (v : Voxel) → InGrid s v → others (index s v) ≡ true → Contains u c v → touched (blockOf s kept u) c ≡ true
+  pub contains-touched : (c : ℕ) (v : Voxel) → InGrid s v → others (index s v) ≡ true → Contains u c v → touched (neighbourhoodOf s kept u) c ≡ true
   unfolding touched
   contains-touched c v g e h =
       let p = h .place in
       let r = omit-true kept (index s u) (index s v) e in
-      true-any (λ p. contains p c && blockOf s kept u p) places p (at-place u v p (h .at) (index-other v g (r .1)))
-      (true-and (contains p c) (blockOf s kept u p) (h .has) (block-at s kept u v p inner (h .at) ∙ r .0))
+      true-any (λ p. contains p c && neighbourhoodOf s kept u p) positions p (at-place u v p (h .at) (index-other v g (r .1)))
+      (true-and (contains p c) (neighbourhoodOf s kept u p) (h .has) (neighbourhood-at s kept u v p inner (h .at) ∙ r .0))
 
   abbrev rest : Voxels
   rest = bodyOf s others
@@ -123,10 +123,10 @@ module _ (s : Sides) (kept : ℕ → Bool) (u : Voxel) (inner : Inner s u) where
   abbrev isCovered : ℕ → Bool
   isCovered c = covered rest (pieceAt (u .x) (c % 3)) (pieceAt (u .y) (c / 3 % 3)) (pieceAt (u .z) (c / 9))
 
-  covered-touched : (c : ℕ) → c < 27 → isCovered c ≡ touched (blockOf s kept u) c
-  covered-touched c l = both-ways (isCovered c) (touched (blockOf s kept u) c) there back
+  covered-touched : (c : ℕ) → c < 27 → isCovered c ≡ touched (neighbourhoodOf s kept u) c
+  covered-touched c l = both-ways (isCovered c) (touched (neighbourhoodOf s kept u) c) there back
     where
-      there : isCovered c ≡ true → touched (blockOf s kept u) c ≡ true
+      there : isCovered c ≡ true → touched (neighbourhoodOf s kept u) c ≡ true
       there e =
           let h = covered-in rest (pieceAt (u .x) (c % 3)) (pieceAt (u .y) (c / 3 % 3)) (pieceAt (u .z) (c / 9)) e in
           let v : Voxel = record { x = h .x; y = h .y; z = h .z } in
@@ -146,7 +146,7 @@ module _ (s : Sides) (kept : ℕ → Bool) (u : Voxel) (inner : Inner s u) where
                 (has-spans (u .z) (h .z) (c / 9) (p / 9) (a .z-at) (omega arith) (h .has-z));
           })
 
-      back : touched (blockOf s kept u) c ≡ true → isCovered c ≡ true
+      back : touched (neighbourhoodOf s kept u) c ≡ true → isCovered c ≡ true
       back e =
           let r = touched-contains c e in
           let v = r .0 in
@@ -176,18 +176,18 @@ unfolding tally
 tally-ext d f g [] h = refl
 tally-ext d f g (c ∷ cs) h = ap₂ (λ (x y : ℕ). cond (eqb (dimension c) d) x 0 + y) (h c here) (tally-ext d f g cs (λ c m. h c (there m)))
 
-countOf-tally : (d : ℕ) (p : ℕ → Bool) (cs : List ℕ) → countOf d (those p cs) ≡ tally d (λ c. bit (p c)) cs
-unfolding tally countOf those
+countOf-tally : (d : ℕ) (p : ℕ → Bool) (cs : List ℕ) → countOf d (filter p cs) ≡ tally d (λ c. bit (p c)) cs
+unfolding tally countOf filter
 countOf-tally d p [] = refl
 countOf-tally d p (c ∷ cs) = go (p c) (eqb (dimension c) d) refl (countOf-tally d p cs)
   where
     q : ℕ → Bool
     q c = eqb (dimension c) d
 
-    go : (t e : Bool) → q c ≡ e → length (those q (those p cs)) ≡ tally d (λ c. bit (p c)) cs
-        → length (those q (consIf t c (those p cs))) ≡ cond e (bit t) 0 + tally d (λ c. bit (p c)) cs
-    go true true k h = ap (λ (e : Bool). length (consIf e c (those q (those p cs)))) k ∙ omega arith
-    go true false k h = ap (λ (e : Bool). length (consIf e c (those q (those p cs)))) k ∙ omega arith
+    go : (t e : Bool) → q c ≡ e → length (filter q (filter p cs)) ≡ tally d (λ c. bit (p c)) cs
+        → length (filter q (consIf t c (filter p cs))) ≡ cond e (bit t) 0 + tally d (λ c. bit (p c)) cs
+    go true true k h = ap (λ (e : Bool). length (consIf e c (filter q (filter p cs)))) k ∙ omega arith
+    go true false k h = ap (λ (e : Bool). length (consIf e c (filter q (filter p cs)))) k ∙ omega arith
     go false true k h = omega arith
     go false false k h = omega arith
 
@@ -195,25 +195,25 @@ module _ (s : Sides) (kept : ℕ → Bool) (u : Voxel) (inner : Inner s u) where
   abbrev counted : Bool → Bool → Bool → ℕ
   counted k l m = countAt (u .x) (u .y) (u .z) k l m (bodyOf s (omit kept (index s u)))
 
-  tally-touched : (d : ℕ) → countOf d (those (touched (blockOf s kept u)) places) ≡ tally d (λ c. bit (isCovered s kept u inner c)) places
+  tally-touched : (d : ℕ) → countOf d (filter (touched (neighbourhoodOf s kept u)) positions) ≡ tally d (λ c. bit (isCovered s kept u inner c)) positions
   tally-touched d =
-      countOf-tally d (touched (blockOf s kept u)) places
-      ∙ tally-ext d (λ c. bit (touched (blockOf s kept u) c)) (λ c. bit (isCovered s kept u inner c)) places
+      countOf-tally d (touched (neighbourhoodOf s kept u)) positions
+      ∙ tally-ext d (λ c. bit (touched (neighbourhoodOf s kept u) c)) (λ c. bit (isCovered s kept u inner c)) positions
       (λ c m. ap (λ (t : Bool). bit t) (sym (covered-touched s kept u inner c (place-low c m .0))))
 
-  corners-counted : test (blockOf s kept u) .corners ≡ counted true true true
+  corners-counted : test (neighbourhoodOf s kept u) .corners ≡ counted true true true
   unfolding test testOf tally dimension countAt win3 win
   corners-counted = tally-touched 0 ∙ omega arith
 
-  edges-counted : test (blockOf s kept u) .edges ≡ counted false true true + counted true false true + counted true true false
+  edges-counted : test (neighbourhoodOf s kept u) .edges ≡ counted false true true + counted true false true + counted true true false
   unfolding test testOf tally dimension countAt win3 win
   edges-counted = tally-touched 1 ∙ omega arith
 
-  faces-counted : test (blockOf s kept u) .faces ≡ counted true false false + counted false true false + counted false false true
+  faces-counted : test (neighbourhoodOf s kept u) .faces ≡ counted true false false + counted false true false + counted false false true
   unfolding test testOf tally dimension countAt win3 win
   faces-counted = tally-touched 2 ∙ omega arith
 
   -- Euler's formula on the voxel's surface, with the cells that the body without it covers
-  pub surface-euler : test (blockOf s kept u) .m + counted true true true + (counted true false false + counted false true false + counted false false true)
-      ≡ test (blockOf s kept u) .k + 1 + (counted false true true + counted true false true + counted true true false)
-  surface-euler = omega (arith, euler (blockOf s kept u), corners-counted, edges-counted, faces-counted)
+  pub surface-euler : test (neighbourhoodOf s kept u) .m + counted true true true + (counted true false false + counted false true false + counted false false true)
+      ≡ test (neighbourhoodOf s kept u) .k + 1 + (counted false true true + counted true false true + counted true true false)
+  surface-euler = omega (arith, euler (neighbourhoodOf s kept u), corners-counted, edges-counted, faces-counted)

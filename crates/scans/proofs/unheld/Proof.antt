@@ -9,7 +9,7 @@ use mir.Syntax.{w32}
 use mir.Val.{ofZ}
 use mir.Facts.{toZ-ofZ}
 use Rattle.cells.specs.Groups.{any}
-use Rattle.rules.specs.Grid.{from}
+use Rattle.rules.specs.Grid.{range}
 use Rattle.rules.specs.Machine.{isInside}
 use Rattle.scans.specs.Scans.{heldUp, unheldAt}
 use Rattle.prelude.proofs.Ranges.{any-run-none, scan-next}
@@ -19,7 +19,7 @@ use Rattle.scans.proofs.unheld.Statement.{statement}
 use Rattle.scans.proofs.unheld.Tie as tie
 
 abbrev Inv-loop : tie.InvT-loop
-Inv-loop dist status all₀ i₀ all i = (i ≤ length status) × (signBit all ≡ any (unheldAt dist status) (from 0 i))
+Inv-loop dist status all₀ i₀ all i = (i ≤ length status) × (signBit all ≡ any (unheldAt dist status) (range 0 i))
 
 abbrev μ-loop : tie.MeasureT-loop
 μ-loop dist status all₀ i₀ all i = length status - i
@@ -65,7 +65,7 @@ returns c =
     let l = c .before in
     let a = l .before .before .args in
     let e : l .loop .i ≡ length (a .status .now) = omega (arith, c .loop-test .left) in
-    sign-read (l .loop .all) ∙ l .loop .inv .1 ∙ ap (λ (n : ℕ). any (unheldAt (a .dist .now) (a .status .now)) (from 0 n)) e
+    sign-read (l .loop .all) ∙ l .loop .inv .1 ∙ ap (λ (n : ℕ). any (unheldAt (a .dist .now) (a .status .now)) (range 0 n)) e
 
 pub unheld-spec : {M : Type 1} → statement M
 unheld-spec =

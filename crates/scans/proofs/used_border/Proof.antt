@@ -5,7 +5,7 @@ use mathlib.Core.Path.{_≡_, ap, _∙_, sym}
 use Prim.Native.Nat.{ℕ, _-_, _*_, _≤_}
 use native.Mathlib.Nat.{mul-zero, mul-assoc}
 use Rattle.cells.specs.Groups.{any}
-use Rattle.rules.specs.Grid.{size, from}
+use Rattle.rules.specs.Grid.{size, range}
 use Rattle.scans.specs.Scans.{usedBorderAt}
 use Rattle.prelude.proofs.Ranges.{any-run-none, scan-join}
 use Rattle.rules.proofs.Rows.{layers-more}
@@ -13,7 +13,7 @@ use Rattle.scans.proofs.used_border.Statement.{statement}
 use Rattle.scans.proofs.used_border.Tie as tie
 
 abbrev Inv-loop : tie.InvT-loop
-Inv-loop s status c found₀ z₀ found z = (z ≤ c) × (found ≡ any (usedBorderAt s status) (from 0 (s .a * (s .b * z))))
+Inv-loop s status c found₀ z₀ found z = (z ≤ c) × (found ≡ any (usedBorderAt s status) (range 0 (s .a * (s .b * z))))
 
 abbrev μ-loop : tie.MeasureT-loop
 μ-loop s status c found₀ z₀ found z = c - z
@@ -50,7 +50,7 @@ returns c =
     let s = a .s in
     let e : l .loop .z ≡ s .c = omega (arith, c .loop-test .left) in
     l .loop .inv .1
-    ∙ ap (λ (n : ℕ). any (usedBorderAt s (a .status .now)) (from 0 n)) (ap (λ (z : ℕ). s .a * (s .b * z)) e ∙ sym (mul-assoc (s .a) (s .b) (s .c)))
+    ∙ ap (λ (n : ℕ). any (usedBorderAt s (a .status .now)) (range 0 n)) (ap (λ (z : ℕ). s .a * (s .b * z)) e ∙ sym (mul-assoc (s .a) (s .b) (s .c)))
 
 pub used-border-spec : {M : Type 1} → statement M
 used-border-spec =

@@ -5,7 +5,7 @@ use mathlib.Core.Path.{_≡_, ap, _∙_, sym}
 use Prim.Native.Nat.{ℕ, _-_, _*_, _≤_}
 use native.Mathlib.Nat.{mul-zero}
 use Rattle.cells.specs.Groups.{any}
-use Rattle.rules.specs.Grid.{from}
+use Rattle.rules.specs.Grid.{range}
 use Rattle.scans.specs.Scans.{usedBorderAt}
 use Rattle.prelude.proofs.Ranges.{any-run-none, scan-join}
 use Rattle.rules.proofs.Rows.{row-start, rows-more}
@@ -13,7 +13,7 @@ use Rattle.scans.proofs.used_layer.Statement.{statement}
 use Rattle.scans.proofs.used_layer.Tie as tie
 
 abbrev Inv-loop : tie.InvT-loop
-Inv-loop s status z b found₀ y₀ found y = (y ≤ b) × (found ≡ any (usedBorderAt s status) (from (s .a * (s .b * z)) (s .a * y)))
+Inv-loop s status z b found₀ y₀ found y = (y ≤ b) × (found ≡ any (usedBorderAt s status) (range (s .a * (s .b * z)) (s .a * y)))
 
 abbrev μ-loop : tie.MeasureT-loop
 μ-loop s status z b found₀ y₀ found y = b - y
@@ -46,7 +46,7 @@ returns c =
     let a = l .before .before .args in
     let s = a .s in
     let e : l .loop .y ≡ s .b = omega (arith, c .loop-test .left) in
-    l .loop .inv .1 ∙ ap (λ (y : ℕ). any (usedBorderAt s (a .status .now)) (from (s .a * (s .b * a .z)) (s .a * y))) e
+    l .loop .inv .1 ∙ ap (λ (y : ℕ). any (usedBorderAt s (a .status .now)) (range (s .a * (s .b * a .z)) (s .a * y))) e
 
 pub used-layer-spec : {M : Type 1} → statement M
 used-layer-spec =

@@ -4,7 +4,7 @@ use native.Mathlib.Omega.{arith}
 use Prim.Native.Nat.{ℕ, _+_, _-_, _*_}
 use borrow.Author.Needs.{needs}
 use Rattle.cells.specs.Groups.{any}
-use Rattle.rules.specs.Grid.{from}
+use Rattle.rules.specs.Grid.{range}
 use Rattle.scans.specs.Scans.{usedAt}
 use Rattle.scans.proofs.Borders.{RowIn, row-in, row-on-border, row-ends}
 use Rattle.scans.proofs.used_row.Statement.{statement}
@@ -40,7 +40,7 @@ returns c =
     let r = here p in
     let a = p .args in
     c .used-span .ensures
-    ∙ ap (λ (n : ℕ). any (usedAt (a .status .now)) (from (a .s .a * (a .y + a .s .b * a .z)) n)) (omega arith)
+    ∙ ap (λ (n : ℕ). any (usedAt (a .status .now)) (range (a .s .a * (a .y + a .s .b * a .z)) n)) (omega arith)
     ∙ row-on-border (a .s) (a .y) (a .z) (p .pre .1) (a .status .now) (c .before .if1 .taken)
 
 shared-slice-read-result : tie.Need-shared-slice-read-result

@@ -4,14 +4,14 @@ use native.Mathlib.Omega.{arith}
 use mathlib.Core.Path.{_≡_, refl, ap, _∙_, sym}
 use Prim.Native.Nat.{ℕ, _-_, _≤_}
 use Rattle.cells.specs.Groups.{any}
-use Rattle.rules.specs.Grid.{from}
+use Rattle.rules.specs.Grid.{range}
 use Rattle.scans.specs.Scans.{usedAt}
 use Rattle.prelude.proofs.Ranges.{any-run-none, scan-more}
 use Rattle.scans.proofs.used_span.Statement.{statement}
 use Rattle.scans.proofs.used_span.Tie as tie
 
 abbrev Inv-loop : tie.InvT-loop
-Inv-loop status first end found₀ i₀ found i = (first ≤ i) × (i ≤ end) × (found ≡ any (usedAt status) (from first (i - first)))
+Inv-loop status first end found₀ i₀ found i = (first ≤ i) × (i ≤ end) × (found ≡ any (usedAt status) (range first (i - first)))
 
 abbrev μ-loop : tie.MeasureT-loop
 μ-loop status first end found₀ i₀ found i = end - i
@@ -40,7 +40,7 @@ returns c =
     let l = c .before in
     let a = l .before .args in
     let e : l .loop .i ≡ a .end = omega (arith, c .loop-test .left) in
-    l .loop .inv .2 ∙ ap (λ (i : ℕ). any (usedAt (a .status .now)) (from (a .first) (i - a .first))) e
+    l .loop .inv .2 ∙ ap (λ (i : ℕ). any (usedAt (a .status .now)) (range (a .first) (i - a .first))) e
 
 pub used-span-spec : {M : Type 1} → statement M
 used-span-spec =

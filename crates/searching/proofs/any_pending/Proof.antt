@@ -5,14 +5,14 @@ use mathlib.Core.Path.{_≡_, ap, refl, sym, _∙_}
 use Prim.Native.Nat.{ℕ, _-_, _≤_}
 use lib.ListN.{length}
 use Rattle.cells.specs.Groups.{any}
-use Rattle.rules.specs.Grid.{from}
+use Rattle.rules.specs.Grid.{range}
 use Rattle.prelude.proofs.Ranges.{any-run-none, scan-next}
 use Rattle.rules.specs.Status.{pendingByte, isPending}
 use Rattle.searching.proofs.any_pending.Statement.{statement}
 use Rattle.searching.proofs.any_pending.Tie as tie
 
 abbrev Inv-loop : tie.InvT-loop
-Inv-loop status found₀ i₀ found i = (i ≤ length status) × (found ≡ any (isPending status) (from 0 i))
+Inv-loop status found₀ i₀ found i = (i ≤ length status) × (found ≡ any (isPending status) (range 0 i))
 
 abbrev μ-loop : tie.MeasureT-loop
 μ-loop status found₀ i₀ found i = length status - i
@@ -40,7 +40,7 @@ returns c =
     let l = c .before in
     let a = l .before .args in
     let e : l .loop .i ≡ length (a .status .now) = omega (arith, c .loop-test .left) in
-    l .loop .inv .1 ∙ ap (λ (n : ℕ). any (isPending (a .status .now)) (from 0 n)) e
+    l .loop .inv .1 ∙ ap (λ (n : ℕ). any (isPending (a .status .now)) (range 0 n)) e
 
 pub any-pending-spec : {M : Type 1} → statement M
 any-pending-spec =

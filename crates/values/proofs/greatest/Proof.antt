@@ -11,8 +11,8 @@ use mir.Facts.{toZ-ofZ, toZ-pos}
 use lib.Dec.{eqb}
 use lib.ListN.{length, getD}
 use lib.IntN.{ℤ, pos}
-use Rattle.cells.specs.Groups.{those}
-use Rattle.rules.specs.Grid.{from, amount, missing, valueAt}
+use Rattle.cells.specs.Groups.{filter}
+use Rattle.rules.specs.Grid.{range, amount, missing, valueAt}
 use Rattle.rules.specs.Begin.{greatest}
 use Rattle.values.specs.Values.{counts, greatestBy}
 use Rattle.values.proofs.Signs.{raised, pos-fits}
@@ -23,13 +23,13 @@ use Rattle.values.proofs.greatest.Tie as tie
 
 abbrev Inv-loop : tie.InvT-loop
 Inv-loop values d m₀ i₀ m i =
-    (i ≤ length values) × (1 ≤ m) × (m < 32768) × (m ≡ greatest 1 (map (λ k. amount (valueAt values k)) (those (counts values d) (from 0 i))))
+    (i ≤ length values) × (1 ≤ m) × (m < 32768) × (m ≡ greatest 1 (map (λ k. amount (valueAt values k)) (filter (counts values d) (range 0 i))))
 
 abbrev μ-loop : tie.MeasureT-loop
 μ-loop values d m₀ i₀ m i = length values - i
 
 loop-holds : tie.Need-loop-holds Inv-loop μ-loop
-unfolding from those greatest
+unfolding range filter greatest
 loop-holds c = (omega arith, omega arith, omega arith, refl)
 
 mul-v : tie.Need-mul-v Inv-loop μ-loop
@@ -97,7 +97,7 @@ returns c =
     let n : l .loop .i ≡ length (a .values .now) = omega (arith, c .loop-test .left) in
     rw (number c) (
       l .loop .inv .3 ∙ ap (λ (n : ℕ). greatest 1 (map (λ k. amount (valueAt (a .values .now) k))
-          (those (counts (a .values .now) (a .d .now)) (from 0 n)))) n,
+          (filter (counts (a .values .now) (a .d .now)) (range 0 n)))) n,
       l .loop .inv .2,
     )
 
