@@ -1,9 +1,10 @@
 -- The rank of a distance: what the machine computes, and its order.
-use mathlib.Core.Path.{_≡_, refl, sym, ap, _∙_, subst}
+use mathlib.Core.Path.{_≡_, refl, sym, ap, ap₂, _∙_, subst}
 use mathlib.Core.Bool.{Bool, true, false, cond}
 use mathlib.Core.List.{List}
 use Prim.Native.Nat.{ℕ, suc, _+_, _-_, _*_, _^_, _≤_, _<_}
 use native.Mathlib.Omega.{arith}
+use native.Mathlib.Decide.{decLt}
 use borrow.Author.Tests.{lt-ltb, le-ltb}
 use lib.IntN.{ℤ, pos, negsuc, _+ℤ_}
 use lib.ListN.{length, List·getD-eq-default}
@@ -11,6 +12,7 @@ use lib.Signed.{ltZ}
 use mir.Syntax.{w32, w64}
 use mir.Val.{SFits, toZ, ofZ}
 use mir.Facts.{toZ-ofZ}
+use Rattle.prelude.proofs.Bools.{not-both}
 use Rattle.prelude.proofs.Signs.{widened}
 use Rattle.rules.specs.Grid.{distanceAt}
 use Rattle.rules.specs.Status.{pendingByte, isPending}
@@ -35,6 +37,10 @@ pub rank-small : (z : ℤ) → SFits w32 z → rankOf z ≤ 4294967296
 unfolding rankOf
 rank-small (pos n) h = let l : n < 2 ^ 31 = h .sfits in omega arith
 rank-small (negsuc n) h = omega arith
+
+-- as a distance is read back
+pub read-small : (z : ℤ) → SFits w32 z → rankOf (toZ w32 (ofZ w32 z)) ≤ 4294967296
+read-small z h = subst (λ (x : ℤ). rankOf x ≤ 4294967296) (sym (toZ-ofZ h)) (rank-small z h)
 
 raised-sum : (z : ℤ) → SFits w32 z → toZ w64 (ofZ w64 (toZ w32 (ofZ w32 z))) +ℤ pos 2147483649 ≡ pos (rankOf z)
 raised-sum z h = ap (λ (x : ℤ). x +ℤ pos 2147483649) (toZ-ofZ (widened h) ∙ toZ-ofZ h) ∙ rank-sum z h
@@ -65,6 +71,25 @@ rank-least (pos a) (pos b) f h = le-ltb a b (omega arith)
 rank-least (pos a) (negsuc b) f h = refl
 rank-least (negsuc a) (pos b) f h = let z : ⊥ = omega arith in absurd z
 rank-least (negsuc a) (negsuc b) f h = let l : a < 2 ^ 31 = f .sfits in le-ltb b a (omega arith)
+
+-- .. as the machine compares them
+module _ (a b : ℤ) (f : SFits w32 a) (g : SFits w32 b) where
+  compared : {t : Bool} → ltZ (toZ w32 (ofZ w32 a)) (toZ w32 (ofZ w32 b)) ≡ t → ltZ a b ≡ t
+  compared e = sym (ap₂ ltZ (toZ-ofZ f) (toZ-ofZ g)) ∙ e
+
+  pub less-rank : ltZ (toZ w32 (ofZ w32 a)) (toZ w32 (ofZ w32 b)) ≡ true → rankOf a < rankOf b
+  less-rank e =
+      elim (decLt (rankOf a) (rankOf b)) [
+        | yes h ↦ h
+        | no h ↦ not-both (ltZ a b) (compared e) (rank-least a b f (omega arith))
+      ]
+
+  pub least-rank : ltZ (toZ w32 (ofZ w32 a)) (toZ w32 (ofZ w32 b)) ≡ false → rankOf b ≤ rankOf a
+  least-rank e =
+      elim (decLt (rankOf a) (rankOf b)) [
+        | yes h ↦ not-both (ltZ a b) (rank-less a b h) (compared e)
+        | no h ↦ omega arith
+      ]
 
 -- ---- the key of a voxel
 

@@ -64,7 +64,7 @@ module _ (dist : List ℤ) (at set : ℕ) where
     pub above : (t : ℕ) → has m t ≡ true → 0 < g → b < t
     pub total : max (keyOf g (at + b)) (greatest (bitKey dist at m) 0 width) ≡ greatest (bitKey dist at set) 0 width
 
-  pub scanning-start : Readable dist at set → Scanning 0 0 set
+  scanning-start : Readable dist at set → Scanning 0 0 set
   scanning-start R =
       record {
         few = R .few;
@@ -123,6 +123,16 @@ module _ (dist : List ℤ) (at set : ℕ) where
             let j : i ≡ b = q ∙ ap (λ (x : Bool). cond x t b) (le-ltb g r (omega arith)) in
             let p : 0 < r = subst (λ (x : ℕ). 0 < x) (sym e) (rank-some (distanceAt dist t)) in
             omega (arith, S .above t (L .here) (omega arith))
+
+  -- the lowest bit is the first taken
+  pub scanning-first :
+      (t r : ℕ) → Readable dist at set → Lowest set t → r ≡ rankOf (distanceAt dist t) → r ≤ 4294967296 → Scanning r t (bitAnd set (set - 1))
+  scanning-first t r R L e f =
+      let l : 0 < r = subst (λ (x : ℕ). 0 < x) (sym e) (rank-some (distanceAt dist t)) in
+      scanning-step 0 0 set t r r t (scanning-start R) L e f (sym (ap (λ (x : Bool). cond x t 0) (lt-ltb 0 r l))) (omega arith)
+
+  pub scanning-none : set ≡ 0 → 0 ≡ greatest (bitKey dist at set) 0 width
+  scanning-none e = sym (greatest-none (bitKey dist at set) 0 width (λ t l. bit-key set t false (ap (λ (x : ℕ). has x t) e ∙ has-none t)))
 
   pub scanning-done : (g b m k : ℕ) → m ≡ 0 → k ≡ keyOf g (at + b) → Scanning g b m → k ≡ greatest (bitKey dist at set) 0 width
   scanning-done g b m k e q S =

@@ -2,7 +2,7 @@
 // eight bytes at a time, in the order of their index: among equal ranks the first met is the one to keep.
 ghost use mathlib.Core.Path.{_≡_};
 ghost use mathlib.Core.Bool.{true, false, cond, _&&_};
-ghost use Prim.Native.Nat.{ℕ, _+_, _-_, _*_, _/_, _%_, _^_, _≤_, _<_};
+ghost use Prim.Native.Nat.{ℕ, _+_, _-_, _*_, _/_, _%_, _^_, _≤_, _<_, max};
 ghost use lib.Dec.{leb, ltb};
 ghost use lib.ListN.{length};
 ghost use Rattle.bits.specs.Bits.{has, bits};
@@ -126,13 +126,11 @@ fn raised(d: i32) -> u64
     (e + 2147483649) as u64
 }
 
-// The rank of voxel j if it is pending.
-fn rank(dist: &[i32], j: usize) -> u64
+fn distance(dist: &[i32], j: usize) -> i32
     requires { ⌜ j < length (now dist) ⌝ }
-    ensures { λ r. ⌜ (r ≡ rankOf (distanceAt (now (dist .entry)) j)) × (r ≤ 4294967296) ⌝ }
+    ensures { λ r. ⌜ r ≡ distanceAt (now (dist .entry)) j ⌝ }
 {
-    let d = dist[j];
-    raised(d)
+    dist[j]
 }
 
 // The key of a rank and an index; 0 of rank 0.
@@ -151,32 +149,42 @@ pub fn voxel_key(dist: &[i32], j: usize) -> u64
     requires { ⌜ (j < length (now dist)) × (j < most) ⌝ }
     ensures { λ k. ⌜ k ≡ voxelKey (now (dist .entry)) j ⌝ }
 {
-    key(rank(dist, j), j)
+    key(raised(distance(dist, j)), j)
 }
 
-// t where its rank r is greater than g, the rank of b.
-fn leading(g: u64, b: usize, r: u64, t: usize) -> usize
-    ensures { λ i. ⌜ i ≡ cond (ltb g r) t b ⌝ }
+// The greater of two distances.
+fn farther(g: i32, d: i32) -> i32
+    ensures { λ r. ⌜ rankOf r ≡ max (rankOf g) (rankOf d) ⌝ }
 {
-    if g < r { t } else { b }
+    if g < d { d } else { g }
 }
 
-// The greatest key of the voxels of the bits, whose distances are those from voxel at on.
+// t where its distance d is greater than g, the distance of b.
+fn leading(g: i32, b: usize, d: i32, t: usize) -> usize
+    ensures { λ i. ⌜ i ≡ cond (ltb (rankOf g) (rankOf d)) t b ⌝ }
+{
+    if g < d { t } else { b }
+}
+
+// The greatest key of the voxels of the bits, whose distances are those from voxel at on. Distances are compared, and one key is made.
 fn scan(dist: &[i32], at: usize, set: u64) -> u64
     requires { ⌜ Readable (now dist) at set ⌝ }
     ensures { λ k. ⌜ k ≡ greatest (bitKey (now (dist .entry)) at set) 0 width ⌝ }
 {
-    let mut g: u64 = 0;
-    let mut b: usize = 0;
-    let mut m = set;
+    if set == 0 {
+        return 0;
+    }
+    let mut b = bits::lowest(set);
+    let mut g = distance(dist, b);
+    let mut m = set & (set - 1);
     while 0 < m {
         let t = bits::lowest(m);
-        let r = rank(dist, t);
-        b = leading(g, b, r, t);
-        g = winners::greater(g, r);
+        let d = distance(dist, t);
+        b = leading(g, b, d, t);
+        g = farther(g, d);
         m = m & (m - 1);
     }
-    key(g, at + b)
+    key(raised(g), at + b)
 }
 
 // The greatest key of stretch k.

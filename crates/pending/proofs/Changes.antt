@@ -15,11 +15,12 @@ use Rattle.rules.specs.Grid.{distanceAt}
 use Rattle.rules.specs.Status.{statusOf, pendingByte, woken, isPending}
 use Rattle.keys.specs.Key.{Lent, rankOf, rankAt, keyOf, keyAt, voxelKey, width, stretches, stretchKey}
 use Rattle.keys.proofs.Ranks.{key-by}
-use Rattle.winners.specs.Tree.{Nodes, Changed}
-use Rattle.pending.specs.Index.{offsetOf, Offset, Offsets, group, groups, groupKey, Indexed, Index}
-use Rattle.pending.proofs.Offsets.{offset-made}
+use Rattle.winners.specs.Tree.{Nodes, Changed, Crowning}
+use Rattle.pending.specs.Index.{offsetOf, Offset, Offsets, heldGroup, group, groups, groupKey, Indexed, Index, Refreshing, Refreshed}
+use Rattle.pending.proofs.Offsets.{Named, offset-made}
 use Rattle.pending.proofs.Indexing.{offsets-of, indexed-nodes, offsets-set, indexed-set, indexed-kept, indexed-raised}
-use Rattle.pending.proofs.Held.{key-named}
+use Rattle.pending.proofs.Held.{key-inside, key-named, held, held-group}
+use Rattle.pending.proofs.Succession.{stretch-below, own-group, crowning}
 
 -- bit 1 set
 pub wake-byte : (x y : ℕ) → x < 256 → y ≡ bitOr x 2 → y ≡ woken x
@@ -63,16 +64,42 @@ module _ (dist : List ℤ) (status : List ℕ) (j s : ℕ) where
           index = subst (λ (n : ℕ). Indexed (keyAt dist (set status j s)) n offsets tree) (sym (length-set status j s)) J;
         }
 
-    pub index-clear :
-        (h v : ℕ) (after grown : List ℕ) → h ≡ groups (stretches (length dist))
-        → Offsets (keyAt dist (set status j s)) (stretches (length (set status j s))) after
-        → v ≡ groupKey (keyAt dist (set status j s)) (j / width / group) → Changed h (j / width / group) v tree grown
-        → Index dist (set status j s) after grown
-    index-clear h v after grown count O e C =
-        same-size (
-        indexed-set (keyAt dist status) (keyAt dist (set status j s)) j key-other (length status) offsets tree (I .index) h (count-now h count)
-        after grown v (offsets-of (ap stretches (length-set status j s)) O) e C
-        )
+    -- the byte is not pending: the voxel has no key any more
+    module _ (off : pendingByte s ≡ false) (after : List ℕ) (O : Offsets (keyAt dist (set status j s)) (stretches (length (set status j s))) after) where
+      key-cleared : keyAt dist (set status j s) j ≡ 0
+      key-cleared = key-by dist (set status j s) j false off-here
+        where
+          off-here : isPending (set status j s) j ≡ false
+          off-here = unfold isPending in ap pendingByte (getD-set-same status j s 0 inside) ∙ off
+
+      within : (i : ℕ) → 0 < keyAt dist (set status j s) i → i < length status
+      within i p = omega (arith, key-inside dist (set status j s) (lent-set (I .lent)) i p, length-set status j s)
+
+      named : Named (keyAt dist (set status j s))
+      named = key-named dist (set status j s) (lent-set (I .lent))
+
+      group-now : heldGroup dist after (j / width / group) ≡ groupKey (keyAt dist (set status j s)) (j / width / group)
+      group-now = held-group dist (set status j s) (lent-set (I .lent)) after O _ _ (omega (arith, I .lent .same)) refl
+
+      pub refreshing : (w : ℕ) → w ≡ stretchKey (keyAt dist (set status j s)) (j / width) → Refreshing dist after tree (j / width) w
+      refreshing w e =
+          record {
+            held = held dist (set status j s) (lent-set (I .lent)) after O;
+            inside = omega (arith, I .lent .same);
+            nodes = nodes-now (groups (stretches (length dist))) refl;
+            below = omega (arith, e, stretch-below _ _ j (length status) key-other key-cleared named within offsets tree (I .index) (j / width));
+            next = λ q.
+                subst (λ (n : ℕ). Crowning (groups (stretches n)) (j / width / group) w tree) (sym (I .lent .same))
+                (crowning _ _ j (length status) key-other key-cleared named within offsets tree (I .index) w e q inside);
+            own = λ q. own-group _ _ j (length status) key-other key-cleared named within offsets tree (I .index) w e q ∙ sym group-now;
+          }
+
+      pub index-clear : (grown : List ℕ) → Refreshed dist after tree grown (j / width) → Index dist (set status j s) after grown
+      index-clear grown C =
+          same-size (
+          indexed-set (keyAt dist status) (keyAt dist (set status j s)) j key-other (length status) offsets tree (I .index) _ (count-now _ refl)
+          after grown _ (offsets-of (ap stretches (length-set status j s)) O) group-now C
+          )
 
     -- ---- the byte is pending: the voxel's key is w, and was w or nothing
 

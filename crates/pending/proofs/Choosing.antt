@@ -29,15 +29,15 @@ use Rattle.pending.proofs.Held.{key-inside, key-named}
 -- ---- the greatest key, for any key
 
 module _ (key : ℕ → ℕ) where
-  key-le-stretch : (j : ℕ) → key j ≤ stretchKey key (j / width)
+  pub key-le-stretch : (j : ℕ) → key j ≤ stretchKey key (j / width)
   unfolding stretchKey
   key-le-stretch j = greatest-le key (width * (j / width)) width j (omega arith) (omega arith)
 
-  stretch-le-group : (k : ℕ) → stretchKey key k ≤ groupKey key (k / group)
+  pub stretch-le-group : (k : ℕ) → stretchKey key k ≤ groupKey key (k / group)
   unfolding groupKey
   stretch-le-group k = greatest-le (stretchKey key) (group * (k / group)) group k (omega arith) (omega arith)
 
-  group-of : (q : ℕ) → (groupKey key q ≡ 0) ⊎ ((j : ℕ) × (groupKey key q ≡ key j))
+  pub group-of : (q : ℕ) → (groupKey key q ≡ 0) ⊎ ((j : ℕ) × (groupKey key q ≡ key j))
   unfolding groupKey
   group-of q =
       elim (greatest-of (stretchKey key) (group * q) group) [
@@ -46,7 +46,7 @@ module _ (key : ℕ → ℕ) where
       ]
 
   module _ (n : ℕ) (offsets tree : List ℕ) (I : Indexed key n offsets tree) where
-    root-greatest : (j : ℕ) → j < n → key j ≤ getD tree 1 0
+    pub root-greatest : (j : ℕ) → j < n → key j ≤ getD tree 1 0
     root-greatest j h =
         omega (
           arith,

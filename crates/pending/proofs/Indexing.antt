@@ -41,7 +41,7 @@ module _ (key later : ℕ → ℕ) (j : ℕ) (same : (i : ℕ) → (i ≡ j → 
   stretch-other k n = greatest-same later key (width * k) width (λ i l u. same i (λ e. n (omega arith)))
 
   -- and only its group
-  group-other : (q : ℕ) → (q ≡ j / width / group → ⊥) → groupKey later q ≡ groupKey key q
+  pub group-other : (q : ℕ) → (q ≡ j / width / group → ⊥) → groupKey later q ≡ groupKey key q
   unfolding groupKey
   group-other q n = greatest-same (stretchKey later) (stretchKey key) (group * q) group (λ k l u. stretch-other k (λ e. n (omega arith)))
 

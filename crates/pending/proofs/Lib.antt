@@ -3,3 +3,4 @@ pub mod Indexing
 pub mod Held
 pub mod Changes
 pub mod Choosing
+pub mod Succession

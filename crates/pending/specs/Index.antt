@@ -1,7 +1,7 @@
 -- The index of pending voxels: for each stretch of voxels the offset of its best, and a winner tree over groups of stretches, for any key;
 -- and what the index of today's key answers.
 use mathlib.Core.Path.{_≡_}
-use mathlib.Core.Bool.{true, false, cond}
+use mathlib.Core.Bool.{Bool, true, false, not, cond, _&&_}
 use mathlib.Core.List.{List}
 use mathlib.Core.Option.{Option, none, some}
 use Prim.Native.Nat.{ℕ, _+_, _-_, _*_, _/_, _%_, _≤_, _<_, min}
@@ -13,7 +13,7 @@ use Rattle.rules.specs.Grid.{size}
 use Rattle.rules.specs.Status.{statusOf, pendingByte, woken, isPending, firstOf}
 use Rattle.rules.specs.Machine.{farther}
 use Rattle.keys.specs.Key.{most, Lent, keyAt, voxelKey, voxelOf, greatest, width, stretches, stretchKey}
-use Rattle.winners.specs.Tree.{Nodes}
+use Rattle.winners.specs.Tree.{Nodes, Changed, Crowning}
 use Rattle.pending.specs.declared.Choice.{Choice}
 use Rattle.pending.specs.declared.Choice.the-variants.{Nothing, At}
 
@@ -84,6 +84,23 @@ pub record Room (dist : List ℤ) (status offsets tree : List ℕ) : Type 0 wher
   pub lent : Lent dist status
   pub stretched : stretches (length status) ≤ length offsets
   pub grouped : 2 * groups (stretches (length status)) ≤ length tree
+
+-- ---- the leaf of a stretch's group is made anew
+
+-- two keys, the first not 0, are of equal rank and of one stretch
+unfoldable pub adjoin : ℕ → ℕ → Bool
+adjoin w root = not (eqb w 0) && eqb ((w - 1) / width) ((root - 1) / width)
+
+pub record Refreshing (dist : List ℤ) (offsets tree : List ℕ) (k w : ℕ) : Type 0 where
+  pub held : Held dist offsets
+  pub inside : k < stretches (length dist)
+  pub nodes : Nodes (groups (stretches (length dist))) tree
+  pub below : w ≤ getD tree 1 0
+  pub next : adjoin w (getD tree 1 0) ≡ true → Crowning (groups (stretches (length dist))) (k / group) w tree
+  pub own : adjoin w (getD tree 1 0) ≡ true → w ≡ heldGroup dist offsets (k / group)
+
+abbrev pub Refreshed : List ℤ → List ℕ → List ℕ → List ℕ → ℕ → Type 0
+Refreshed dist offsets before after k = Changed (groups (stretches (length dist))) (k / group) (heldGroup dist offsets (k / group)) before after
 
 -- ---- a status byte is written
 

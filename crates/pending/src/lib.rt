@@ -9,6 +9,7 @@ ghost use Rattle.rules.specs.Grid.{distanceAt};
 ghost use Rattle.rules.specs.Status.{woken};
 ghost use Rattle.keys.specs.Key.{most, Lent, keyAt, voxelOf, greatest, stretches};
 ghost use Rattle.pending.specs.Index.{offsetOf, Held, heldKey, heldGroup, Leafing, groups, Offsets, Room, Index, Clearing, Written, Raised, Best};
+ghost use Rattle.pending.specs.Index.{adjoin, Refreshing, Refreshed};
 
 // How many voxels make a stretch.
 const WIDTH: usize = 64;
@@ -122,6 +123,32 @@ fn fill_leaves(dist: &[i32], offsets: &[u8], tree: &mut [u64], h: usize)
     }
 }
 
+// Whether two keys are of equal rank and of one stretch: no key of another stretch then lies between them.
+fn adjoin(w: u64, root: u64) -> bool
+    requires { ⌜ w ≤ root ⌝ }
+    ensures { λ r. ⌜ r ≡ adjoin w root ⌝ }
+{
+    if w == 0 {
+        return false;
+    }
+    (w - 1) / 64 == (root - 1) / 64
+}
+
+// Makes the leaf of stretch k's group and the nodes above it anew, where w is the stretch's greatest key. The voxel that was examined
+// last mostly has its like in the same stretch, which is then the greatest of all.
+fn refresh(dist: &[i32], offsets: &[u8], tree: &mut [u64], k: usize, w: u64)
+    requires { ⌜ Refreshing (now dist) (now offsets) (now tree) k w ⌝ }
+    ensures { λ _. ⌜ Refreshed (now (dist .entry)) (now (offsets .entry)) (now (tree .entry)) (now (tree .exit)) k ⌝ }
+{
+    let h = count_groups(dist.len());
+    if adjoin(w, tree[1]) {
+        winners::crown(tree, h, k / GROUP, w);
+        return;
+    }
+    let v = group_key(dist, offsets, k / GROUP);
+    winners::replace(tree, h, k / GROUP, v);
+}
+
 // A status byte made pending.
 fn wake(s: u8) -> u8
     ensures { λ r. ⌜ r ≡ woken s ⌝ }
@@ -146,10 +173,9 @@ pub fn clear(dist: &[i32], status: &mut [u8], offsets: &mut [u8], tree: &mut [u6
     ensures { λ _. ⌜ Written (now (dist .entry)) (now (status .entry)) (now (status .exit)) (now (offsets .exit)) (now (tree .exit)) j s ⌝ }
 {
     status[j] = s;
-    offsets[j / WIDTH] = offset_of(keys::stretch(dist, status, j / WIDTH));
-    let v = group_key(dist, offsets, j / WIDTH / GROUP);
-    let h = count_groups(dist.len());
-    winners::replace(tree, h, j / WIDTH / GROUP, v);
+    let w = keys::stretch(dist, status, j / WIDTH);
+    offsets[j / WIDTH] = offset_of(w);
+    refresh(dist, offsets, tree, j / WIDTH, w);
 }
 
 // Voxel j, pending or not, is pending from now on.
