@@ -1,13 +1,9 @@
 // The program carve of document 01: a grid file on standard input, one line on standard output.
 use libc::STDIN_FILENO;
-use libc::STDOUT_FILENO;
 
 // The first 65,536 bytes decide: no file that is taken has more than 27,727, and further bytes are refused as one is.
 fn main() {
     let mut buffer = io::large_buffer();
     let n = io::read_full(STDIN_FILENO, &mut buffer);
-    let text = line::line(&buffer[..n]);
-    let bytes = text.bytes;
-    let start = text.start;
-    io::write_all(STDOUT_FILENO, &bytes[start..]);
+    printing::print_line(&buffer[..n]);
 }

@@ -1,14 +1,6 @@
 // Runs the program's line on a grid file that is taken, then on one for each number that a file can be refused with, in the order in which
 // they are looked for.
 ghost use Prim.Native.Nat.{_<_, _≤_};
-use libc::STDOUT_FILENO;
-
-fn print(file: &[u8]) {
-    let text = line::line(file);
-    let bytes = text.bytes;
-    let start = text.start;
-    io::write_all(STDOUT_FILENO, &bytes[start..]);
-}
 
 // Prints the line of the first n bytes of a file, one of which is changed. The file has three layers of 21 bytes, each value 0 but for a -1
 // in the middle, and one byte more.
@@ -32,7 +24,7 @@ fn print_changed(at: usize, byte: u8, n: usize)
     file[50] = 0x4C;
     file[51] = 2;
     file[at] = byte;
-    print(&file[..n]);
+    printing::print_line(&file[..n]);
 }
 
 fn main() {

@@ -57,11 +57,11 @@ array-write-file-16 c = search needs
 array-share-prefix-file : tie.Need-array-share-prefix-file
 array-share-prefix-file c = simp length-set (c .pre .1)
 
-slice-aggregate-print : tie.Need-slice-aggregate-print
-slice-aggregate-print c = sym (length-take-le _ _ (simp length-set (c .before .pre .1)))
+slice-aggregate-print-line : tie.Need-slice-aggregate-print-line
+slice-aggregate-print-line c = sym (length-take-le _ _ (simp length-set (c .before .pre .1)))
 
-print-requires : tie.Need-print-requires
-print-requires c κs = search needs
+print-line-requires : tie.Need-print-line-requires
+print-line-requires c κs = search needs
 
 returns : tie.Need-returns
 returns c = search needs
@@ -87,6 +87,6 @@ print-changed-spec =
     array-write-file-15
     array-write-file-16
     array-share-prefix-file
-    slice-aggregate-print
-    print-requires
+    slice-aggregate-print-line
+    print-line-requires
     returns)

@@ -1,4 +1,4 @@
--- `carve::main` meets its contract.
+-- `printing::print_line` meets its contract.
 use mathlib.Core.Path.{_≡_, sym, subst}
 use Prim.Native.Nat.{_≤_}
 use native.Mathlib.Omega.{arith}
@@ -6,23 +6,8 @@ use lib.ListN.{length}
 use borrow.Author.Needs.{needs}
 use Rattle.text.specs.declared.Text.{Text}
 use Rattle.text.proofs.Lines.{start-within, bytes-long}
-use Rattle.carve.proofs.main.Statement.{statement}
-use Rattle.carve.proofs.main.Tie as tie
-
-large-buffer-requires : tie.Need-large-buffer-requires
-large-buffer-requires c κs = search needs
-
-slice-aggregate-read-full : tie.Need-slice-aggregate-read-full
-slice-aggregate-read-full c = search needs
-
-read-full-requires : tie.Need-read-full-requires
-read-full-requires c κs = search needs
-
-array-share-prefix-buffer : tie.Need-array-share-prefix-buffer
-array-share-prefix-buffer c = search needs
-
-slice-aggregate-line : tie.Need-slice-aggregate-line
-slice-aggregate-line c = search needs
+use Rattle.printing.proofs.print_line.Statement.{statement}
+use Rattle.printing.proofs.print_line.Tie as tie
 
 line-requires : tie.Need-line-requires
 line-requires c κs = search needs
@@ -49,15 +34,10 @@ write-all-requires c κs = search needs
 returns : tie.Need-returns
 returns c = search needs
 
-pub main-spec : {M : Type 1} → statement M
-main-spec =
+pub print-line-spec : {M : Type 1} → statement M
+print-line-spec =
     tie.close
     (tie.spec
-    large-buffer-requires
-    slice-aggregate-read-full
-    read-full-requires
-    array-share-prefix-buffer
-    slice-aggregate-line
     line-requires
     sub-write-all
     part-write-all-start
