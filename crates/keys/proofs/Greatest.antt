@@ -65,25 +65,6 @@ greatest-of f a (suc k) =
 pub greatest-none : (f : ℕ → ℕ) (a k : ℕ) → ((j : ℕ) → a ≤ j → f j ≡ 0) → greatest f a k ≡ 0
 greatest-none f a k h = elim (greatest-of f a k) [ inl z ↦ z | inr w ↦ w .3 ∙ h (w .0) (w .1) ]
 
--- one of them grows from 0
-pub greatest-lift :
-    (f g : ℕ → ℕ) (a k j : ℕ) → a ≤ j → j < a + k → f j ≡ 0 → ((i : ℕ) → (i ≡ j → ⊥) → f i ≡ g i)
-    → greatest g a k ≡ max (greatest f a k) (g j)
-unfolding greatest
-greatest-lift f g a zero j l u z same = let b : ⊥ = omega arith in absurd b
-greatest-lift f g a (suc k) j l u z same =
-    elim (eq-or-lt-of-le l) [
-      | inl e ↦
-          let x = ap f e in
-          let y = ap g e in
-          let r = greatest-same f g (suc a) k (λ i m v. same i (λ q. omega arith)) in
-          omega arith
-      | inr n ↦
-          let x = same a (λ q. omega arith) in
-          let r = greatest-lift f g (suc a) k j n (omega arith) z same in
-          omega arith
-    ]
-
 -- one of them grows to w
 pub greatest-raise :
     (f g : ℕ → ℕ) (a k j w : ℕ) → a ≤ j → j < a + k → g j ≡ max (f j) w → ((i : ℕ) → (i ≡ j → ⊥) → f i ≡ g i)
@@ -102,6 +83,12 @@ greatest-raise f g a (suc k) j w l u z same =
           let r = greatest-raise f g (suc a) k j w n (omega arith) z same in
           omega arith
     ]
+
+-- .. from 0
+pub greatest-lift :
+    (f g : ℕ → ℕ) (a k j : ℕ) → a ≤ j → j < a + k → f j ≡ 0 → ((i : ℕ) → (i ≡ j → ⊥) → f i ≡ g i)
+    → greatest g a k ≡ max (greatest f a k) (g j)
+greatest-lift f g a k j l u z same = greatest-raise f g a k j (g j) l u (omega arith) same
 
 -- the same numbers from elsewhere
 pub greatest-moved :

@@ -7,7 +7,7 @@ use native.Mathlib.Omega.{arith}
 use native.Mathlib.Decide.{decLt}
 use borrow.Author.Tests.{lt-ltb, le-ltb}
 use lib.IntN.{ℤ, pos, negsuc, _+ℤ_}
-use lib.ListN.{length, List·getD-eq-default}
+use lib.ListN.{length}
 use lib.Signed.{ltZ}
 use mir.Syntax.{w32, w64}
 use mir.Val.{SFits, toZ, ofZ}
@@ -15,7 +15,8 @@ use mir.Facts.{toZ-ofZ}
 use Rattle.prelude.proofs.Bools.{not-both}
 use Rattle.prelude.proofs.Signs.{widened}
 use Rattle.rules.specs.Grid.{distanceAt}
-use Rattle.rules.specs.Status.{pendingByte, isPending}
+use Rattle.rules.specs.Status.{isPending}
+use Rattle.masks.proofs.Loading.{past-pending}
 use Rattle.keys.specs.Key.{most, rankOf, rankAt, keyOf, keyAt, voxelKey, voxelOf}
 
 -- ---- a distance raised by 2^31 + 1
@@ -92,10 +93,6 @@ module _ (a b : ℤ) (f : SFits w32 a) (g : SFits w32 b) where
       ]
 
 -- ---- the key of a voxel
-
-pub past-pending : (status : List ℕ) (j : ℕ) → length status ≤ j → isPending status j ≡ false
-unfolding isPending pendingByte
-past-pending status j h = ap pendingByte (List·getD-eq-default status 0 h)
 
 module _ (dist : List ℤ) (status : List ℕ) (j : ℕ) where
   -- by its pending bit

@@ -14,15 +14,14 @@ use lib.ListN.{length, take, drop, length-drop}
 use lib.Seq.{getD-drop}
 use lib.Bits.{bitAnd}
 use Rattle.prelude.proofs.Bools.{not-both}
-use Rattle.bits.specs.Bits.{has, bits}
-use Rattle.bits.proofs.Bits.{bits-lt, has-bits}
+use Rattle.bits.specs.Bits.{has}
 use Rattle.rules.specs.Grid.{distanceAt}
 use Rattle.rules.specs.Status.{isPending}
 use Rattle.bits.specs.Lowest.{Lowest}
+use Rattle.masks.proofs.Loading.{past-pending}
 use Rattle.keys.specs.Key.{most, Lent, rankOf, keyOf, keyAt, greatest, width, stretchKey, bitKey, Readable}
 use Rattle.keys.proofs.Greatest.{greatest-none, greatest-lift, greatest-moved}
-use Rattle.keys.proofs.Loading.{has-past}
-use Rattle.keys.proofs.Ranks.{rank-some, past-pending, key-by}
+use Rattle.keys.proofs.Ranks.{rank-some, key-by}
 
 has-none : (t : ℕ) → has 0 t ≡ false
 unfolding has
@@ -140,18 +139,6 @@ module _ (dist : List ℤ) (at set : ℕ) where
       omega (arith, S .total)
 
 -- ---- the bits of a stretch
-
--- those up to the last voxel are all that a shorter stretch has
-pub shown-rest :
-    (status : List ℕ) (at set : ℕ) → at ≤ length status → length status < at + width
-    → set ≡ bits (length status - at) (λ c. isPending status (at + c)) → (t : ℕ) → has set t ≡ isPending status (at + t)
-shown-rest status at set l u e t = ap (λ (x : ℕ). has x t) e ∙ go (decLt t (length status - at))
-  where
-    go : Dec (t < length status - at) → has (bits (length status - at) (λ c. isPending status (at + c))) t ≡ isPending status (at + t)
-    go (yes h) = has-bits (length status - at) (λ c. isPending status (at + c)) t h
-    go (no h) =
-        has-past _ _ t (bits-lt (length status - at) (λ c. isPending status (at + c))) (omega arith)
-        ∙ sym (past-pending status (at + t) (omega arith))
 
 -- the distances from voxel at on
 abbrev onward : ℕ → List ℤ → List ℤ

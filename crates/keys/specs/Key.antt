@@ -9,6 +9,7 @@ use lib.ListN.{length}
 use Rattle.bits.specs.Bits.{has}
 use Rattle.rules.specs.Grid.{distanceAt}
 use Rattle.rules.specs.Status.{isPending}
+pub use Rattle.masks.specs.Bits.{width}
 
 -- 2^18, the greatest n
 abbrev pub most : ℕ
@@ -52,9 +53,6 @@ voxelOf k = most - 1 - (k - 1) % most
 unfoldable pub greatest : (ℕ → ℕ) → ℕ → ℕ → ℕ
 greatest f a zero = 0
 greatest f a (suc k) = max (f a) (greatest f (suc a) k)
-
-abbrev pub width : ℕ
-width = 64
 
 -- how many stretches n voxels have; the last may end early
 abbrev pub stretches : ℕ → ℕ

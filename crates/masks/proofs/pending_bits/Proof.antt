@@ -1,9 +1,9 @@
 -- `pending_bits` meets its contract: a stretch is whole, or ends with the last voxel.
 use native.Mathlib.Omega.{arith}
-use Rattle.keys.proofs.Scanning.{shown-rest}
+use Rattle.masks.proofs.Loading.{shown-rest}
 use borrow.Author.Needs.{needs}
-use Rattle.keys.proofs.pending_bits.Statement.{statement}
-use Rattle.keys.proofs.pending_bits.Tie as tie
+use Rattle.masks.proofs.pending_bits.Statement.{statement}
+use Rattle.masks.proofs.pending_bits.Tie as tie
 
 sub-if1 : tie.Need-sub-if1
 sub-if1 c = search needs

@@ -11,13 +11,13 @@ use lib.Dec.{eqb, leb, lit<}
 use lib.Arith.{digits-lt}
 use lib.Pow.{shl-exact, pow-add}
 use lib.Bits.{bitOr, or-shifted-r}
-use lib.ListN.{length, getD}
+use lib.ListN.{length, getD, List·getD-eq-default}
 use Rattle.prelude.proofs.Bools.{or-zero}
 use Rattle.cells.specs.Cells.{bit}
 use Rattle.bits.specs.Bits.{has, bits}
-use Rattle.bits.proofs.Bits.{has-or, has-shl, bits-lt, bits-ext}
+use Rattle.bits.proofs.Bits.{has-or, has-shl, has-bits, bits-lt, bits-ext}
 use Rattle.rules.specs.Status.{pendingByte, isPending}
-use Rattle.keys.specs.Bits.{Loaded}
+use Rattle.masks.specs.Bits.{width, Loaded}
 
 -- a number has no digit past its length
 pub has-past : (x n c : ℕ) → x < 2 ^ n → n ≤ c → has x c ≡ false
@@ -115,3 +115,21 @@ module _ (status : List ℕ) (at : ℕ) where
       let low = G .low in
       let e : j ≡ at = omega arith in
       G .set ∙ ap (λ (i : ℕ). bits (length status - i) (λ c. isPending status (i + c))) e
+
+-- ---- a stretch that ends with the last voxel
+
+pub past-pending : (status : List ℕ) (j : ℕ) → length status ≤ j → isPending status j ≡ false
+unfolding isPending pendingByte
+past-pending status j h = ap pendingByte (List·getD-eq-default status 0 h)
+
+-- those up to the last voxel are all that a shorter stretch has
+pub shown-rest :
+    (status : List ℕ) (at set : ℕ) → at ≤ length status → length status < at + width
+    → set ≡ bits (length status - at) (λ c. isPending status (at + c)) → (t : ℕ) → has set t ≡ isPending status (at + t)
+shown-rest status at set l u e t = ap (λ (x : ℕ). has x t) e ∙ go (decLt t (length status - at))
+  where
+    go : Dec (t < length status - at) → has (bits (length status - at) (λ c. isPending status (at + c))) t ≡ isPending status (at + t)
+    go (yes h) = has-bits (length status - at) (λ c. isPending status (at + c)) t h
+    go (no h) =
+        has-past _ _ t (bits-lt (length status - at) (λ c. isPending status (at + c))) (omega arith)
+        ∙ sym (past-pending status (at + t) (omega arith))

@@ -4,9 +4,9 @@ use Prim.Native.Nat.{_+_, _<_}
 use native.Mathlib.Omega.{arith}
 use lib.ListN.{length}
 use borrow.Author.Needs.{needs}
-use Rattle.keys.proofs.Loading.{Gathering, gathering-start, gathering-small, gathering-step, gathering-done}
-use Rattle.keys.proofs.rest.Statement.{statement}
-use Rattle.keys.proofs.rest.Tie as tie
+use Rattle.masks.proofs.Loading.{Gathering, gathering-start, gathering-small, gathering-step, gathering-done}
+use Rattle.masks.proofs.rest.Statement.{statement}
+use Rattle.masks.proofs.rest.Tie as tie
 
 abbrev Inv-loop : tie.InvT-loop
 Inv-loop status at m₀ j₀ m j = (length status < at + 64) × Gathering status at m j

@@ -3,11 +3,11 @@ use mathlib.Core.Path.{_≡_, ap, _∙_}
 use Prim.Native.Nat.{_+_, _*_, _/_, _%_, _<_}
 use native.Mathlib.Omega.{arith}
 use Rattle.rules.specs.Status.{isPending}
-use Rattle.keys.specs.Bits.{crossed}
-use Rattle.keys.proofs.Crossing.{gathered}
+use Rattle.masks.specs.Bits.{crossed}
+use Rattle.masks.proofs.Crossing.{gathered}
 use borrow.Author.Needs.{needs}
-use Rattle.keys.proofs.across.Statement.{statement}
-use Rattle.keys.proofs.across.Tie as tie
+use Rattle.masks.proofs.across.Statement.{statement}
+use Rattle.masks.proofs.across.Tie as tie
 
 load8-requires : tie.Need-load8-requires
 load8-requires c κs = search needs

@@ -12,7 +12,7 @@ use lib.Bits.{bitAnd, bitOr, bitXor, and-le-r, xor-lt}
 use Rattle.prelude.proofs.Bools.{and-true, or-zero, and-zero, and-one, not-true, two}
 use Rattle.bits.specs.Bits.{has, bits}
 use Rattle.bits.proofs.Bits.{has-shr, has-shl, has-and, has-or, has-bits, bits-has, bits-xor, below, allBelow, unlike}
-use Rattle.keys.specs.Bits.{crossed, partner}
+use Rattle.masks.specs.Bits.{crossed, partner}
 
 -- ---- eight numbers, of each the bit 1 of every byte, side by side
 

@@ -1,9 +1,9 @@
 -- `load2` meets its contract: two bytes side by side.
 use native.Mathlib.Omega.{arith}
-use Rattle.keys.proofs.Loading.{loaded-one, loaded-join}
+use Rattle.masks.proofs.Loading.{loaded-one, loaded-join}
 use borrow.Author.Needs.{needs}
-use Rattle.keys.proofs.load2.Statement.{statement}
-use Rattle.keys.proofs.load2.Tie as tie
+use Rattle.masks.proofs.load2.Statement.{statement}
+use Rattle.masks.proofs.load2.Tie as tie
 
 shared-slice-read-wide : tie.Need-shared-slice-read-wide
 shared-slice-read-wide c = search needs

@@ -1,8 +1,8 @@
 -- `exchange` meets its contract.
-use Rattle.keys.proofs.Crossing.{exchanged}
+use Rattle.masks.proofs.Crossing.{exchanged}
 use borrow.Author.Needs.{needs}
-use Rattle.keys.proofs.exchange.Statement.{statement}
-use Rattle.keys.proofs.exchange.Tie as tie
+use Rattle.masks.proofs.exchange.Statement.{statement}
+use Rattle.masks.proofs.exchange.Tie as tie
 
 shr-t : tie.Need-shr-t
 shr-t c = search needs

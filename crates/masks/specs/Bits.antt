@@ -7,6 +7,10 @@ use lib.Dec.{leb}
 use Rattle.bits.specs.Bits.{has}
 use Rattle.rules.specs.Status.{isPending}
 
+-- how many voxels make a stretch
+abbrev pub width : ℕ
+width = 64
+
 -- w bytes from at on as one number: bit 1 of byte b says whether the voxel is pending
 pub record Loaded (w : ℕ) (s : List ℕ) (at r : ℕ) : Type 0 where
   pub small : r < 2 ^ (8 * w)

@@ -1,9 +1,9 @@
 -- `load8` meets its contract: twice four bytes.
 use native.Mathlib.Omega.{arith}
-use Rattle.keys.proofs.Loading.{loaded-join}
+use Rattle.masks.proofs.Loading.{loaded-join}
 use borrow.Author.Needs.{needs}
-use Rattle.keys.proofs.load8.Statement.{statement}
-use Rattle.keys.proofs.load8.Tie as tie
+use Rattle.masks.proofs.load8.Statement.{statement}
+use Rattle.masks.proofs.load8.Tie as tie
 
 load4-requires : tie.Need-load4-requires
 load4-requires c κs = search needs

@@ -1,9 +1,9 @@
 -- `load4` meets its contract: twice two bytes.
 use native.Mathlib.Omega.{arith}
-use Rattle.keys.proofs.Loading.{loaded-join}
+use Rattle.masks.proofs.Loading.{loaded-join}
 use borrow.Author.Needs.{needs}
-use Rattle.keys.proofs.load4.Statement.{statement}
-use Rattle.keys.proofs.load4.Tie as tie
+use Rattle.masks.proofs.load4.Statement.{statement}
+use Rattle.masks.proofs.load4.Tie as tie
 
 load2-requires : tie.Need-load2-requires
 load2-requires c κs = search needs

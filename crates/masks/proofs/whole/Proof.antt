@@ -5,11 +5,11 @@ use native.Mathlib.Omega.{arith}
 use lib.Dec.{lit<}
 use Rattle.bits.specs.Bits.{has}
 use Rattle.rules.specs.Status.{isPending}
-use Rattle.keys.specs.Bits.{crossed}
-use Rattle.keys.proofs.Crossing.{apart-7, apart-14, apart-28, transposed}
+use Rattle.masks.specs.Bits.{crossed}
+use Rattle.masks.proofs.Crossing.{apart-7, apart-14, apart-28, transposed}
 use borrow.Author.Needs.{needs}
-use Rattle.keys.proofs.whole.Statement.{statement}
-use Rattle.keys.proofs.whole.Tie as tie
+use Rattle.masks.proofs.whole.Statement.{statement}
+use Rattle.masks.proofs.whole.Tie as tie
 
 across-requires : tie.Need-across-requires
 across-requires c κs = search needs
