@@ -16,10 +16,11 @@ use Rattle.rules.specs.Status.{statusOf, pendingByte, woken, isPending}
 use Rattle.keys.specs.Key.{Lent, rankOf, rankAt, keyOf, keyAt, voxelKey, width, stretches, stretchKey}
 use Rattle.keys.proofs.Ranks.{key-by}
 use Rattle.winners.specs.Tree.{Nodes, Changed, Crowning}
-use Rattle.pending.specs.Index.{offsetOf, Offset, Offsets, heldGroup, group, groups, groupKey, Indexed, Index, Refreshing, Refreshed}
-use Rattle.pending.proofs.Offsets.{Named, offset-made}
+use Rattle.offsets.specs.Offsets.{offsetOf, Offset, Offsets, heldGroup, group, groups, groupKey}
+use Rattle.pending.specs.Index.{Indexed, Index, Refreshing, Refreshed}
+use Rattle.offsets.proofs.Offsets.{Named, offset-made}
 use Rattle.pending.proofs.Indexing.{offsets-of, indexed-nodes, offsets-set, indexed-set, indexed-kept, indexed-raised}
-use Rattle.pending.proofs.Held.{key-inside, key-named, held, held-group}
+use Rattle.offsets.proofs.Held.{key-inside, key-named, held, held-group}
 use Rattle.pending.proofs.Succession.{stretch-below, own-group, crowning}
 
 -- bit 1 set

@@ -22,9 +22,10 @@ use Rattle.keys.proofs.Greatest.{greatest-le, greatest-of}
 use Rattle.keys.proofs.Ranks.{rank-some, rank-less, rank-least, key-by, key-pending}
 use Rattle.winners.proofs.Root.{root-top, root-leaf}
 use Rattle.pending.specs.declared.Choice.the-variants.{Nothing, At}
-use Rattle.pending.specs.Index.{group, groups, groupKey, Indexed, Index, Best}
-use Rattle.pending.proofs.Offsets.{stretch-of}
-use Rattle.pending.proofs.Held.{key-inside, key-named}
+use Rattle.offsets.specs.Offsets.{group, groups, groupKey}
+use Rattle.pending.specs.Index.{Indexed, Index, Best}
+use Rattle.offsets.proofs.Offsets.{stretch-of}
+use Rattle.offsets.proofs.Held.{key-inside, key-named}
 
 -- ---- the greatest key, for any key
 

@@ -8,8 +8,9 @@ use lib.ListN.{length, getD, set, length-set}
 use Rattle.keys.specs.Key.{greatest, width, stretches, stretchKey}
 use Rattle.keys.proofs.Greatest.{greatest-same, greatest-raise}
 use Rattle.winners.specs.Tree.{Nodes, Changed}
-use Rattle.pending.specs.Index.{Offset, Offsets, group, groups, groupKey, Indexed}
-use Rattle.pending.proofs.Offsets.{at-set, offset-on, offset-same}
+use Rattle.offsets.specs.Offsets.{Offset, Offsets, group, groups, groupKey}
+use Rattle.pending.specs.Index.{Indexed}
+use Rattle.offsets.proofs.Offsets.{at-set, offset-on, offset-same}
 
 -- over the numbers of stretches and of groups, as code counts them
 pub offsets-of : {key : ℕ → ℕ} {p q : ℕ} {offsets : List ℕ} → p ≡ q → Offsets key p offsets → Offsets key q offsets

@@ -12,8 +12,9 @@ use lib.ListN.{getD}
 use Rattle.prelude.proofs.Bools.{and-true}
 use Rattle.keys.specs.Key.{most, voxelOf, width, stretches, stretchKey}
 use Rattle.winners.specs.Tree.{Crowning}
-use Rattle.pending.specs.Index.{group, groups, groupKey, Indexed, adjoin}
-use Rattle.pending.proofs.Offsets.{Named, stretch-of}
+use Rattle.offsets.specs.Offsets.{group, groups, groupKey}
+use Rattle.pending.specs.Index.{Indexed, adjoin}
+use Rattle.offsets.proofs.Offsets.{Named, stretch-of}
 use Rattle.pending.proofs.Indexing.{group-other}
 use Rattle.pending.proofs.Choosing.{key-le-stretch, stretch-le-group, group-of, root-greatest}
 

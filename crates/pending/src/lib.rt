@@ -1,5 +1,5 @@
-// The index of pending voxels. Each stretch of voxels keeps the offset of its pending voxel of greatest key; a winner tree over groups of
-// stretches keeps keys, so that its root is the key of the voxel to examine next. An operation rescans one stretch and reads one group.
+// The index of pending voxels: the offsets of stretches, and a winner tree of keys over groups of stretches, so that its root is the key of
+// the voxel to examine next. An operation rescans one stretch, and reads at most one group.
 ghost use mathlib.Core.Path.{_≡_};
 ghost use Prim.Native.Nat.{ℕ, _+_, _-_, _*_, _≤_, _<_};
 ghost use lib.ListN.{length, getD};
@@ -8,7 +8,8 @@ ghost use mir.Val.{SFits};
 ghost use Rattle.rules.specs.Grid.{distanceAt};
 ghost use Rattle.rules.specs.Status.{woken};
 ghost use Rattle.keys.specs.Key.{most, Lent, keyAt, voxelOf, greatest, stretches};
-ghost use Rattle.pending.specs.Index.{offsetOf, Held, heldKey, heldGroup, Leafing, groups, Offsets, Room, Index, Clearing, Written, Raised, Best};
+ghost use Rattle.offsets.specs.Offsets.{offsetOf, Held, heldKey, heldGroup, groups, Offsets};
+ghost use Rattle.pending.specs.Index.{Leafing, Room, Index, Clearing, Written, Raised, Best};
 ghost use Rattle.pending.specs.Index.{adjoin, Refreshing, Refreshed};
 
 // How many voxels make a stretch.
@@ -16,9 +17,6 @@ const WIDTH: usize = 64;
 
 // How many stretches make a group.
 const GROUP: usize = 8;
-
-// The offset of a stretch with nothing pending.
-const NONE: u8 = 64;
 
 // The greatest number of voxels, 2^18.
 const MOST: u64 = 262144;
@@ -29,88 +27,6 @@ pub enum Choice {
     At(usize),
 }
 
-// The number of stretches of n voxels; the last may end early.
-fn count_stretches(n: usize) -> usize
-    requires { ⌜ n ≤ most ⌝ }
-    ensures { λ r. ⌜ r ≡ stretches n ⌝ }
-{
-    (n + (WIDTH - 1)) / WIDTH
-}
-
-// The number of their groups; the last may end early.
-fn count_groups(n: usize) -> usize
-    requires { ⌜ n ≤ most ⌝ }
-    ensures { λ r. ⌜ r ≡ groups (stretches n) ⌝ }
-{
-    (count_stretches(n) + (GROUP - 1)) / GROUP
-}
-
-// The offset of a key's voxel in its stretch.
-fn offset_of(w: u64) -> u8
-    ensures { λ r. ⌜ r ≡ offsetOf w ⌝ }
-{
-    if w == 0 {
-        return NONE;
-    }
-    ((MOST - 1 - (w - 1) % MOST) % 64) as u8
-}
-
-fn index(x: u8) -> usize
-    ensures { λ r. ⌜ r ≡ x ⌝ }
-{
-    x as usize
-}
-
-// The greatest key of stretch k, from its offset. Where there is none the stretch's first voxel is read, and dropped.
-fn held_key(dist: &[i32], offsets: &[u8], k: usize) -> u64
-    requires { ⌜ Held (now dist) (now offsets) × (k < stretches (length (now dist))) ⌝ }
-    ensures { λ r. ⌜ r ≡ heldKey (now (dist .entry)) (now (offsets .entry)) k ⌝ }
-{
-    let o = index(offsets[k]);
-    let w = keys::voxel_key(dist, WIDTH * k + o % WIDTH);
-    if o < WIDTH { w } else { 0 }
-}
-
-// The greatest key of some stretches.
-fn some_stretches(dist: &[i32], offsets: &[u8], first: usize, count: usize) -> u64
-    requires { ⌜ Held (now dist) (now offsets) × (first + count ≤ stretches (length (now dist))) ⌝ }
-    ensures { λ r. ⌜ r ≡ greatest (heldKey (now (dist .entry)) (now (offsets .entry))) first count ⌝ }
-{
-    let mut g: u64 = 0;
-    let mut c: usize = 0;
-    while c < count {
-        g = winners::greater(g, held_key(dist, offsets, first + c));
-        c += 1;
-    }
-    g
-}
-
-// The greatest key of group q.
-fn group_key(dist: &[i32], offsets: &[u8], q: usize) -> u64
-    requires { ⌜ Held (now dist) (now offsets) × (q < groups (stretches (length (now dist)))) ⌝ }
-    ensures { λ r. ⌜ r ≡ heldGroup (now (dist .entry)) (now (offsets .entry)) q ⌝ }
-{
-    let p = count_stretches(dist.len());
-    let first = GROUP * q;
-    if first + GROUP <= p {
-        return some_stretches(dist, offsets, first, GROUP);
-    }
-    some_stretches(dist, offsets, first, p - first)
-}
-
-// Makes the offsets of all stretches.
-fn fill_offsets(dist: &[i32], status: &[u8], offsets: &mut [u8])
-    requires { ⌜ Lent (now dist) (now status) × (stretches (length (now status)) ≤ length (now offsets)) ⌝ }
-    ensures { λ _. ⌜ Offsets (keyAt (now (dist .entry)) (now (status .entry))) (stretches (length (now (status .entry)))) (now (offsets .exit)) ⌝ }
-{
-    let p = count_stretches(status.len());
-    let mut k: usize = 0;
-    while k < p {
-        offsets[k] = offset_of(keys::stretch(dist, status, k));
-        k += 1;
-    }
-}
-
 // Makes the leaves of a tree with h of them.
 fn fill_leaves(dist: &[i32], offsets: &[u8], tree: &mut [u64], h: usize)
     requires { ⌜ Leafing (now dist) (now offsets) (now tree) h ⌝ }
@@ -118,7 +34,7 @@ fn fill_leaves(dist: &[i32], offsets: &[u8], tree: &mut [u64], h: usize)
 {
     let mut q: usize = 0;
     while q < h {
-        tree[h + q] = group_key(dist, offsets, q);
+        tree[h + q] = offsets::group_key(dist, offsets, q);
         q += 1;
     }
 }
@@ -140,12 +56,12 @@ fn refresh(dist: &[i32], offsets: &[u8], tree: &mut [u64], k: usize, w: u64)
     requires { ⌜ Refreshing (now dist) (now offsets) (now tree) k w ⌝ }
     ensures { λ _. ⌜ Refreshed (now (dist .entry)) (now (offsets .entry)) (now (tree .entry)) (now (tree .exit)) k ⌝ }
 {
-    let h = count_groups(dist.len());
+    let h = offsets::count_groups(dist.len());
     if adjoin(w, tree[1]) {
         winners::crown(tree, h, k / GROUP, w);
         return;
     }
-    let v = group_key(dist, offsets, k / GROUP);
+    let v = offsets::group_key(dist, offsets, k / GROUP);
     winners::replace(tree, h, k / GROUP, v);
 }
 
@@ -161,8 +77,8 @@ pub fn build(dist: &[i32], status: &[u8], offsets: &mut [u8], tree: &mut [u64])
     requires { ⌜ Room (now dist) (now status) (now offsets) (now tree) ⌝ }
     ensures { λ _. ⌜ Index (now (dist .entry)) (now (status .entry)) (now (offsets .exit)) (now (tree .exit)) ⌝ }
 {
-    let h = count_groups(dist.len());
-    fill_offsets(dist, status, offsets);
+    let h = offsets::count_groups(dist.len());
+    offsets::fill_offsets(dist, status, offsets);
     fill_leaves(dist, offsets, tree, h);
     winners::join_nodes(tree, h);
 }
@@ -174,7 +90,7 @@ pub fn clear(dist: &[i32], status: &mut [u8], offsets: &mut [u8], tree: &mut [u6
 {
     status[j] = s;
     let w = keys::stretch(dist, status, j / WIDTH);
-    offsets[j / WIDTH] = offset_of(w);
+    offsets[j / WIDTH] = offsets::offset_of(w);
     refresh(dist, offsets, tree, j / WIDTH, w);
 }
 
@@ -185,10 +101,10 @@ pub fn raise(dist: &[i32], status: &mut [u8], offsets: &mut [u8], tree: &mut [u6
 {
     status[j] = wake(status[j]);
     let w = keys::voxel_key(dist, j);
-    if w <= held_key(dist, offsets, j / WIDTH) {
+    if w <= offsets::held_key(dist, offsets, j / WIDTH) {
         return;
     }
-    let h = count_groups(dist.len());
+    let h = offsets::count_groups(dist.len());
     offsets[j / WIDTH] = (j % WIDTH) as u8;
     winners::lift(tree, h, j / WIDTH / GROUP, w);
 }

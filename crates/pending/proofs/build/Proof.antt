@@ -4,8 +4,8 @@ use Prim.Native.Nat.{ℕ, _+_}
 use native.Mathlib.Omega.{arith}
 use lib.ListN.{length}
 use Rattle.keys.specs.Key.{keyAt, stretches}
-use Rattle.pending.specs.Index.{groups}
-use Rattle.pending.proofs.Held.{held, held-group}
+use Rattle.offsets.specs.Offsets.{groups}
+use Rattle.offsets.proofs.Held.{held, held-group}
 use Rattle.pending.proofs.Indexing.{indexed}
 use borrow.Author.Needs.{needs}
 use Rattle.pending.proofs.build.Statement.{statement}

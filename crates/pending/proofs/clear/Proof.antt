@@ -4,7 +4,7 @@ use Prim.Native.Nat.{_/_}
 use native.Mathlib.Omega.{arith}
 use lib.ListN.{length, set, length-set}
 use Rattle.keys.specs.Key.{keyAt, stretches}
-use Rattle.pending.specs.Index.{Offsets}
+use Rattle.offsets.specs.Offsets.{Offsets}
 use Rattle.pending.proofs.Changes.{lent-set, offsets-clear, refreshing, index-clear}
 use borrow.Author.Needs.{needs}
 use Rattle.pending.proofs.clear.Statement.{statement}

@@ -3,8 +3,8 @@ use mathlib.Core.Path.{refl}
 use Prim.Native.Nat.{_-_}
 use borrow.Author.Needs.{needs}
 use native.Mathlib.Omega.{arith}
-use Rattle.pending.specs.Index.{heldGroup}
-use Rattle.pending.proofs.Offsets.{Filling, filling-start, filling-step}
+use Rattle.offsets.specs.Offsets.{heldGroup}
+use Rattle.offsets.proofs.Offsets.{Filling, filling-start, filling-step}
 use Rattle.pending.proofs.fill_leaves.Statement.{statement}
 use Rattle.pending.proofs.fill_leaves.Tie as tie
 

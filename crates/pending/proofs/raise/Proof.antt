@@ -7,7 +7,7 @@ use lib.ListN.{set}
 use Rattle.rules.specs.Status.{pendingByte}
 use Rattle.rules.proofs.Topology.Bytes.{woken-pending}
 use Rattle.keys.specs.Key.{keyAt, stretchKey}
-use Rattle.pending.proofs.Held.{held, held-key}
+use Rattle.offsets.proofs.Held.{held, held-key}
 use Rattle.pending.proofs.Changes.{nodes-now, index-kept, index-raised}
 use borrow.Author.Needs.{needs}
 use Rattle.pending.proofs.raise.Statement.{statement}

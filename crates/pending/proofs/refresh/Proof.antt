@@ -5,7 +5,7 @@ use Prim.Native.Nat.{ℕ, _/_}
 use native.Mathlib.Omega.{arith}
 use borrow.Author.Needs.{needs}
 use Rattle.winners.specs.Tree.{Nodes, Changed, Crowning}
-use Rattle.pending.specs.Index.{group}
+use Rattle.offsets.specs.Offsets.{group}
 use Rattle.pending.proofs.refresh.Statement.{statement}
 use Rattle.pending.proofs.refresh.Tie as tie
 

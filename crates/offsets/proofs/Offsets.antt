@@ -10,7 +10,7 @@ use lib.ListN.{length, getD, set, length-set}
 use lib.Seq.{getD-set-same, getD-set-other}
 use Rattle.keys.specs.Key.{most, voxelOf, greatest, width, stretchKey}
 use Rattle.keys.proofs.Greatest.{greatest-of}
-use Rattle.pending.specs.Index.{offsetOf, Offset, Offsets}
+use Rattle.offsets.specs.Offsets.{offsetOf, Offset, Offsets}
 
 -- what stands at m after a change at i
 pub at-set :

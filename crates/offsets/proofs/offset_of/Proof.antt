@@ -1,9 +1,9 @@
 -- `offset_of` meets its contract.
 use mathlib.Core.Path.{sym}
-use Rattle.pending.proofs.Offsets.{offset-none, offset-some}
+use Rattle.offsets.proofs.Offsets.{offset-none, offset-some}
 use borrow.Author.Needs.{needs}
-use Rattle.pending.proofs.offset_of.Statement.{statement}
-use Rattle.pending.proofs.offset_of.Tie as tie
+use Rattle.offsets.proofs.offset_of.Statement.{statement}
+use Rattle.offsets.proofs.offset_of.Tie as tie
 
 returns : tie.Need-returns
 returns c = sym (offset-none _ (c .if1 .taken))

@@ -6,11 +6,11 @@ use native.Mathlib.Nat.{zero-add}
 use native.Mathlib.Omega.{arith}
 use lib.ListN.{length, getD}
 use Rattle.keys.specs.Key.{keyAt, stretches, stretchKey}
-use Rattle.pending.specs.Index.{offsetOf}
-use Rattle.pending.proofs.Offsets.{Filling, filling-start, filling-step, offset-made}
-use Rattle.pending.proofs.Held.{key-named}
-use Rattle.pending.proofs.fill_offsets.Statement.{statement}
-use Rattle.pending.proofs.fill_offsets.Tie as tie
+use Rattle.offsets.specs.Offsets.{offsetOf}
+use Rattle.offsets.proofs.Offsets.{Filling, filling-start, filling-step, offset-made}
+use Rattle.offsets.proofs.Held.{key-named}
+use Rattle.offsets.proofs.fill_offsets.Statement.{statement}
+use Rattle.offsets.proofs.fill_offsets.Tie as tie
 
 abbrev Inv-loop : tie.InvT-loop
 Inv-loop dist status offsets₀ p k₀ offsets k =

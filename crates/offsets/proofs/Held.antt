@@ -12,8 +12,8 @@ use lib.ListN.{length, getD}
 use Rattle.keys.specs.Key.{most, Lent, keyAt, voxelKey, greatest, width, stretches, stretchKey}
 use Rattle.keys.proofs.Greatest.{greatest-add, greatest-none, greatest-same}
 use Rattle.keys.proofs.Ranks.{key-by, key-pending, key-past, key-voxel}
-use Rattle.pending.specs.Index.{Offset, Offsets, heldAt, heldKey, Held, group, groups, groupKey, heldGroup}
-use Rattle.pending.proofs.Offsets.{Named}
+use Rattle.offsets.specs.Offsets.{Offset, Offsets, heldAt, heldKey, Held, group, groups, groupKey, heldGroup}
+use Rattle.offsets.proofs.Offsets.{Named}
 
 module _ (dist : List ℤ) (offsets : List ℕ) (k : ℕ) where
   pub held-off : width ≤ getD offsets k 0 → heldKey dist offsets k ≡ 0

@@ -1,10 +1,10 @@
 -- `group_key` meets its contract: a group is whole, or ends with the last stretch.
 use native.Mathlib.Omega.{arith}
-use Rattle.pending.specs.Index.{group}
-use Rattle.pending.proofs.Held.{held-some}
+use Rattle.offsets.specs.Offsets.{group}
+use Rattle.offsets.proofs.Held.{held-some}
 use borrow.Author.Needs.{needs}
-use Rattle.pending.proofs.group_key.Statement.{statement}
-use Rattle.pending.proofs.group_key.Tie as tie
+use Rattle.offsets.proofs.group_key.Statement.{statement}
+use Rattle.offsets.proofs.group_key.Tie as tie
 
 count-stretches-requires : tie.Need-count-stretches-requires
 count-stretches-requires c κs = search needs

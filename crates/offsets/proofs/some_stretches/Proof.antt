@@ -5,9 +5,9 @@ use borrow.Author.Needs.{needs}
 use native.Mathlib.Omega.{arith}
 use Rattle.keys.specs.Key.{greatest}
 use Rattle.keys.proofs.Greatest.{greatest-more, greatest-empty}
-use Rattle.pending.specs.Index.{heldKey}
-use Rattle.pending.proofs.some_stretches.Statement.{statement}
-use Rattle.pending.proofs.some_stretches.Tie as tie
+use Rattle.offsets.specs.Offsets.{heldKey}
+use Rattle.offsets.proofs.some_stretches.Statement.{statement}
+use Rattle.offsets.proofs.some_stretches.Tie as tie
 
 abbrev Inv-loop : tie.InvT-loop
 Inv-loop dist offsets first count g₀ c₀ g c = (c ≤ count) × (g ≡ greatest (heldKey dist offsets) first c)

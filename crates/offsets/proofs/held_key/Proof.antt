@@ -4,10 +4,10 @@ use Prim.Native.Nat.{ℕ, _+_, _*_, _%_, _≤_, _<_}
 use native.Mathlib.Omega.{arith}
 use lib.ListN.{length}
 use Rattle.keys.specs.Key.{voxelKey}
-use Rattle.pending.proofs.Held.{held-on, held-off}
+use Rattle.offsets.proofs.Held.{held-on, held-off}
 use borrow.Author.Needs.{needs}
-use Rattle.pending.proofs.held_key.Statement.{statement}
-use Rattle.pending.proofs.held_key.Tie as tie
+use Rattle.offsets.proofs.held_key.Statement.{statement}
+use Rattle.offsets.proofs.held_key.Tie as tie
 
 shared-slice-read-index : tie.Need-shared-slice-read-index
 shared-slice-read-index c = search needs
