@@ -1,5 +1,5 @@
 -- Waking by bits over the index: the loop, and one voxel of it.
-use mathlib.Core.Path.{_≡_, refl, sym, ap, _∙_, subst}
+use mathlib.Core.Path.{_≡_, refl, sym, ap, _∙_, subst, subst₂}
 use mathlib.Core.Logic.{inl, inr}
 use mathlib.Core.Bool.{true, false, not}
 use mathlib.Core.List.{List}
@@ -17,7 +17,7 @@ use Rattle.rules.specs.Machine.{outside}
 use Rattle.rules.proofs.Topology.Steps.{pending-beyond}
 use Rattle.bits.specs.Bits.{has}
 use Rattle.bits.specs.Lowest.{Lowest}
-use Rattle.waking.specs.Waking.{Woken, Only, AtBits}
+use Rattle.waking.specs.Waking.{Woken, Only, AtBits, fromVoxel}
 use Rattle.waking.proofs.Waking.{outside-is, woken-one, woken-bound, Rousing, rousing-start, rousing-next, rousing-done}
 use Rattle.pending.specs.Index.{Index, Written}
 use Rattle.examining.specs.Examining.{Roused}
@@ -50,6 +50,14 @@ module _ (dist : List ℤ) (before offsets tree : List ℕ) (j : ℕ) where
         woken = subst (Woken (Only (outside dist) j) before) (sym (w .status)) (woken-one (outside dist) before j _ h (outside-is dist j ∙ ap not e) refl);
         index = w .index;
       }
+
+-- the bits and the first voxel, as code has them
+pub roused-at :
+    {dist : List ℤ} {before after offsets tree : List ℕ} (a l : ℕ) {x y at from : ℕ} → x ≡ y → at ≡ from
+    → Roused (AtBits (outside dist) x (fromVoxel a l at)) dist before after offsets tree
+    → Roused (AtBits (outside dist) y (fromVoxel a l from)) dist before after offsets tree
+roused-at {dist} {before} {after} {offsets} {tree} a l e f w =
+    subst₂ (λ (x at : ℕ). Roused (AtBits (outside dist) x (fromVoxel a l at)) dist before after offsets tree) e f w
 
 -- ---- the loop
 

@@ -22,8 +22,8 @@ use Rattle.rules.proofs.Topology.Bytes.{rested-kept, rested-pending, still-kept
 use Rattle.rules.proofs.Topology.Steps.{pending-beyond}
 use Rattle.neighbourhood.specs.Neighbourhood.{Inner}
 use Rattle.neighbourhood.proofs.Bodies.{kept-inner, fit-body}
-use Rattle.pending.specs.Index.{Written}
-use Rattle.examining.specs.Examining.{Workable, Removed, Examined}
+use Rattle.pending.specs.Index.{Index, Written}
+use Rattle.examining.specs.Examining.{Workable, Examined}
 
 known-kept : (x : ℕ) → Known x → pendingByte x ≡ true → keptByte x ≡ true
 unfolding keptByte pendingByte
@@ -131,6 +131,11 @@ module _ (s : Sides) (status : List ℕ) (w : Workable s status) where
 
 -- ---- one examination, by what the test says
 
+-- the byte that was written, as the rule has it
+pub written-as :
+    {dist : List ℤ} {before after offsets tree : List ℕ} {i x y : ℕ} → Written dist before after offsets tree i x → x ≡ y → after ≡ set before i y
+written-as {before = before} {i = i} w e = w .status ∙ ap (set before i) e
+
 module _ (s : Sides) (dist : List ℤ) (before after offsets tree : List ℕ) (i : ℕ) (r : Bool) (e : r ≡ passes (testAt s before i)) where
   abbrev then : Bool → List ℕ
   then t = examinedAs t s (outside dist) before i
@@ -141,11 +146,12 @@ module _ (s : Sides) (dist : List ℤ) (before after offsets tree : List ℕ) (i
   same : (t : Bool) → r ≡ t → t ≡ passes (testAt s before i)
   same t f = sym f ∙ e
 
-  pub gone-examined : r ≡ true → Removed s dist before after offsets tree i → Examined s dist before after offsets tree i 1
+  pub gone-examined :
+      r ≡ true → after ≡ without s (outside dist) before i → Index dist after offsets tree → Examined s dist before after offsets tree i 1
   unfolding examine
-  gone-examined t w = record { count = ap one (same true t); status = w .status ∙ ap then (same true t); index = w .index }
+  gone-examined t w x = record { count = ap one (same true t); status = w ∙ ap then (same true t); index = x }
 
   pub rest-examined :
-      r ≡ false → Written dist before after offsets tree i (rested (statusOf before i)) → Examined s dist before after offsets tree i 0
+      r ≡ false → after ≡ set before i (rested (statusOf before i)) → Index dist after offsets tree → Examined s dist before after offsets tree i 0
   unfolding examine
-  rest-examined t w = record { count = ap one (same false t); status = w .status ∙ ap then (same false t); index = w .index }
+  rest-examined t w x = record { count = ap one (same false t); status = w ∙ ap then (same false t); index = x }

@@ -8,9 +8,9 @@ use lib.ListN.{length}
 use Rattle.cells.specs.Cells.{passes}
 use Rattle.rules.specs.declared.Sides.{Sides}
 use Rattle.rules.specs.Grid.{size}
-use Rattle.rules.specs.Status.{isKept, isPending, anyPending, testAt, without, examine, progress, carving}
+use Rattle.rules.specs.Status.{isKept, isPending, anyPending, testAt, examine, progress, carving}
 use Rattle.rules.specs.Machine.{outside, farther}
-use Rattle.neighbourhood.specs.Neighbourhood.{Inner, Body, codeOf}
+use Rattle.neighbourhood.specs.Neighbourhood.{Inner, Body}
 use Rattle.waking.specs.Waking.{Woken, Callable}
 use Rattle.pending.specs.Index.{Room, Index}
 use Rattle.examining.specs.declared.Count.{Count}
@@ -33,16 +33,11 @@ pub record Roused (P : ℕ → Type 0) (dist : List ℤ) (before after offsets t
 
 -- ---- one examination
 
--- an inner voxel, and what was gathered around it
-pub record Gathered (s : Sides) (dist : List ℤ) (status offsets tree : List ℕ) (i code : ℕ) : Type 0 where
+-- an inner voxel, around which others are to wake
+pub record Leaving (s : Sides) (dist : List ℤ) (status offsets tree : List ℕ) (i : ℕ) : Type 0 where
   pub index : Index dist status offsets tree
   pub statuses : length status ≡ size s
   pub voxel : Inner s i
-  pub gathered : code ≡ codeOf s status i
-
-pub record Removed (s : Sides) (dist : List ℤ) (before after offsets tree : List ℕ) (i : ℕ) : Type 0 where
-  pub status : after ≡ without s (outside dist) before i
-  pub index : Index dist after offsets tree
 
 -- a pending voxel
 pub record Examinable (s : Sides) (dist : List ℤ) (status offsets tree : List ℕ) (i : ℕ) : Type 0 where

@@ -1,15 +1,17 @@
 // Examinations over the index of pending voxels: one that passes is removed, and wakes those around it; one that fails rests.
 ghost use mathlib.Core.Path.{_≡_};
-ghost use mathlib.Core.Bool.{true};
-ghost use Prim.Native.Nat.{_<_};
+ghost use mathlib.Core.Bool.{true, cond};
+ghost use Prim.Native.Nat.{_*_, _≤_, _<_};
 ghost use lib.ListN.{length};
 ghost use Rattle.cells.specs.Groups.{any};
 ghost use Rattle.rules.specs.Grid.{range};
-ghost use Rattle.rules.specs.Status.{statusOf, isPending, rested};
+ghost use Rattle.rules.specs.Status.{isPending, rested};
 ghost use Rattle.rules.specs.Machine.{outside};
-ghost use Rattle.waking.specs.Waking.{Only, AtBits, fromVoxel};
-ghost use Rattle.pending.specs.Index.{Index, Written};
-ghost use Rattle.examining.specs.Examining.{Workable, Callables, Roused, Gathered, Removed, Examinable, Examined, Run, Lending, Tallied};
+ghost use Rattle.bits.specs.Bits.{bits};
+ghost use Rattle.neighbourhood.specs.Neighbourhood.{firstAround};
+ghost use Rattle.waking.specs.Waking.{idleBit, Only, AtBits, fromVoxel};
+ghost use Rattle.pending.specs.Index.{Index};
+ghost use Rattle.examining.specs.Examining.{Workable, Callables, Roused, Leaving, Examinable, Examined, Run, Lending, Tallied};
 use pending::Choice;
 use rules::Sides;
 
@@ -50,8 +52,8 @@ fn wake(
     }
 }
 
-// Voxel i is gone, and every kept voxel that touches it and may go is pending; code is its neighbourhood.
-fn remove(
+// Wakes the voxels around voxel i, whose neighbourhood was code.
+fn wake_around(
     s: Sides,
     dist: &[i32],
     status: &mut [u8],
@@ -60,27 +62,29 @@ fn remove(
     i: usize,
     code: u64,
 )
-    requires { ⌜ Gathered s (now dist) (now status) (now offsets) (now tree) i code ⌝ }
-    ensures { λ _. ⌜ Removed s (now (dist .entry)) (now (status .entry)) (now (status .exit)) (now (offsets .exit)) (now (tree .exit)) i ⌝ }
+    requires { ⌜ Leaving s (now dist) (now status) (now offsets) (now tree) i ⌝ }
+    ensures { λ _. ⌜
+        Roused (AtBits (outside (now (dist .entry))) (bits 54 (idleBit code)) (fromVoxel (s .a) (s .a * s .b) (firstAround s i)))
+        (now (dist .entry)) (now (status .entry)) (now (status .exit)) (now (offsets .exit)) (now (tree .exit)) ⌝ }
 {
     let at = neighbourhood::first_around(s, i);
     let idle = waking::idle_bits(code);
-    pending::clear(dist, status, offsets, tree, i, 0);
     wake(dist, status, offsets, tree, s.a, s.a * s.b, at, idle);
 }
 
-// Pending voxel i is pending no more.
-fn rest(dist: &[i32], status: &mut [u8], offsets: &mut [u8], tree: &mut [u64], i: usize)
-    requires { ⌜ Index (now dist) (now status) (now offsets) (now tree) × (isPending (now status) i ≡ true) ⌝ }
-    ensures { λ _. ⌜
-        Written (now (dist .entry)) (now (status .entry)) (now (status .exit)) (now (offsets .exit)) (now (tree .exit))
-        i (rested (statusOf (now (status .entry)) i)) ⌝ }
+// The status that an examination leaves: that of a voxel gone, or x no longer pending.
+fn left(gone: bool, x: u8) -> u8
+    requires { ⌜ 2 ≤ x ⌝ }
+    ensures { λ r. ⌜ r ≡ cond gone 0 (rested x) ⌝ }
 {
-    let x = status[i];
-    pending::clear(dist, status, offsets, tree, i, x - 2);
+    if gone {
+        return 0;
+    }
+    x - 2
 }
 
-// Examines pending voxel i: 1 where it was removed, 0 where it stays. One gathering serves the test and the waking.
+// Examines pending voxel i: 1 where it was removed, 0 where it stays. One gathering serves the test and the waking, and one place in the
+// code clears, so that the compiler sets that work in place.
 fn examine(
     s: Sides,
     dist: &[i32],
@@ -93,11 +97,13 @@ fn examine(
     ensures { λ r. ⌜ Examined s (now (dist .entry)) (now (status .entry)) (now (status .exit)) (now (offsets .exit)) (now (tree .exit)) i r ⌝ }
 {
     let code = neighbourhood::gather(s, status, i);
-    if local_test::passes(neighbourhood::kept_bits(code)) {
-        remove(s, dist, status, offsets, tree, i, code);
+    let gone = local_test::passes(neighbourhood::kept_bits(code));
+    let x = status[i];
+    pending::clear(dist, status, offsets, tree, i, left(gone, x));
+    if gone {
+        wake_around(s, dist, status, offsets, tree, i, code);
         return 1;
     }
-    rest(dist, status, offsets, tree, i);
     0
 }
 

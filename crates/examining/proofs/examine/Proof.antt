@@ -1,13 +1,19 @@
 -- `examining::examine` meets its contract: by what the test says of the neighbourhood.
-use mathlib.Core.Path.{_≡_, ap, _∙_}
+use mathlib.Core.Path.{_≡_, refl, sym, ap, _∙_, subst}
+use mathlib.Core.Bool.{Bool, true, false, cond}
 use Prim.Native.Nat.{ℕ}
 use borrow.Author.Needs.{needs}
 use Rattle.cells.specs.Cells.{passes}
-use Rattle.rules.specs.Status.{testAt}
+use Rattle.rules.specs.Status.{statusOf, pendingByte, isPending, rested, testAt}
+use Rattle.rules.specs.Machine.{outside}
+use Rattle.rules.proofs.Topology.Bytes.{rested-pending}
 use Rattle.bits.specs.Bits.{bits}
 use Rattle.neighbourhood.specs.Neighbourhood.{Inner, keptOf}
 use Rattle.neighbourhood.proofs.Gathering.{code-test}
-use Rattle.examining.proofs.Working.{pending-inner, gone-examined, rest-examined}
+use Rattle.waking.specs.Waking.{idleBit}
+use Rattle.waking.proofs.Removal.{removed-from}
+use Rattle.examining.proofs.Calling.{pending-below, pending-two}
+use Rattle.examining.proofs.Working.{pending-inner, written-as, gone-examined, rest-examined}
 use Rattle.examining.proofs.examine.Statement.{statement}
 use Rattle.examining.proofs.examine.Tie as tie
 
@@ -39,12 +45,44 @@ passing c =
     c .passes .ensures
     ∙ ap passes (code-test (a .s) (a .i) (inner s) (a .status .now) (k .kept-bits .ensures ∙ ap (λ (x : ℕ). bits 27 (keptOf x)) (g .gather .ensures)))
 
-remove-requires : tie.Need-remove-requires
-remove-requires c κs =
-    let t = c .before .before .before in
-    let g = t .before .before .before in
-    let s = start g in
-    record { index = s .pre .index; statuses = s .pre .work .body .statuses; voxel = inner s; gathered = g .gather .ensures }
+slice-read-x : tie.Need-slice-read-x
+slice-read-x c = search needs
+
+-- from what it was lent, given back, to the call that clears; and from there to the test
+abbrev cleared : tie.After-slice-known7 → tie.After-clear
+cleared c = c .before .before .before .before .before .before
+
+abbrev asked : tie.After-clear → tie.After-passes
+asked c = c .before .before .before .before .before .before
+
+left-requires : tie.Need-left-requires
+left-requires c κs =
+    let s = start (c .before .before .before .before .before .before) in
+    pending-two (s .args .status .now) (s .args .i) (s .pre .pending)
+
+-- a byte that is left is not pending
+left-idle : (t : Bool) (x : ℕ) → pendingByte x ≡ true → pendingByte (cond t 0 (rested x)) ≡ false
+unfolding pendingByte
+left-idle true x e = refl
+left-idle false x e = rested-pending x e
+
+clear-requires : tie.Need-clear-requires
+unfolding isPending
+clear-requires c κs =
+    let p = c .before .before .before .before .before in
+    let s = start (p .before .before) in
+    let a = s .args in
+    record {
+      index = s .pre .index;
+      inside = pending-below (a .status .now) (a .i) (s .pre .pending);
+      idle = ap pendingByte (c .left .ensures) ∙ left-idle (p .passes .result) (statusOf (a .status .now) (a .i)) (s .pre .pending);
+    }
+
+wake-around-requires : tie.Need-wake-around-requires
+wake-around-requires c κs =
+    let k = cleared (c .before .before .before .before) in
+    let s = start (asked k .before .before) in
+    record { index = k .clear .ensures .index; statuses = k .clear .kept .1 .0 ∙ s .pre .work .body .statuses; voxel = inner s }
 
 same-length : tie.Need-same-length
 same-length c = search needs
@@ -57,15 +95,18 @@ same-length-3 c = search needs
 
 returns : tie.Need-returns
 returns c =
-    let r-back = c .before .before .before in
-    let r = r-back .before .before .before in
-    let t = r .before .before .before .before in
-    let p = t .before in
-    let a = start (p .before .before) .args in
-    gone-examined (a .s) (a .dist .now) (a .status .now) _ _ _ (a .i) (p .passes .result) (passing p) (t .if1 .taken) (r .remove .ensures)
-
-rest-requires : tie.Need-rest-requires
-rest-requires c κs = search needs
+    let w = c .before .before .before .before .before .before in
+    let t = w .before .before .before .before in
+    let k = cleared (t .before) in
+    let p = asked k in
+    let g = p .before .before in
+    let s = start g in
+    let a = s .args in
+    let byte = k .before .left .ensures ∙ ap (λ (b : Bool). cond b 0 (rested (statusOf (a .status .now) (a .i)))) (t .if1 .taken) in
+    gone-examined (a .s) (a .dist .now) (a .status .now) _ _ _ (a .i) (p .passes .result) (passing p) (t .if1 .taken)
+    (removed-from (a .s) (outside (a .dist .now)) (a .status .now) (a .i) (inner s) (s .pre .work .body .statuses)
+    (ap (λ (x : ℕ). bits 54 (idleBit x)) (g .gather .ensures)) refl (written-as (k .clear .ensures) byte)
+    (w .wake-around .ensures .woken)) (w .wake-around .ensures .index)
 
 same-length-4 : tie.Need-same-length-4
 same-length-4 c = search needs
@@ -78,12 +119,12 @@ same-length-6 c = search needs
 
 returns-2 : tie.Need-returns-2
 returns-2 c =
-    let r-back = c .before .before .before in
-    let r = r-back .before .before .before in
-    let t = r .before .before .before .before in
-    let p = t .before in
+    let k = cleared (c .before) in
+    let p = asked k in
     let a = start (p .before .before) .args in
-    rest-examined (a .s) (a .dist .now) (a .status .now) _ _ _ (a .i) (p .passes .result) (passing p) (t .if1 .left) (r .rest .ensures)
+    let byte = k .before .left .ensures ∙ ap (λ (b : Bool). cond b 0 (rested (statusOf (a .status .now) (a .i)))) (c .if1 .left) in
+    rest-examined (a .s) (a .dist .now) (a .status .now) _ _ _ (a .i) (p .passes .result) (passing p) (c .if1 .left)
+    (written-as (k .clear .ensures) byte) (k .clear .ensures .index)
 
 pub examine-spec : {M : Type 1} → statement M
 examine-spec =
@@ -92,12 +133,14 @@ examine-spec =
     gather-requires
     kept-bits-requires
     passes-requires
-    remove-requires
+    slice-read-x
+    left-requires
+    clear-requires
+    wake-around-requires
     same-length
     same-length-2
     same-length-3
     returns
-    rest-requires
     same-length-4
     same-length-5
     same-length-6
