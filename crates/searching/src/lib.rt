@@ -16,13 +16,7 @@ use rules::Sides;
 pub fn any_pending(status: &[u8]) -> bool
     ensures { λ r. ⌜ r ≡ any (isPending (now (status .entry))) (range 0 (length (now (status .entry)))) ⌝ }
 {
-    let mut found = false;
-    let mut i: usize = 0;
-    while i < status.len() {
-        found = found | (status[i] / 2 % 2 == 1);
-        i += 1;
-    }
-    found
+    loops::joined(status, 0, status.len()) / 2 % 2 == 1
 }
 
 // ---- the voxel to open
