@@ -1,4 +1,4 @@
--- `searching::any_pending` meets its contract: bit 1 of all statuses joined.
+-- `closing::any_pending` meets its contract: bit 1 of all statuses joined.
 use borrow.Author.Needs.{needs}
 use native.Mathlib.Omega.{arith}
 use mathlib.Core.Path.{_≡_, refl, ap, ap₂, sym, _∙_}
@@ -12,8 +12,8 @@ use Rattle.rules.specs.Grid.{range}
 use Rattle.rules.specs.Status.{pendingByte, isPending}
 use Rattle.loops.specs.Joined.{BitTest}
 use Rattle.neighbourhood.proofs.Gathering.{pending-bit}
-use Rattle.searching.proofs.any_pending.Statement.{statement}
-use Rattle.searching.proofs.any_pending.Tie as tie
+use Rattle.closing.proofs.any_pending.Statement.{statement}
+use Rattle.closing.proofs.any_pending.Tie as tie
 
 pending-test : BitTest pendingByte
 unfolding pendingByte
