@@ -4,16 +4,15 @@ use mathlib.Core.Logic.{inl, inr, ⊎-elim}
 use mathlib.Core.List.{List}
 use Prim.Native.Nat.{ℕ, _+_, _-_, _*_, _/_, _%_, _≤_, _<_, min, max}
 use native.Mathlib.Omega.{arith}
-use native.Mathlib.Nat.{eq-or-lt-of-le}
 use lib.ListN.{getD}
 use Rattle.rules.specs.declared.Sides.{Sides}
 use Rattle.rules.specs.Grid.{Voxel, size, voxel}
 use Rattle.rules.proofs.Places.{fit, InGrid, voxel-in}
-use Rattle.loops.specs.First.{First}
+use Rattle.loops.specs.Searches.{First, Last}
 use Rattle.loops.proofs.Orders.{split}
 use Rattle.loops.proofs.Rows.{row-voxel, rows-more, rows-all}
 use Rattle.bounding_box.specs.declared.Bounds.{Bounds}
-use Rattle.bounding_box.specs.Bounds.{LastZero, widenedBy, Widened, clear, taken, Reached, Spanned, Bounded, Enclosable, Enclosed}
+use Rattle.bounding_box.specs.Bounds.{widenedBy, Widened, clear, taken, Reached, Spanned, Bounded, Enclosable, Enclosed}
 
 -- ---- one axis
 
@@ -109,7 +108,7 @@ module _ (s : Sides) (d : List ℕ) (r : ℕ) where
           z-spanned = spanned-skip _ _ _ _ _ _ _ up none′ (B .z-spanned);
         }
 
-    module _ (p q : ℕ) (P : First d 0 (s .a * r) (s .a * r + s .a) p) (some : p < s .a * r + s .a) (Q : LastZero d p (s .a * r + s .a) q) where
+    module _ (p q : ℕ) (P : First d 0 (s .a * r) (s .a * r + s .a) p) (some : p < s .a * r + s .a) (Q : Last d 0 p (s .a * r + s .a) q) where
       last-listed : getD d q 0 ≡ 0
       last-listed =
           ⊎-elim (λ e. subst (λ (k : ℕ). getD d k 0 ≡ 0) (let z : p ≡ q = omega (arith, Q .low) in z) (P .found some)) (λ l. Q .found l) (split q p)
@@ -173,11 +172,3 @@ bounded-all s d r b E e B₀ =
             z-in = omega (arith, z .stands, in-grid (z .reached) (z .below) .z-in);
           };
     }
-
--- ---- a search for a voxel of S, downwards
-
-module _ (d : List ℕ) (i : ℕ) where
-  pub none-less : {end : ℕ} → ((k : ℕ) → i < k → k < end → getD d k 0 ≡ 0 → ⊥) → (getD d i 0 ≡ 0 → ⊥)
-      → (k : ℕ) → i - 1 < k → k < end → getD d k 0 ≡ 0 → ⊥
-  none-less none here k l h e =
-      ⊎-elim (λ q. here (subst (λ (j : ℕ). getD d j 0 ≡ 0) (sym q) e)) (λ q. none k q h e) (eq-or-lt-of-le (let t : i ≤ k = omega arith in t))

@@ -8,18 +8,11 @@ use lib.Dec.{eqb, leb}
 use lib.ListN.{length, getD}
 use Rattle.rules.specs.declared.Sides.{Sides}
 use Rattle.rules.specs.Grid.{Voxel, fitSides, size, range, voxel}
-use Rattle.loops.specs.First.{First}
+use Rattle.loops.specs.Searches.{Absent, First, Last}
 use Rattle.loops.specs.InPlace.{Each}
 use Rattle.bounding_box.specs.declared.Bounds.{Bounds}
 
 -- ---- the voxels of S in a row
-
--- r is the last of them from first up to end, or first
-pub record LastZero (d : List ℕ) (first end r : ℕ) : Type 0 where
-  pub low : first ≤ r
-  pub high : r < end
-  pub none-after : (k : ℕ) → r < k → k < end → getD d k 0 ≡ 0 → ⊥
-  pub found : first < r → getD d r 0 ≡ 0
 
 -- a box with y, z and the coordinates from p to q taken in
 abbrev pub widenedBy : Bounds → ℕ → ℕ → ℕ → ℕ → Bounds
@@ -28,8 +21,8 @@ widenedBy b p q y z =
 
 -- what taking row r in makes of a box
 pub data Widened (s : Sides) (d : List ℕ) (r : ℕ) (b b′ : Bounds) : Type 0 where
-  clear : ((k : ℕ) → s .a * r ≤ k → k < s .a * r + s .a → getD d k 0 ≡ 0 → ⊥) → b′ ≡ b → Widened s d r b b′
-  taken : (p q : ℕ) → First d 0 (s .a * r) (s .a * r + s .a) p → p < s .a * r + s .a → LastZero d p (s .a * r + s .a) q
+  clear : Absent d 0 (s .a * r) (s .a * r + s .a) → b′ ≡ b → Widened s d r b b′
+  taken : (p q : ℕ) → First d 0 (s .a * r) (s .a * r + s .a) p → p < s .a * r + s .a → Last d 0 p (s .a * r + s .a) q
       → b′ ≡ widenedBy b (p - s .a * r) (q - s .a * r) (r % s .b) (r / s .b) → Widened s d r b b′
 
 -- ---- the box

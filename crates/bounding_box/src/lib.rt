@@ -7,7 +7,7 @@ ghost use lib.Dec.{eqb};
 ghost use lib.ListN.{length};
 ghost use Rattle.loops.specs.InPlace.{Each};
 ghost use Rattle.loops.specs.Rows.{Row};
-ghost use Rattle.bounding_box.specs.Bounds.{LastZero, Widened, Enclosable, Enclosed, Proper, Settled, Cut, rowStatus, SettledRow, statusBy};
+ghost use Rattle.bounding_box.specs.Bounds.{Widened, Enclosable, Enclosed, Proper, Settled, Cut, rowStatus, SettledRow, statusBy};
 
 // The least and the greatest coordinate of S along each axis.
 pub struct Bounds {
@@ -31,21 +31,6 @@ fn higher(a: usize, b: usize) -> usize
     if a < b { b } else { a }
 }
 
-// The last voxel of S before end, where the voxel at first is one.
-fn last_zero(d: &[u8], first: usize, end: usize) -> usize
-    requires { ⌜ (first < end) × (end ≤ length (now d)) ⌝ }
-    ensures { λ r. ⌜ LastZero (now (d .entry)) first end r ⌝ }
-{
-    let mut i = end - 1;
-    while first < i {
-        if d[i] == 0 {
-            return i;
-        }
-        i -= 1;
-    }
-    i
-}
-
 // The box with the voxels of S in a row taken in.
 fn widened(b: Bounds, d: &[u8], sides: Sides, row: usize) -> Bounds
     requires { ⌜ Row sides (length (now d)) row ⌝ }
@@ -57,7 +42,7 @@ fn widened(b: Bounds, d: &[u8], sides: Sides, row: usize) -> Bounds
     if p == end {
         return b;
     }
-    let q = last_zero(d, p, end);
+    let q = loops::last_of(d, 0, p, end);
     let y = row % sides.b;
     let z = row / sides.b;
     Bounds {

@@ -132,7 +132,7 @@ fn quiet_refusal(given: Record, dist: &[i32], status: &[u8]) -> u8
     if n != 0 {
         return n;
     }
-    if searching::any_pending(status) {
+    if closing::any_pending(status) {
         return 13;
     }
     0
@@ -144,7 +144,7 @@ fn finish_fit(given: Record, dist: &mut [i32], status: &[u8]) -> Finished
         outcome (finishedAnswer r) (buffers (now (dist .exit)) (now (status .entry)))
         ≡ finishedOf (state given (now (dist .entry)) (now (status .entry))) ⌝ }
 {
-    searching::close(dist, status);
+    closing::close(dist, status);
     let s = given.sides;
     Finished::Closed(Record {
         sides: s,

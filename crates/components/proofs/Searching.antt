@@ -19,7 +19,7 @@ use Rattle.prelude.proofs.Ranges.{range-mem, mem-range}
 use Rattle.components.specs.Flood.{fillOf, labelled, untaken, Ready, Taken, Lists, Flooded, Component, sizeOf, Longest, nearBy, Floodable, Searchable}
 use Rattle.components.proofs.Counting.{Parts, left, right, none, count-parts, count-labels, mem-some}
 use Rattle.components.proofs.Pushes.{label-lt}
-use Rattle.loops.specs.First.{First}
+use Rattle.loops.specs.Searches.{First}
 use Rattle.loops.proofs.Orders.{split}
 
 lists-same : (test : ℕ → Bool) (work work′ : List ℤ) (first end : ℕ) → ((k : ℕ) → k < end → getD work′ k (pos 0) ≡ getD work k (pos 0))

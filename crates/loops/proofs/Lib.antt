@@ -3,3 +3,4 @@ pub mod Below
 pub mod InPlace
 pub mod Coordinates
 pub mod Rows
+pub mod Joining

@@ -11,6 +11,7 @@ use lib.Dec.{leb}
 use lib.ListN.{length, getD, set}
 use lib.Seq.{getD-set-same, getD-set-other}
 use Rattle.prelude.proofs.Bools.{two}
+use Rattle.loops.specs.Searches.{Absent}
 
 pub split : (x y : ℕ) → (x ≤ y) ⊎ (y < x)
 split x y = ⊎-elim (λ e. inl (leb-true x y e)) (λ e. inr (leb-false x y e)) (two (leb x y))
@@ -29,8 +30,16 @@ getD-within [] i d e h = let z : ⊥ = omega arith in absurd z
 getD-within (x ∷ l) zero d e h = refl
 getD-within (x ∷ l) (suc i) d e h = getD-within l i d e (omega arith)
 
--- one index more in a search upwards
-pub none-more : (l : List ℕ) (i v : ℕ) {first : ℕ} → ((k : ℕ) → first ≤ k → k < i → getD l k 0 ≡ v → ⊥) → (getD l i 0 ≡ v → ⊥)
-    → (k : ℕ) → first ≤ k → k < i + 1 → getD l k 0 ≡ v → ⊥
-none-more l i v none here k f h e =
-    ⊎-elim (λ q. here (subst (λ (j : ℕ). getD l j 0 ≡ v) q e)) (λ q. none k f q e) (eq-or-lt-of-le (let t : k ≤ i = omega arith in t))
+-- ---- a search
+
+module _ (l : List ℕ) {v low high : ℕ} where
+  pub absent-none : high ≤ low → Absent l v low high
+  absent-none e k f h = let z : ⊥ = omega arith in absurd z
+
+  -- nor at i, nor before, nor after
+  pub absent-around : (i : ℕ) → (getD l i 0 ≡ v → ⊥) → Absent l v low i → Absent l v (suc i) high → Absent l v low high
+  absent-around i here before after k f h e =
+      ⊎-elim
+      (λ q. ⊎-elim (λ q. here (subst (λ (j : ℕ). getD l j 0 ≡ v) q e)) (λ q. before k f q e) (eq-or-lt-of-le q))
+      (λ q. after k q h e)
+      (split k i)

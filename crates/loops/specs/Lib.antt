@@ -1,3 +1,4 @@
 pub mod InPlace
 pub mod Rows
-pub mod First
+pub mod Searches
+pub mod Joined

@@ -1,7 +1,6 @@
 -- Number 7 row by row on the border, and its three scans as one.
 use mathlib.Core.Path.{_≡_, refl, sym, ap, ap₂, _∙_}
 use mathlib.Core.Bool.{Bool, true, false, not, cond, _||_, _&&_}
-use mathlib.Core.Logic.{inl, inr}
 use mathlib.Core.List.{List}
 use Prim.Native.Nat.{ℕ, _+_, _-_, _*_, _≤_, _<_}
 use native.Mathlib.Omega.{arith}
@@ -12,7 +11,7 @@ use lib.ListN.{length}
 use mir.Syntax.{w32}
 use mir.Val.{SFits, ofZ}
 use Rattle.cells.specs.Groups.{any}
-use Rattle.prelude.proofs.Bools.{two, and-zero, and-one, or-one}
+use Rattle.prelude.proofs.Bools.{and-zero, and-one, or-one}
 use Rattle.prelude.proofs.Ranges.{any-run-ext, any-run-one, any-run-none-of, any-or, scan-join}
 use Rattle.prelude.proofs.Signs.{signBit, sign-held}
 use Rattle.rules.specs.declared.Sides.{Sides}
@@ -85,8 +84,8 @@ module _ (s : Sides) (dist : List ℤ) (status : List ℕ) (l : length status �
 -- ---- the sign of a voxel's distance, counted only where it may not be negative
 pub sign-held-up : (d : ℤ) (s : ℕ) → SFits w32 d → signBit (ofZ w32 (heldUp d s)) ≡ isNegative d && not (eqb s 1)
 unfolding heldUp
-sign-held-up d s h =
-    elim (two (eqb s 1)) [
-      | inl e ↦ ap (λ (t : Bool). signBit (ofZ w32 (cond t (pos 0) d))) e ∙ sym (and-zero (isNegative d)) ∙ ap (λ (t : Bool). isNegative d && not t) (sym e)
-      | inr e ↦ ap (λ (t : Bool). signBit (ofZ w32 (cond t (pos 0) d))) e ∙ sign-held d h ∙ sym (and-one (isNegative d)) ∙ ap (λ (t : Bool). isNegative d && not t) (sym e)
-    ]
+sign-held-up d s h = by-test (eqb s 1)
+  where
+    by-test : (t : Bool) → signBit (ofZ w32 (cond t (pos 0) d)) ≡ isNegative d && not t
+    by-test true = sym (and-zero (isNegative d))
+    by-test false = sign-held d h ∙ sym (and-one (isNegative d))

@@ -1,6 +1,5 @@
 // Number 7 over the buffers, in three scans: each over bytes alone or without a branch, so that a compiler does many voxels at a time.
 ghost use mathlib.Core.Path.{_≡_};
-ghost use mathlib.Core.Bool.{true, _||_};
 ghost use Prim.Native.Nat.{_+_, _-_, _*_, _≤_, _<_};
 ghost use lib.ListN.{length};
 ghost use Rattle.cells.specs.Groups.{any};
@@ -54,13 +53,7 @@ fn used_span(status: &[u8], first: usize, end: usize) -> bool
     requires { ⌜ (first ≤ end) × (end ≤ length (now status)) ⌝ }
     ensures { λ r. ⌜ r ≡ any (usedAt (now (status .entry))) (range first (end - first)) ⌝ }
 {
-    let mut found = false;
-    let mut i = first;
-    while i < end {
-        found = found | !(status[i] == 0);
-        i += 1;
-    }
-    found
+    loops::joined(status, first, end) != 0
 }
 
 // Some border voxel of a row has: its first or its last voxel, or any if the row lies on the border.

@@ -1,4 +1,3 @@
 pub mod Argmax
 pub mod Surface
 pub mod Opening
-pub mod Closing

@@ -1,2 +1,1 @@
 pub mod Argmax
-pub mod Closing

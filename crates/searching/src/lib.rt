@@ -1,31 +1,12 @@
-// Scans of all voxels: whether one is pending, the voxel to open, and the distances of a finished grid.
+// The search for the voxel to open, over all voxels and by stretches of them.
 ghost use mathlib.Core.Path.{_≡_};
-ghost use mathlib.Core.List.{map};
 ghost use Prim.Native.Nat.{_+_, _-_, _≤_, _<_};
 ghost use lib.ListN.{length};
-ghost use Rattle.cells.specs.Groups.{any};
-ghost use Rattle.rules.specs.Grid.{range};
-ghost use Rattle.rules.specs.Status.{isPending, firstOf, openable};
-ghost use Rattle.rules.specs.Machine.{outside, farther, closedAt};
+ghost use Rattle.rules.specs.Status.{firstOf, openable};
+ghost use Rattle.rules.specs.Machine.{outside, farther};
 ghost use Rattle.searching.specs.Argmax.{found, surfaceAt, heightOf, heightAt, keyAt, rank, higher};
 ghost use Rattle.searching.specs.Argmax.{heldOf, Greatest, Holding, Leading, Span, Peak, Layers, Searchable};
-ghost use Rattle.searching.specs.Closing.{closedIf};
 use rules::Sides;
-
-// Some voxel is pending.
-pub fn any_pending(status: &[u8]) -> bool
-    ensures { λ r. ⌜ r ≡ any (isPending (now (status .entry))) (range 0 (length (now (status .entry)))) ⌝ }
-{
-    let mut found = false;
-    let mut i: usize = 0;
-    while i < status.len() {
-        found = found | (status[i] / 2 % 2 == 1);
-        i += 1;
-    }
-    found
-}
-
-// ---- the voxel to open
 
 // The voxel that comes first, if there is one.
 pub enum Found {
@@ -167,35 +148,4 @@ pub fn to_open(s: Sides, dist: &[i32], status: &[u8]) -> Found
         return Found::Nothing;
     }
     Found::At(first_of(dist, status, a, l, held))
-}
-
-// ---- a finished grid
-
-// A kept voxel's distance is negative.
-fn closed_value(d: i32, x: u8) -> i32
-    ensures { λ r. ⌜ r ≡ closedIf d x ⌝ }
-{
-    if x % 2 == 0 {
-        return d;
-    }
-    if d < 0 {
-        return d;
-    }
-    if d < 1 {
-        return -1;
-    }
-    0 - d
-}
-
-// Closes every voxel.
-pub fn close(dist: &mut [i32], status: &[u8])
-    requires { ⌜ length (now dist) ≡ length (now status) ⌝ }
-    ensures { λ _. ⌜ now (dist .exit) ≡ map (closedAt (now (dist .entry)) (now (status .entry))) (range 0 (length (now (status .entry)))) ⌝ }
-{
-    let mut i: usize = 0;
-    while i < status.len() {
-        let d = dist[i];
-        dist[i] = closed_value(d, status[i]);
-        i += 1;
-    }
 }

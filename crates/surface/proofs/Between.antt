@@ -50,34 +50,23 @@ Sign d t = ltZ (held d) (pos 0) ≡ t
 pub sign : {d : ℤ} {t : Bool} → SFits w32 d → Sign d t → isNegative d ≡ t
 sign F e = sym (held-negative F) ∙ e
 
-size : {d : ℤ} {n : ℕ} → SFits w32 d → n ≡ natAbs (held d) → n ≡ natAbs d
-size F e = e ∙ ap natAbs (toZ-ofZ F)
-
 module _ (axis : ℕ) (v : Voxel) (u w : ℤ) (F : SFits w32 u) (G : SFits w32 w) where
   pub neither : (t : Bool) → Sign u t → Sign w t → none ≡ crossingOf axis v u w
   neither t h k = same-sign axis v u w (sign F h ∙ sym (sign G k))
 
-  module _ (n : Voxel) (p q : ℕ) (r : Point) where
-    pub from-here :
-        n ≡ v
-        → Sign u true
-        → Sign w false
-        → p ≡ natAbs (held u)
-        → q ≡ natAbs (held w)
-        → r ≡ pointFrom axis true n p q
-        → some r ≡ crossingOf axis v u w
-    from-here m h k e f g =
-        ap some (g ∙ ap (λ (n : Voxel). pointFrom axis true n p q) m ∙ ap₂ (λ (a b : ℕ). pointFrom axis true v a b) (size F e) (size G f))
-        ∙ here-negative axis v u w (sign F h) (sign G k)
+  pub from-here : (r : Point) → Sign u true → Sign w false → r ≡ pointFrom axis true v (natAbs (held u)) (natAbs (held w)) → some r ≡ crossingOf axis v u w
+  from-here r h k e =
+      ap some (e ∙ ap₂ (λ (x y : ℤ). pointFrom axis true v (natAbs x) (natAbs y)) (toZ-ofZ F) (toZ-ofZ G))
+      ∙ here-negative axis v u w (sign F h) (sign G k)
 
-    pub from-next :
-        n ≡ next axis v
-        → Sign u false
-        → Sign w true
-        → p ≡ natAbs (held w)
-        → q ≡ natAbs (held u)
-        → r ≡ pointFrom axis false n p q
-        → some r ≡ crossingOf axis v u w
-    from-next m h k e f g =
-        ap some (g ∙ ap (λ (n : Voxel). pointFrom axis false n p q) m ∙ ap₂ (λ (a b : ℕ). pointFrom axis false (next axis v) a b) (size G e) (size F f))
-        ∙ there-negative axis v u w (sign F h) (sign G k)
+  -- n is the next voxel, as the code finds it
+  pub from-next :
+      (n : Voxel) (r : Point)
+      → n ≡ next axis v
+      → Sign u false
+      → Sign w true
+      → r ≡ pointFrom axis false n (natAbs (held w)) (natAbs (held u))
+      → some r ≡ crossingOf axis v u w
+  from-next n r m h k e =
+      ap some (e ∙ (λ t. pointFrom axis false (m t) (natAbs (toZ-ofZ G t)) (natAbs (toZ-ofZ F t))))
+      ∙ there-negative axis v u w (sign F h) (sign G k)

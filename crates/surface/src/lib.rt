@@ -4,6 +4,7 @@ ghost use mathlib.Core.Bool.{true, _||_};
 ghost use mathlib.Core.Option.{Option};
 ghost use Prim.Native.Nat.{_+_, _<_, _≤_};
 ghost use lib.Dec.{ltb};
+ghost use lib.IntN.{natAbs};
 ghost use lib.ListN.{length};
 ghost use Rattle.rules.specs.Grid.{voxel, size, fitSides};
 ghost use Rattle.rules.specs.Checks.{firstFailing};
@@ -135,6 +136,24 @@ pub fn beyond(sides: Sides, i: usize, axis: u32) -> bool
 
 // ---- the crossing
 
+// The point from the negative voxel of index k towards the next or the one before, by the distances of both.
+fn point_between(
+    axis: u32,
+    higher: bool,
+    sides: Sides,
+    k: usize,
+    inside: i32,
+    outside: i32,
+) -> Point
+    requires { ⌜ (fitSides sides ≡ true) × (k < size sides) ⌝ }
+    ensures { λ r. ⌜ r ≡ pointFrom axis higher (voxel sides k) (natAbs inside) (natAbs outside) ⌝ }
+{
+    let v = coordinates_of(sides, k);
+    let p = sizes::magnitude(inside);
+    let q = sizes::magnitude(outside);
+    point_from(axis, higher, v, p, q)
+}
+
 // From the voxel of index i, which has a next one along the axis. No status is looked at.
 pub fn crossing_at(sides: Sides, dist: &[i32], i: usize, axis: u32) -> Crossed
     requires { ⌜ HasNext sides i axis × (length (now dist) ≡ size sides) ⌝ }
@@ -148,16 +167,10 @@ pub fn crossing_at(sides: Sides, dist: &[i32], i: usize, axis: u32) -> Crossed
         if there < 0 {
             return Crossed::Nowhere;
         }
-        let v = coordinates_of(sides, i);
-        let p = sizes::magnitude(here);
-        let q = sizes::magnitude(there);
-        return Crossed::At(point_from(axis, true, v, p, q));
+        return Crossed::At(point_between(axis, true, sides, i, here, there));
     }
     if there < 0 {
-        let v = coordinates_of(sides, j);
-        let p = sizes::magnitude(there);
-        let q = sizes::magnitude(here);
-        return Crossed::At(point_from(axis, false, v, p, q));
+        return Crossed::At(point_between(axis, false, sides, j, there, here));
     }
     Crossed::Nowhere
 }

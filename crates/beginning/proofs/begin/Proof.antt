@@ -32,8 +32,8 @@ unfolding begin
 returns c =
     let r = c .before in
     let a = begun r .args in
-    call-refused (untouched (buffers (a .dist .now) (a .status .now))) (rule.begun (a .sides) (a .allowed) (a .values .now)) (checks (begun r)) _ (r .refusal .ensures)
-    (λ e. let z : ⊥ = omega (arith, c .if1 .taken) in z)
+    call-refused (untouched (buffers (a .dist .now) (a .status .now))) (rule.begun (a .sides) (a .allowed) (a .values .now)) (checks (begun r)) _
+    (r .refusal .ensures) (λ e. let z : ⊥ = omega (arith, c .if1 .taken) in z)
 
 work-out-requires : tie.Need-work-out-requires
 work-out-requires c κs =
@@ -58,8 +58,8 @@ returns-2 c =
     let n = w .before .before .before in
     let r = n .before in
     let a = begun r .args in
-    call-done (untouched (buffers (a .dist .now) (a .status .now))) (rule.begun (a .sides) (a .allowed) (a .values .now)) (checks (begun r)) _ (r .refusal .ensures)
-    refl (omega (arith, n .if1 .left)) _ (begun-is _ _ _ _ _ _ (c .new-record .ensures) (w .work-out .ensures))
+    call-done (untouched (buffers (a .dist .now) (a .status .now))) (rule.begun (a .sides) (a .allowed) (a .values .now)) (checks (begun r)) _
+    (r .refusal .ensures) refl (omega (arith, n .if1 .left)) _ (begun-is _ _ _ _ _ _ (c .new-record .ensures) (w .work-out .ensures))
 
 pub begin-spec : {M : Type 1} → statement M
 begin-spec =

@@ -9,7 +9,7 @@ use Rattle.prelude.proofs.Bools.{not-true, not-false}
 use Rattle.rules.specs.Grid.{fitSides, size, range}
 use Rattle.rules.specs.Checks.{firstFailing}
 use Rattle.rules.specs.Begin.{beginChecks}
-use Rattle.beginning.specs.Work.{Sized, negativeAt, borderNegative}
+use Rattle.beginning.specs.Work.{Sized, negativeAt}
 use Rattle.beginning.proofs.Calls.{turns, lengths, right-lengths, wrong-lengths, number-is}
 use borrow.Author.Needs.{needs}
 use Rattle.beginning.proofs.refusal.Statement.{statement}
@@ -92,7 +92,8 @@ any-negative-requires c κs = let l = off c in (omega arith, omega (arith, l .be
 -- what the last scan decides
 decided : (c : tie.After-any-negative) (t : Bool) → c .any-negative .result ≡ t
     → let a = lent (off (c .before)) .args in
-    turns (a .sides) (a .values .now) (a .dist .now) (a .status .now) true true false t ≡ firstFailing (beginChecks (a .sides) (a .values .now) (a .dist .now) (a .status .now))
+    turns (a .sides) (a .values .now) (a .dist .now) (a .status .now) true true false t
+    ≡ firstFailing (beginChecks (a .sides) (a .values .now) (a .dist .now) (a .status .now))
 decided c t e =
     let b = c .before in
     let l = off b in

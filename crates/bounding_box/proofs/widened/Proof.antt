@@ -1,7 +1,5 @@
 -- `widened`: a row without a voxel of S leaves the box, and any other takes its first and its last in.
-use mathlib.Core.Path.{_≡_, refl, sym, ap, subst}
-use Prim.Native.Nat.{ℕ, _+_, _*_, _≤_, _<_}
-use lib.ListN.{getD}
+use mathlib.Core.Path.{refl}
 use native.Mathlib.Omega.{arith}
 use Rattle.bounding_box.specs.Bounds.{clear, taken}
 use borrow.Author.Needs.{needs}
@@ -24,8 +22,8 @@ returns c =
     let none = z .first-of .ensures .none-before in
     clear (λ k l h e. none k l (omega (arith, c .if1 .taken)) e) refl
 
-last-zero-requires : tie.Need-last-zero-requires
-last-zero-requires c κs = search needs
+last-of-requires : tie.Need-last-of-requires
+last-of-requires c κs = search needs
 
 rem-y : tie.Need-rem-y
 rem-y c = search needs
@@ -58,7 +56,7 @@ higher-requires-3 : tie.Need-higher-requires-3
 higher-requires-3 c κs = search needs
 
 -- where the row's voxels of S have been found
-abbrev ends : tie.After-lower → tie.After-last-zero
+abbrev ends : tie.After-lower → tie.After-last-of
 ends c = c .before .before .before
 
 returns-2 : tie.Need-returns-2
@@ -68,8 +66,8 @@ returns-2 c =
     let x = y .before .before in
     let q = ends (x .before) in
     let p = q .before .before in
-    taken (p .first-of .result) (q .last-zero .result) (p .first-of .ensures) (omega (arith, p .first-of .ensures .high, q .before .if1 .left))
-    (q .last-zero .ensures)
+    taken (p .first-of .result) (q .last-of .result) (p .first-of .ensures) (omega (arith, p .first-of .ensures .high, q .before .if1 .left))
+    (q .last-of .ensures)
     (λ i. record {
       x0 = x .before .lower .ensures i;
       x1 = x .higher .ensures i;
@@ -87,7 +85,7 @@ widened-spec =
     add-end
     first-of-requires
     returns
-    last-zero-requires
+    last-of-requires
     rem-y
     div-z
     sub-lower

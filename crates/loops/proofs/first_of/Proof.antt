@@ -1,21 +1,20 @@
 -- `first_of`: v stands nowhere from first up to i.
-use Prim.Native.Nat.{ℕ, _-_, _≤_, _<_}
-use mathlib.Core.Path.{_≡_}
-use lib.ListN.{getD}
-use Rattle.loops.proofs.Orders.{none-more}
+use Prim.Native.Nat.{_-_, _≤_}
+use Rattle.loops.specs.Searches.{Absent}
+use Rattle.loops.proofs.Orders.{absent-none, absent-around}
 use borrow.Author.Needs.{needs}
 use native.Mathlib.Omega.{arith}
 use Rattle.loops.proofs.first_of.Statement.{statement}
 use Rattle.loops.proofs.first_of.Tie as tie
 
 abbrev Inv-loop : tie.InvT-loop
-Inv-loop bytes v first end i₀ i = (first ≤ i) × (i ≤ end) × ((k : ℕ) → first ≤ k → k < i → getD bytes k 0 ≡ v → ⊥)
+Inv-loop bytes v first end i₀ i = (first ≤ i) × (i ≤ end) × Absent bytes v first i
 
 abbrev μ-loop : tie.MeasureT-loop
 μ-loop bytes v first end i₀ i = end - i
 
 loop-holds : tie.Need-loop-holds Inv-loop μ-loop
-loop-holds c = (omega arith, omega arith, λ k l h. let z : ⊥ = omega arith in absurd z)
+loop-holds c = (omega arith, omega arith, absent-none (c .args .bytes .now) (omega arith))
 
 shared-slice-read-if1 : tie.Need-shared-slice-read-if1 Inv-loop μ-loop
 shared-slice-read-if1 c = search needs
@@ -34,7 +33,8 @@ loop-less c = search needs
 loop-again : tie.Need-loop-again Inv-loop μ-loop
 loop-again c =
     let l = c .before .before .before in
-    (omega arith, search needs, none-more (l .before .args .bytes .now) (l .loop .i) (l .before .args .v) (l .loop .inv .2) (c .if1 .left))
+    let bytes = l .before .args .bytes .now in
+    (omega arith, search needs, absent-around bytes (l .loop .i) (c .if1 .left) (l .loop .inv .2) (absent-none bytes (omega arith)))
 
 returns-2 : tie.Need-returns-2 Inv-loop μ-loop
 returns-2 c =
@@ -42,15 +42,4 @@ returns-2 c =
     record { low = omega arith; high = omega arith; none-before = l .loop .inv .2; found = λ h. let z : ⊥ = omega (arith, c .loop-test .left) in absurd z }
 
 pub first-of-spec : {M : Type 1} → statement M
-first-of-spec =
-    tie.close
-    (tie.spec
-    Inv-loop
-    μ-loop
-    loop-holds
-    shared-slice-read-if1
-    returns
-    add-i
-    loop-less
-    loop-again
-    returns-2)
+first-of-spec = tie.close (tie.spec Inv-loop μ-loop loop-holds shared-slice-read-if1 returns add-i loop-less loop-again returns-2)

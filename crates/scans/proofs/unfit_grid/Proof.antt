@@ -18,7 +18,8 @@ returns : tie.Need-returns
 returns c =
     let p = c .before .before .before .before in
     let a = p .args in
-    three-scans (a .s) (a .dist .now) (a .status .now) (p .pre .statuses) _ _ _ (c .before .before .unknown .ensures) (c .before .used-border .ensures) (c .unheld .ensures)
+    three-scans (a .s) (a .dist .now) (a .status .now) (p .pre .statuses) _ _ _
+    (c .before .before .unknown .ensures) (c .before .used-border .ensures) (c .unheld .ensures)
 
 pub unfit-grid-spec : {M : Type 1} → statement M
 unfit-grid-spec = tie.close (tie.spec unknown-requires used-border-requires unheld-requires returns)

@@ -53,10 +53,11 @@ loop-again c =
     let a = l .before .before .args in
     let below : l .loop .i + 1 ≤ length (a .status .now) = omega (arith, d .before .loop-test .taken) in
     let f = sfits-of (d .d .given) in
+    let h = ofZ w32 (c .held-up .result) in
     let e = c .held-up .ensures ∙ ap (λ (x : ℤ). heldUp x (getD (a .status .now) (l .loop .i) 0)) (toZ-ofZ f) in (
       below,
-      sign-joined (l .loop .all) (ofZ w32 (c .held-up .result))
-          ∙ scan-next (unheldAt (a .dist .now) (a .status .now)) (l .loop .i) (signBit (l .loop .all)) (signBit (ofZ w32 (c .held-up .result))) (l .loop .inv .1)
+      sign-joined (l .loop .all) h
+          ∙ scan-next (unheldAt (a .dist .now) (a .status .now)) (l .loop .i) (signBit (l .loop .all)) (signBit h) (l .loop .inv .1)
           (ap (λ (x : ℤ). signBit (ofZ w32 x)) e ∙ sign-held-up (getD (a .dist .now) (l .loop .i) (pos 0)) (getD (a .status .now) (l .loop .i) 0) f),
     )
 

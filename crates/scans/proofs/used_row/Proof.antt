@@ -58,7 +58,8 @@ returns-2 c =
     let p = c .before .before .before .before .before .before .before .before .before in
     let r = here p in
     let a = p .args in
-    row-ends (a .s) (a .y) (a .z) (p .pre .1) (a .status .now) (a .s .a * (a .y + a .s .b * a .z) + a .s .a - 1) (r .wide) (omega arith) (c .before .before .if1 .left)
+    row-ends (a .s) (a .y) (a .z) (p .pre .1) (a .status .now) (a .s .a * (a .y + a .s .b * a .z) + a .s .a - 1) (r .wide)
+    (omega arith) (c .before .before .if1 .left)
 
 pub used-row-spec : {M : Type 1} → statement M
 used-row-spec =

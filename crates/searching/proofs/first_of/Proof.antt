@@ -79,7 +79,8 @@ loop-again c =
       omega (arith, h .before .loop-test .taken),
       subst (Skipped f (a .held .first) (l .loop .i + 1)) (sym (same-height t))
           (skipped-other f (a .held .first) (a .held .end) (rank (a .held .height)) (p .greatest) (p .some) (h .height-at .result) y (a .held .height)
-          (l .loop .i) refl (sfits-of (h .height-at .ok)) (height-fits t) (h .height-at .ensures) (key-is (a .dist .now) (a .status .now) (a .a) (a .l) (l .loop .i))
+          (l .loop .i) refl (sfits-of (h .height-at .ok)) (height-fits t) (h .height-at .ensures)
+          (key-is (a .dist .now) (a .status .now) (a .a) (a .l) (l .loop .i))
           (subst (Skipped f (a .held .first) (l .loop .i)) (same-height t) (l .loop .inv .1)) (c .if1 .left)),
     )
 

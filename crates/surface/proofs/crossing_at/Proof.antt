@@ -13,7 +13,6 @@ use Rattle.rules.specs.Grid.{Voxel, voxel, size, distanceAt}
 use Rattle.rules.specs.Answer.{done}
 use Rattle.surface.specs.declared.Point.{Point}
 use Rattle.surface.specs.Surface.{next, crossingOf, nextIndex, crossingAt, BoundedAt}
-use Rattle.surface.specs.Coordinates.{voxelOf}
 use Rattle.surface.proofs.Bound.{Word, crossingAt-bounded}
 use Rattle.surface.proofs.Indices.{next-below, next-index, voxel-next}
 use Rattle.surface.proofs.Between.{neither, from-here, from-next}
@@ -116,51 +115,27 @@ returns c =
     let r = c .before .before in
     meets r none (neither (t r .args .axis) (v r) (here r) (there r) (here-fits r) (there-fits r) true (c .before .if1 .taken) (c .if2 .taken))
 
-coordinates-of-requires : tie.Need-coordinates-of-requires
-coordinates-of-requires c κs = search needs
-
-magnitude-requires : tie.Need-magnitude-requires
-magnitude-requires c κs = search needs
-
-magnitude-requires-2 : tie.Need-magnitude-requires-2
-magnitude-requires-2 c κs = search needs
-
-point-from-requires : tie.Need-point-from-requires
-point-from-requires c κs = search needs
+point-between-requires : tie.Need-point-between-requires
+point-between-requires c κs = search needs
 
 returns-2 : tie.Need-returns-2
 returns-2 c =
-    let m = c .before in
-    let w = m .before .before in
-    let e = w .before in
+    let e = c .before in
     let r = e .before .before in
-    meets r (some (c .point-from .result))
-    (from-here (t r .args .axis) (v r) (here r) (there r) (here-fits r) (there-fits r) (voxelOf (w .coordinates-of .result)) (m .before .magnitude .result)
-    (m .magnitude2 .result) (c .point-from .result) (w .coordinates-of .ensures .0) (e .before .if1 .taken) (e .if2 .left) (m .before .magnitude .ensures .0)
-    (m .magnitude2 .ensures .0) (c .point-from .ensures))
+    meets r (some (c .point-between .result))
+    (from-here (t r .args .axis) (v r) (here r) (there r) (here-fits r) (there-fits r) (c .point-between .result) (e .before .if1 .taken) (e .if2 .left)
+    (c .point-between .ensures))
 
-coordinates-of-requires-2 : tie.Need-coordinates-of-requires-2
-coordinates-of-requires-2 c κs = let r = c .before .before in (t r .pre .0 .fit, j-below (k r))
-
-magnitude-requires-3 : tie.Need-magnitude-requires-3
-magnitude-requires-3 c κs = search needs
-
-magnitude-requires-4 : tie.Need-magnitude-requires-4
-magnitude-requires-4 c κs = search needs
-
-point-from-requires-2 : tie.Need-point-from-requires-2
-point-from-requires-2 c κs = search needs
+point-between-requires-2 : tie.Need-point-between-requires-2
+point-between-requires-2 c κs = let r = c .before .before in (t r .pre .0 .fit, j-below (k r))
 
 returns-3 : tie.Need-returns-3
 returns-3 c =
-    let m = c .before in
-    let w = m .before .before in
-    let e = w .before in
+    let e = c .before in
     let r = e .before .before in
-    meets r (some (c .point-from2 .result))
-    (from-next (t r .args .axis) (v r) (here r) (there r) (here-fits r) (there-fits r) (voxelOf (w .coordinates-of2 .result)) (m .before .magnitude3 .result)
-    (m .magnitude4 .result) (c .point-from2 .result) (w .coordinates-of2 .ensures .0 ∙ j-next (k r)) (e .before .if1 .left) (e .if3 .taken)
-    (m .before .magnitude3 .ensures .0) (m .magnitude4 .ensures .0) (c .point-from2 .ensures))
+    meets r (some (c .point-between2 .result))
+    (from-next (t r .args .axis) (v r) (here r) (there r) (here-fits r) (there-fits r) (voxel (t r .args .sides) (j (k r)))
+    (c .point-between2 .result) (j-next (k r)) (e .before .if1 .left) (e .if3 .taken) (c .point-between2 .ensures))
 
 returns-4 : tie.Need-returns-4
 returns-4 c =
@@ -178,14 +153,8 @@ crossing-at-spec =
     mul-there
     shared-slice-copy-out-there
     returns
-    coordinates-of-requires
-    magnitude-requires
-    magnitude-requires-2
-    point-from-requires
+    point-between-requires
     returns-2
-    coordinates-of-requires-2
-    magnitude-requires-3
-    magnitude-requires-4
-    point-from-requires-2
+    point-between-requires-2
     returns-3
     returns-4)

@@ -1,4 +1,4 @@
--- `searching::closed_value` meets its contract: each need is a law of `Closing`.
+-- `closing::closed_value` meets its contract: each need is a law of `Closing`.
 use mathlib.Core.Path.{_≡_, sym, ap, _∙_, subst}
 use mathlib.Core.Bool.{true, false}
 use lib.IntN.{ℤ, pos, _-ℤ_}
@@ -10,9 +10,9 @@ use Rattle.rules.specs.Grid.{isNegative}
 use Rattle.rules.specs.Status.{keptByte}
 use Rattle.prelude.proofs.Signs.{held-negative}
 use Rattle.neighbourhood.proofs.Gathering.{even-gone, odd-kept}
-use Rattle.searching.proofs.Closing.{closed-gone, closed-negative, closed-zero, closed-more, minus-fits}
-use Rattle.searching.proofs.closed_value.Statement.{statement}
-use Rattle.searching.proofs.closed_value.Tie as tie
+use Rattle.closing.proofs.Closing.{closed-gone, closed-negative, closed-zero, closed-more, minus-fits}
+use Rattle.closing.proofs.closed_value.Statement.{statement}
+use Rattle.closing.proofs.closed_value.Tie as tie
 
 returns : tie.Need-returns
 returns c = let a = c .before in toZ-ofZ (a .fits .d) ∙ sym (closed-gone (a .args .d) (a .args .x) (even-gone (a .args .x) (c .if1 .taken)))

@@ -1,14 +1,14 @@
--- `searching::close` meets its contract: the loop has closed the voxels before i.
+-- `closing::close` meets its contract: the loop has closed the voxels before i.
 use mathlib.Core.Path.{ap, _∙_}
 use borrow.Author.Needs.{sfits-of, needs}
 use lib.IntN.{ℤ}
 use mir.Facts.{toZ-ofZ}
-use Rattle.searching.specs.Closing.{closedIf}
+use Rattle.closing.specs.Closing.{closedIf}
 use Prim.Native.Nat.{_-_}
 use lib.ListN.{length, getD}
-use Rattle.searching.proofs.Closing.{Closing, closing-start, closing-step, closing-done}
-use Rattle.searching.proofs.close.Statement.{statement}
-use Rattle.searching.proofs.close.Tie as tie
+use Rattle.closing.proofs.Closing.{Closing, closing-start, closing-step, closing-done}
+use Rattle.closing.proofs.close.Statement.{statement}
+use Rattle.closing.proofs.close.Tie as tie
 
 abbrev Inv-loop : tie.InvT-loop
 Inv-loop dist₀ status i₀ dist i = Closing dist₀ status dist i

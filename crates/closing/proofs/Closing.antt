@@ -16,7 +16,7 @@ use Rattle.prelude.proofs.Ranges.{is-map-range}
 use Rattle.rules.specs.Grid.{range, isNegative, distanceAt}
 use Rattle.rules.specs.Status.{statusOf, keptByte, isKept}
 use Rattle.rules.specs.Machine.{closed, closedAt}
-use Rattle.searching.specs.Closing.{closedIf}
+use Rattle.closing.specs.Closing.{closedIf}
 
 module _ (d : ℤ) (x : ℕ) where
   pub closed-gone : keptByte x ≡ false → closedIf d x ≡ d
