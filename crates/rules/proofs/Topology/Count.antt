@@ -74,7 +74,8 @@ at-range x k (suc n) = go (ℕ-discrete k x) (at-range x (suc k) n)
         (omega (arith, count-cons (λ j. eqb j x) k (range (suc k) n), ap (λ (t : Bool). bit t) (eq-eqb k x e)), λ h. let f : ⊥ = omega arith in absurd f)
     go (no f) ih =
         let z : bit (eqb k x) ≡ 0 = ap (λ (t : Bool). bit t) (ne-eqb k x f) in
-        (omega (arith, count-cons (λ j. eqb j x) k (range (suc k) n), ih .0), λ h. omega (arith, count-cons (λ j. eqb j x) k (range (suc k) n), ih .1 (omega arith)))
+        let c = count-cons (λ j. eqb j x) k (range (suc k) n) in
+        (omega (arith, ih .0), λ h. omega (arith, ih .1 (omega arith)))
 
 omit-in : (p : ℕ → Bool) (i : ℕ) (l : List ℕ) → Mem i l → p i ≡ true → suc (countIn (omit p i) l) ≤ countIn p l
 omit-in p i (x ∷ l) here e =
