@@ -1,7 +1,7 @@
 -- Demand 3 of document 01: it holds after every list of calls, from any body to start from, and so on every grid that begin accepts.
 use mathlib.Core.Path.{_≡_, refl, ap, sym, _∙_, subst}
 use mathlib.Core.Bool.{Bool, true, false}
-use mathlib.Core.List.{List, [], _∷_}
+use mathlib.Core.List.{List, [], _∷_, _++_}
 use Prim.Native.Nat.{ℕ, _*_, _≤_, _<_}
 use native.Mathlib.Omega.{arith}
 use lib.IntN.{ℤ, pos}
@@ -12,7 +12,7 @@ use Rattle.rules.specs.Answer.{done, untouched, buffers}
 use Rattle.rules.specs.Begin.{isIn, inside, inBox, worked, startStatus, newRecord, beginChecks, begun, begin}
 use Rattle.rules.specs.Status.{isPending, testAt, anyPending}
 use Rattle.rules.specs.Machine.{State, state, isInside}
-use Rattle.rules.specs.Demand.{Call, Sums, run, Demand, DemandIsMet}
+use Rattle.rules.specs.Demand.{Call, Sums, call, run, Demand, DemandIsMet}
 use Rattle.rules.specs.Meaning.{found}
 use Rattle.rules.proofs.Checks.{by-checks}
 use Rattle.prelude.proofs.Ranges.{none-below}
@@ -27,6 +27,12 @@ use Rattle.rules.proofs.Topology.Start.{box-sound, worked-signs}
 not-pending : (s : Sides) (status : List ℕ) → anyPending s status ≡ false → (i : ℕ) → i < size s → isPending status i ≡ false
 unfolding anyPending voxels
 not-pending s status quiet = none-below (isPending status) (size s) quiet
+
+-- a list of calls after another
+pub run-append : (cs ds : List Call) (g : State) → run (cs ++ ds) g .end ≡ run ds (run cs g .end) .end
+unfolding run
+run-append [] ds g = refl
+run-append (c ∷ cs) ds g = run-append cs ds (call c g .end)
 
 -- ---- any body to start from whose status bytes are sound, with distances whose signs are S
 

@@ -8,9 +8,10 @@ use native.Mathlib.Decide.{ℕ-discrete}
 use lib.Dec.{eqb}
 use lib.ListN.{length}
 use borrow.Author.Tests.{eq-eqb, ne-eqb}
-use Rattle.cells.specs.Groups.{any, filter, consIf}
+use Rattle.cells.specs.Groups.{any, filter}
 use Rattle.cells.specs.Cells.{bit}
 use Rattle.prelude.proofs.Lists.{Mem, here, there, filter-ext}
+use Rattle.prelude.proofs.Counts.{length-filter}
 use Rattle.rules.specs.declared.Sides.{Sides}
 use Rattle.rules.specs.Grid.{size, range, voxels}
 use Rattle.rules.specs.Meaning.{found}
@@ -22,12 +23,8 @@ countIn : (ℕ → Bool) → List ℕ → ℕ
 countIn p l = length (filter p l)
 
 count-cons : (p : ℕ → Bool) (x : ℕ) (l : List ℕ) → countIn p (x ∷ l) ≡ bit (p x) + countIn p l
-unfolding countIn filter
-count-cons p x l = go (p x)
-  where
-    go : (t : Bool) → length (consIf t x (filter p l)) ≡ bit t + length (filter p l)
-    go true = omega arith
-    go false = omega arith
+unfolding countIn
+count-cons p x l = length-filter p x l
 
 count-nil : (p : ℕ → Bool) → countIn p [] ≡ 0
 unfolding countIn filter
