@@ -2,7 +2,7 @@
 use mathlib.Core.Path.{_≡_, refl, ap, sym, _∙_}
 use mathlib.Core.Bool.{Bool, true, false, not, cond}
 use mathlib.Core.List.{List, [], _∷_}
-use Prim.Native.Nat.{ℕ, zero, suc, _*_, _≤_, _<_}
+use Prim.Native.Nat.{ℕ, _*_, _≤_, _<_}
 use native.Mathlib.Nat.{mul-le-mul}
 use native.Mathlib.Omega.{arith}
 use borrow.Author.Tests.{leb-true, lt-ltb, le-ltb}
@@ -12,6 +12,7 @@ use lib.IntN.{ℤ, pos}
 use Rattle.prelude.proofs.Bools.{and-true}
 use Rattle.prelude.proofs.Counts.{counted}
 use Rattle.prelude.proofs.Ranges.{length-map-range}
+use Rattle.prelude.proofs.Replicate.{take-replicate}
 use Rattle.rules.specs.declared.Sides.{Sides}
 use Rattle.rules.specs.declared.Record.{Record}
 use Rattle.rules.specs.declared.Begun.{Begun}
@@ -85,11 +86,6 @@ module _ (given : Record) (dist : List ℤ) (status : List ℕ) where
       rw (kept-found, z) (ap lineOf (f ∙ ap afterFinish e))
 
 -- ---- how many voxels' buffers are lent
-
-pub take-replicate : {A : Type 0} (k n : ℕ) (x : A) → k ≤ n → take k (replicate n x) ≡ replicate k x
-take-replicate zero n x h = refl
-take-replicate (suc k) zero x h = let z : ⊥ = omega arith in absurd z
-take-replicate (suc k) (suc n) x h = ap (λ (l : List _). x ∷ l) (take-replicate k n x (omega arith))
 
 pub lent-length : {A : Type 0} (k n : ℕ) (x : A) → k ≤ n → k ≡ length (take k (replicate n x))
 lent-length k n x h = sym (ap length (take-replicate k n x h) ∙ length-replicate k x)
@@ -174,9 +170,9 @@ module _ (file : List ℕ) where
     by-answer : lineAfterRead (outcome (readAnswer answer) values) ≡ programLine file
     by-answer = ap lineAfterRead (r ∙ ap (readUpTo greatestSide file) z) ∙ sym line-lent
 
-    pub line-refused : (n : ℕ) → readAnswer answer ≡ refused n → refusedLine n ≡ programLine file
+    pub line-refused : (n : ℕ) → answer ≡ ReadAnswer.Refused n → refusedLine n ≡ programLine file
     unfolding lineAfterRead
-    line-refused n e = sym (ap (λ (a : Reply Header). lineAfterRead (outcome a values)) e) ∙ by-answer
+    line-refused n e = sym (ap (λ (a : ReadAnswer). lineAfterRead (outcome (readAnswer a) values)) e) ∙ by-answer
 
     pub line-grid :
         (s : Sides) (T : ℕ) (dist : List ℤ) (status : List ℕ)
