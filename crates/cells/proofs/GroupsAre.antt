@@ -1,5 +1,5 @@
 -- The groups of a list of numbers are the classes of its members; k and m count the groups of touched and of bare cells.
-use mathlib.Core.Path.{_≡_, refl, sym, _∙_, subst}
+use mathlib.Core.Path.{_≡_, refl, sym, ap₂, _∙_, subst}
 use mathlib.Core.Logic.{inl, inr}
 use mathlib.Core.Bool.{Bool, true, false, not, _&&_}
 use mathlib.Core.List.{List, [], _∷_}
@@ -60,7 +60,9 @@ module _ (joined : ℕ → ℕ → Bool) (turn : Symmetric joined) (self : Refle
           let r = any-true (λ g. among g x) (groups joined xs) e in
           let q = mem-getD [] (r .0) (groups joined xs) (r .1) in
           group-member joined turn self member xs are all (q .0) x (subst (λ (g : List ℕ). Mem x g) (sym (q .2)) (among-mem (r .0) x (r .2))))
-          (λ m. let r = group-of joined turn self member xs are all x m in at-any (λ g. among g x) (r .0) x (r .1) (mem-among (getD (groups joined xs) (r .0) []) x (r .1)))
+          (λ m.
+          let r = group-of joined turn self member xs are all x m in
+          at-any (λ g. among g x) (r .0) x (r .1) (mem-among (getD (groups joined xs) (r .0) []) x (r .1)))
 
       filled : any (λ g. eqb (length g) 0) (groups joined xs) ≡ false
       filled =
@@ -86,9 +88,9 @@ module _ (joined : ℕ → ℕ → Bool) (turn : Symmetric joined) (self : Refle
       whole : (x y : ℕ) → Linked member joined x y → together (groups joined xs) x y ≡ true
       whole x y l =
           let r = group-of joined turn self member xs are all x (first-member l) in
+          let g = getD (groups joined xs) (r .0) [] in
           at-any (λ g. among g x && among g y) (r .0) x (r .1)
-          (true-and (among (getD (groups joined xs) (r .0) []) x) (among (getD (groups joined xs) (r .0) []) y) (mem-among (getD (groups joined xs) (r .0) []) x (r .1))
-          (mem-among (getD (groups joined xs) (r .0) []) y (linked-group joined turn self member xs are all (r .0) l (r .1))))
+          (true-and (among g x) (among g y) (mem-among g x (r .1)) (mem-among g y (linked-group joined turn self member xs are all (r .0) l (r .1))))
 
   pub groups-counted : Counted member joined (length (groups joined xs))
   groups-counted =
@@ -126,21 +128,16 @@ joined-turn c d e = elim (or-true (contains c d) (contains d c) e) [
   | inr h ↦ true-or (contains d c) (contains c d) (inl h)
 ]
 
-pub joined-self : Reflexive joined
-unfolding joined contains
-joined-self c = true-or (contains c c) (contains c c) (inl (true-and (spans x x) (spans y y && spans z z) (same x) (true-and (spans y y) (spans z z) (same y) (same z))))
+pub contains-self : (c : ℕ) → contains c c ≡ true
+unfolding contains
+contains-self c = ap₂ _&&_ (self (c % 3)) (ap₂ _&&_ (self (c / 3 % 3)) (self (c / 9)))
   where
-    x : ℕ
-    x = c % 3
+    self : (a : ℕ) → spans a a ≡ true
+    self a = true-or (eqb a 1) (eqb a a) (inr (eq-eqb a a refl))
 
-    y : ℕ
-    y = c / 3 % 3
-
-    z : ℕ
-    z = c / 9
-
-    same : (a : ℕ) → spans a a ≡ true
-    same a = true-or (eqb a 1) (eqb a a) (inr (eq-eqb a a refl))
+pub joined-self : Reflexive joined
+unfolding joined
+joined-self c = true-or (contains c c) (contains c c) (inl (contains-self c))
 
 module _ (p : ℕ → Bool) where
   are : (c : ℕ) → Mem c (filter p positions) → cells p c ≡ true

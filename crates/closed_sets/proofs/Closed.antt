@@ -54,11 +54,15 @@ module _ {S : Type 0} (with without : ℕ → S → S) (fits : S → Bool) where
     unfolding everyClosed walk
     closed-fits [] ins outs s hi ho h = h
     closed-fits (c ∷ cs) ins outs s hi ho h =
+        let forced-in = any (λ d. contains d c) ins in
+        let forced-out = any (contains c) outs in
+        let every-with = everyClosed cs (c ∷ ins) outs (with c s) in
+        let every-without = everyClosed cs ins (c ∷ outs) (without c s) in
         go (t c) refl
         (λ e. closed-fits cs (c ∷ ins) outs (with c s) (all-cons (λ d. t d ≡ true) c ins e hi) ho
-        (onward-in (any (λ d. contains d c) ins) (any (contains c) outs) (everyClosed cs (c ∷ ins) outs (with c s)) (everyClosed cs ins (c ∷ outs) (without c s)) (free-in e) h))
+        (onward-in forced-in forced-out every-with every-without (free-in e) h))
         (λ e. closed-fits cs ins (c ∷ outs) (without c s) hi (all-cons (λ d. t d ≡ false) c outs e ho)
-        (onward-out (any (λ d. contains d c) ins) (any (contains c) outs) (everyClosed cs (c ∷ ins) outs (with c s)) (everyClosed cs ins (c ∷ outs) (without c s)) (free-out e) h))
+        (onward-out forced-in forced-out every-with every-without (free-out e) h))
       where
         free-in : t c ≡ true → any (contains c) outs ≡ false
         free-in e = false-any (contains c) outs (λ d m. elim (two (contains c d)) [ inl k ↦ not-both (t d) (closed c d k e) (ho d m) | inr k ↦ k ])

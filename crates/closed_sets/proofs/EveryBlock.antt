@@ -8,12 +8,13 @@ use Prim.Native.Nat.{ℕ, _+_, _/_, _%_, _≤_, _<_}
 use native.Mathlib.Omega.{arith}
 use lib.Dec.{eqb, ltb}
 use lib.ListN.{length}
-use borrow.Author.Tests.{ltb-true, eqb-true, eq-eqb}
+use borrow.Author.Tests.{ltb-true, eqb-true}
 use Rattle.cells.specs.Groups.{any, filter, gather, groups}
 use Rattle.cells.specs.Cells.{spans, contains, joined, positions, facePositions, touched, groupCount, testOf, test}
 use Rattle.closed_sets.specs.Rank.{rank}
 use Rattle.prelude.proofs.Bools.{and-true, true-and, or-true, true-or, two, not-true, not-false, not-both}
 use Rattle.prelude.proofs.Lists.{Mem, any-true, true-any, any-false, any-ext, filter-ext}
+use Rattle.cells.proofs.GroupsAre.{contains-self}
 use Rattle.closed_sets.proofs.Closed.{ClosedSet}
 use Rattle.closed_sets.proofs.ClosedEnd.{closed-euler, closed-rank, closed-touched-few, closed-bare-few}
 
@@ -37,15 +38,10 @@ contains-trans u v c h k =
     let q = and-true (spans (u / 3 % 3) (v / 3 % 3)) (spans (u / 9) (v / 9)) (p .1) in
     let r = and-true (spans (v % 3) (c % 3)) (spans (v / 3 % 3) (c / 3 % 3) && spans (v / 9) (c / 9)) k in
     let s = and-true (spans (v / 3 % 3) (c / 3 % 3)) (spans (v / 9) (c / 9)) (r .1) in
-    true-and (spans (u % 3) (c % 3)) (spans (u / 3 % 3) (c / 3 % 3) && spans (u / 9) (c / 9)) (spans-trans (u % 3) (v % 3) (c % 3) (p .0) (r .0))
-    (true-and (spans (u / 3 % 3) (c / 3 % 3)) (spans (u / 9) (c / 9)) (spans-trans (u / 3 % 3) (v / 3 % 3) (c / 3 % 3) (q .0) (s .0)) (spans-trans (u / 9) (v / 9) (c / 9) (q .1) (s .1)))
-
-pub contains-self : (c : ℕ) → contains c c ≡ true
-unfolding contains
-contains-self c = ap₂ _&&_ (self (c % 3)) (ap₂ _&&_ (self (c / 3 % 3)) (self (c / 9)))
-  where
-    self : (a : ℕ) → spans a a ≡ true
-    self a = true-or (eqb a 1) (eqb a a) (inr (eq-eqb a a refl))
+    let x = spans-trans (u % 3) (v % 3) (c % 3) (p .0) (r .0) in
+    let y = spans-trans (u / 3 % 3) (v / 3 % 3) (c / 3 % 3) (q .0) (s .0) in
+    let z = spans-trans (u / 9) (v / 9) (c / 9) (q .1) (s .1) in
+    ap₂ _&&_ x (ap₂ _&&_ y z)
 
 pub touched-closed : (kept : ℕ → Bool) → ClosedSet (touched kept)
 unfolding touched

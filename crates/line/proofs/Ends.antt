@@ -11,40 +11,25 @@ use Rattle.prelude.proofs.Bools.{not-false}
 use Rattle.rules.specs.declared.Sides.{Sides}
 use Rattle.rules.specs.declared.Record.{Record}
 use Rattle.rules.specs.Grid.{fitSides, size}
-use Rattle.rules.specs.Checks.{Check, _when_, unless, AllHold}
-use Rattle.rules.specs.Answer.{refused, done, Outcome, untouched, Buffers, buffers, Opening}
-use Rattle.rules.specs.Begin.{beginChecks, newRecord, begun, begin}
+use Rattle.rules.specs.Checks.{_when_, unless, AllHold}
+use Rattle.rules.specs.Answer.{refused, done, Outcome, untouched, Buffers, Opening}
+use Rattle.rules.specs.Begin.{newRecord, begin}
 use Rattle.rules.specs.Status.{anyPending}
 use Rattle.rules.specs.Machine.{State, state, lentTo, stateChecks, workingChecks, quietChecks, openingChecks, finishChecks}
 use Rattle.rules.specs.Machine.{carved, carve, toOpen, isNone, theVoxel, opened, openNext, asFinished, finishedOf, finish}
 use Rattle.rules.specs.Demand.{Call, carveUpTo, openOne, call, run}
-use Rattle.rules.proofs.Checks.{by-checks, append-hold, unless-held}
+use Rattle.rules.proofs.Checks.{append-hold, unless-held, unless-after}
+use Rattle.rules.proofs.Demand.{by-begin, run-append}
 use Rattle.rules.proofs.NeverUnfit.{never-unfit, carve-ends}
 use Rattle.layers.proofs.Sizes.{size-small}
 use Rattle.line.specs.Program.{noLimit, isRefused, afterCarve, afterOpen, opens, carveAndOpen, roundsLeft}
 use Rattle.line.specs.Ends.{rounds, CarvesToEmpty, Through, EveryCarveEmpties, RoundsGoThrough}
 use Rattle.line.proofs.Rounds.{carve-same, open-refused, open-done, round, round-used}
 
--- a list of calls after another
-run-append : (cs ds : List Call) (g : State) → run (cs ++ ds) g .end ≡ run ds (run cs g .end) .end
-unfolding run
-run-append [] ds g = refl
-run-append (c ∷ cs) ds g = run-append cs ds (call c g .end)
-
--- checks that hold do not matter
-unless-after : {R : Type 0} (refuse : ℕ → R) (work : R) (cs ds : List Check) → AllHold cs → unless (cs ++ ds) refuse work ≡ unless ds refuse work
-unfolding unless
-unless-after refuse work [] ds h = refl
-unless-after refuse work (c ∷ cs) ds h =
-    ap (λ (u : Bool). cond u (refuse (c .number)) (unless (cs ++ ds) refuse work)) (h .0) ∙ unless-after refuse work cs ds (h .1)
-
 -- what begin hands out is not finished, and has the sides that it was given
 module _ (s : Sides) (T : ℕ) (values dist : List ℤ) (status : List ℕ) (r : Record) (e : begin s T values dist status .answer ≡ done r) where
   is-new : newRecord s T ≡ r
-  unfolding begin begun
-  is-new =
-      by-checks (untouched (buffers dist status)) (begun s T values) (λ o. o .answer ≡ done r → newRecord s T ≡ r) (beginChecks s values dist status)
-      (λ n f. let z : _≡_ {A = ℕ} 0 1 = cc in let y : ⊥ = omega arith in absurd y) (λ p f. cc) e
+  is-new = by-begin (λ g. newRecord s T ≡ g .rec) s T values dist status (λ accepted. refl) r e
 
   abbrev start : State
   start = let b = begin s T values dist status in state r (b .lent .dist) (b .lent .status)

@@ -8,8 +8,12 @@ use Rattle.line.specs.Program.{afterCarve, afterOpen, opens, afterFinish
 use Rattle.line.specs.Examples.{Examples}
 
 -- all that the program computes with
+unfoldable reading-rules : Unit {0}
+unfolding signed valueOf valuesOf withLayer fitUpTo layersChecks layersFilled readUpTo
+reading-rules = tt
+
 unfoldable whole-program : Unit {0}
-unfolding all-rules signed valueOf valuesOf withLayer fitUpTo layersChecks layersFilled readUpTo afterCarve afterOpen opens afterFinish carveAndOpen lineOf carvedToEnd lineFrom lineAfterRead programLine
+unfolding all-rules reading-rules afterCarve afterOpen opens afterFinish carveAndOpen lineOf carvedToEnd lineFrom lineAfterRead programLine
 whole-program = tt
 
 pub examples : Examples

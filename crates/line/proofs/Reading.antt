@@ -2,7 +2,7 @@
 use mathlib.Core.Path.{_≡_, refl, ap, sym, _∙_}
 use mathlib.Core.Bool.{Bool, true, false, not, cond}
 use mathlib.Core.List.{List, [], _∷_}
-use Prim.Native.Nat.{ℕ, zero, suc, _*_, _≤_, _<_}
+use Prim.Native.Nat.{ℕ, _*_, _≤_, _<_}
 use native.Mathlib.Nat.{mul-le-mul}
 use native.Mathlib.Omega.{arith}
 use borrow.Author.Tests.{leb-true, lt-ltb, le-ltb}
@@ -10,18 +10,21 @@ use lib.Dec.{leb, ltb, eqb}
 use lib.ListN.{length, take, replicate, length-replicate}
 use lib.IntN.{ℤ, pos}
 use Rattle.prelude.proofs.Bools.{and-true}
+use Rattle.prelude.proofs.Counts.{counted}
 use Rattle.prelude.proofs.Ranges.{length-map-range}
+use Rattle.prelude.proofs.Replicate.{take-replicate}
 use Rattle.rules.specs.declared.Sides.{Sides}
 use Rattle.rules.specs.declared.Record.{Record}
 use Rattle.rules.specs.declared.Begun.{Begun}
 use Rattle.rules.specs.Grid.{fitSides, size, voxels}
 use Rattle.rules.specs.Checks.{_when_, unless}
 use Rattle.rules.specs.Answer.{Reply, refused, done, Outcome, outcome, untouched, Buffers, buffers, begunAnswer}
-use Rattle.rules.specs.Begin.{inside, inBox, statusAt, startStatus, newRecord, beginChecks, begun, begin}
+use Rattle.rules.specs.Begin.{inside, inBox, statusAt, startStatus, begin}
 use Rattle.rules.specs.Meaning.{found}
 use Rattle.rules.specs.Status.{isKept}
 use Rattle.rules.specs.Machine.{State, state}
 use Rattle.rules.proofs.Checks.{by-checks}
+use Rattle.rules.proofs.Demand.{by-begin}
 use Rattle.words.specs.Words.{tagged}
 use Rattle.gridfile.specs.declared.ReadAnswer.{ReadAnswer}
 use Rattle.gridfile.specs.File.{headerLength, sidesIn, fitUpTo, layersChecks, readChecks, Header, readAnswer, accepted, readUpTo}
@@ -31,7 +34,6 @@ use Rattle.text.specs.Line.{refusedLine, carvedLine}
 use Rattle.text.specs.Written.{printed}
 use Rattle.line.specs.Program.{afterFinish, roundsLeft, allRounds, lineOf, carvedToEnd, lineFrom, zeros, lineAfterRead}
 use Rattle.line.specs.Program.{greatestSide, programLine, lentFor}
-use Rattle.line.proofs.Counting.{counted}
 use Rattle.line.proofs.Rounds.{finish-unmoved, rounds-sides}
 
 -- a refusal is no answer
@@ -43,16 +45,12 @@ no-answer n a e = let z : _≡_ {A = ℕ} 0 1 = cc in let y : ⊥ = omega arith 
 module _ (s : Sides) (T : ℕ) (values dist : List ℤ) (status : List ℕ) where
   pub begin-long :
       (next : Record) (d : List ℤ) (b : List ℕ) → outcome (done next) (buffers d b) ≡ begin s T values dist status → length b ≡ size (next .sides)
-  unfolding begin begun startStatus voxels
+  unfolding startStatus voxels
   begin-long next d b e =
-      ap (λ (o : Outcome Buffers Record). length (o .lent .status)) e
-      ∙ by-checks (untouched (buffers dist status)) (begun s T values) (λ o. o .answer ≡ done next → length (o .lent .status) ≡ size (next .sides))
-      (beginChecks s values dist status) (λ n f. no-answer n next f)
-      (λ p f.
-      let q : newRecord s T ≡ next = cc in
       let S = inside s values in
-      length-map-range (statusAt s S (inBox s S)) (size s) ∙ ap (λ (r : Record). size (r .sides)) q)
-      (sym (ap (λ (o : Outcome Buffers Record). o .answer) e))
+      ap (λ (o : Outcome Buffers Record). length (o .lent .status)) e
+      ∙ by-begin (λ g. length (g .status) ≡ size (g .rec .sides)) s T values dist status
+      (λ accepted. length-map-range (statusAt s S (inBox s S)) (size s)) next (sym (ap (λ (o : Outcome Buffers Record). o .answer) e))
 
   -- the line, by begin's answer
   module _ (a : Begun) (d : List ℤ) (b : List ℕ) (e : outcome (begunAnswer a) (buffers d b) ≡ begin s T values dist status) where
@@ -88,11 +86,6 @@ module _ (given : Record) (dist : List ℤ) (status : List ℕ) where
       rw (kept-found, z) (ap lineOf (f ∙ ap afterFinish e))
 
 -- ---- how many voxels' buffers are lent
-
-pub take-replicate : {A : Type 0} (k n : ℕ) (x : A) → k ≤ n → take k (replicate n x) ≡ replicate k x
-take-replicate zero n x h = refl
-take-replicate (suc k) zero x h = let z : ⊥ = omega arith in absurd z
-take-replicate (suc k) (suc n) x h = ap (λ (l : List _). x ∷ l) (take-replicate k n x (omega arith))
 
 pub lent-length : {A : Type 0} (k n : ℕ) (x : A) → k ≤ n → k ≡ length (take k (replicate n x))
 lent-length k n x h = sym (ap length (take-replicate k n x h) ∙ length-replicate k x)
@@ -177,9 +170,9 @@ module _ (file : List ℕ) where
     by-answer : lineAfterRead (outcome (readAnswer answer) values) ≡ programLine file
     by-answer = ap lineAfterRead (r ∙ ap (readUpTo greatestSide file) z) ∙ sym line-lent
 
-    pub line-refused : (n : ℕ) → readAnswer answer ≡ refused n → refusedLine n ≡ programLine file
+    pub line-refused : (n : ℕ) → answer ≡ ReadAnswer.Refused n → refusedLine n ≡ programLine file
     unfolding lineAfterRead
-    line-refused n e = sym (ap (λ (a : Reply Header). lineAfterRead (outcome a values)) e) ∙ by-answer
+    line-refused n e = sym (ap (λ (a : ReadAnswer). lineAfterRead (outcome (readAnswer a) values)) e) ∙ by-answer
 
     pub line-grid :
         (s : Sides) (T : ℕ) (dist : List ℤ) (status : List ℕ)

@@ -1,17 +1,14 @@
 // From the bytes of a grid file to the line of the program carve: read, begin, carve and open in turn, finish.
 ghost use mathlib.Core.Path.{_≡_};
-ghost use mathlib.Core.Bool.{true};
 ghost use Prim.Native.Nat.{_≤_};
 ghost use lib.ListN.{length};
 ghost use Rattle.prelude.specs.Lists.{filter, range};
 ghost use Rattle.rules.specs.Grid.{size};
-ghost use Rattle.rules.specs.Answer.{refused};
 ghost use Rattle.rules.specs.Status.{isKept};
 ghost use Rattle.rules.specs.Machine.{state};
 ghost use Rattle.rules.specs.Begin.{begin};
-ghost use Rattle.gridfile.specs.File.{readAnswer};
 ghost use Rattle.text.specs.Written.{printed};
-ghost use Rattle.line.specs.Program.{afterCarve, afterOpen, afterFinish, isRefused, opens, allRounds, carvedToEnd};
+ghost use Rattle.line.specs.Program.{afterCarve, afterOpen, afterFinish, opens, allRounds, carvedToEnd};
 ghost use Rattle.line.specs.Program.{lineFrom, programLine, lentFor, Lent};
 use gridfile::ReadAnswer;
 use rules::Begun;
@@ -133,28 +130,15 @@ fn begun_line(
     }
 }
 
-// The number of an answer that is a refusal.
-fn number_of(answer: ReadAnswer) -> u8
-    requires { ⌜ isRefused (readAnswer answer) ≡ true ⌝ }
-    ensures { λ r. ⌜ readAnswer answer ≡ refused r ⌝ }
-{
-    if let ReadAnswer::Refused(n) = answer {
-        n
-    } else {
-        0
-    }
-}
-
 // The line of a file, with buffers of zeros that are long enough where the header is right.
 fn line_in(file: &[u8], values: &mut [i16], dist: &mut [i32], status: &mut [u8]) -> Text
     requires { ⌜ Lent (lentFor (now file)) (now values) (now dist) (now status) ⌝ }
     ensures { λ r. ⌜ r ≡ printed (programLine (now (file .entry))) ⌝ }
 {
-    let answer = gridfile::read_up_to(file, values, 24);
-    let ReadAnswer::Grid { sides, allowed } = answer else {
-        return text::refused_line(number_of(answer));
-    };
-    begun_line(sides, allowed, values, dist, status)
+    match gridfile::read_up_to(file, values, 24) {
+        ReadAnswer::Grid { sides, allowed } => begun_line(sides, allowed, values, dist, status),
+        ReadAnswer::Refused(n) => text::refused_line(n),
+    }
 }
 
 // The voxels of the grid that a header names, 0 where it is refused for its sides.

@@ -1,4 +1,3 @@
-pub mod Stores
 pub mod Position
 pub mod Found
 pub mod Walking

@@ -12,7 +12,7 @@ use Rattle.rules.specs.Answer.{Outcome, outcome, done}
 use Rattle.surface.specs.declared.Point.{Point}
 use Rattle.points.specs.Listing.{Walk, found, onwards, walk, doubles, Listing, written, listing}
 use Rattle.points.specs.Positions.{counted, stored, StoredAs}
-use Rattle.points.proofs.Stores.{take-sets, drop-sets}
+use Rattle.prelude.proofs.Stores.{take-sets, drop-sets}
 
 abbrev nothing : ℕ → Walk
 nothing p = record { points = []; next = p }

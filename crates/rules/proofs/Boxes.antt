@@ -49,9 +49,11 @@ module _ (S : List ℕ) (coordinate : ℕ → ℕ) (side i : ℕ) where
   between-in : Between S coordinate i → between side ps (coordinate i) ≡ true
   unfolding ps
   between-in b =
+      let low = least-le side ps (coordinate (b .low)) (mem-map coordinate S (b .low) (isIn-mem S (b .low) (b .low-listed))) in
+      let high = le-greatest 0 ps (coordinate (b .high)) (mem-map coordinate S (b .high) (isIn-mem S (b .high) (b .high-listed))) in
       true-and (leb (least side ps) (coordinate i)) (leb (coordinate i) (greatest 0 ps))
-      (le-leb (least side ps) (coordinate i) (omega (arith, b .above-low, least-le side ps (coordinate (b .low)) (mem-map coordinate S (b .low) (isIn-mem S (b .low) (b .low-listed))))))
-      (le-leb (coordinate i) (greatest 0 ps) (omega (arith, b .below-high, le-greatest 0 ps (coordinate (b .high)) (mem-map coordinate S (b .high) (isIn-mem S (b .high) (b .high-listed))))))
+      (le-leb (least side ps) (coordinate i) (omega (arith, b .above-low)))
+      (le-leb (coordinate i) (greatest 0 ps) (omega (arith, b .below-high)))
 
   -- off both ends, where S is
   between-off : ((j : ℕ) → isIn S j ≡ true → coordinate j < side) → ((j : ℕ) → isIn S j ≡ true → end side (coordinate j) ≡ false)
@@ -138,7 +140,8 @@ box-is-off-border s values clear =
 pub checked-border : (s : Sides) (values : List ℤ) → any (λ i. onBorder s i && measuredNegative (valueAt values i)) (voxels s) ≡ false
     → (i : ℕ) → i < size s → onBorder s i ≡ true → measuredNegative (valueAt values i) ≡ false
 checked-border s values none i h o =
-    elim (and-false (onBorder s i) (measuredNegative (valueAt values i)) (any-false (λ i. onBorder s i && measuredNegative (valueAt values i)) (voxels s) none i (mem-voxels s i h))) [
+    let f = any-false (λ i. onBorder s i && measuredNegative (valueAt values i)) (voxels s) none i (mem-voxels s i h) in
+    elim (and-false (onBorder s i) (measuredNegative (valueAt values i)) f) [
       | inl f ↦ not-both (onBorder s i) o f
       | inr f ↦ f
     ]

@@ -2,8 +2,8 @@
 use mathlib.Core.Path.{refl}
 use Rattle.cells.specs.Groups.{any, filter, reached, others, enter, gather, groups}
 use Rattle.cells.specs.Cells.{contains, joined, touched, groupCount, dimension, countOf, testOf, test, passes}
-use Rattle.rules.specs.Grid.{fitSides, size, index, voxel, range, voxels, onBorder, gap, near, touch, apart, taxicab, shareFace, neighbourhoodOf, neighbourhood}
-use Rattle.rules.specs.Grid.{measuredNegative, measuredNonNegative}
+use Rattle.rules.specs.Grid.{fitSides, size, index, voxel, range, voxels, onBorder, gap, near, touch, apart, taxicab, shareFace}
+use Rattle.rules.specs.Grid.{neighbourhoodOf, neighbourhood, measuredNegative, measuredNonNegative}
 use Rattle.rules.specs.Checks.{unless}
 use Rattle.rules.specs.Begin.{least, greatest, isIn, negatives, larger, largest, inside, facing, greatestFacing, distance, workedAt, worked, inBox}
 use Rattle.rules.specs.Begin.{exposed, statusAt, startStatus, begun, begin}
@@ -14,9 +14,42 @@ use Rattle.rules.specs.Machine.{openNext, closed, closedAt, finishedOf, 
 use Rattle.rules.specs.Cases.{start, carvedTo, ended, caseA, plate, valuesC, caseC, layerD, valuesD, caseD, valuesArc, arc, bar, CaseA, CaseC, CaseD}
 use Rattle.rules.specs.Cases.{Arc, Bar, Numbers}
 
--- all that a case computes with: to unfold this name is to unfold the rules
+-- ---- all that a case computes with: to unfold `all-rules` is to unfold the rules
+
+unfoldable local-rules : Unit {0}
+unfolding any filter reached others enter gather groups contains joined touched groupCount dimension countOf testOf test passes
+local-rules = tt
+
+unfoldable grid-rules : Unit {0}
+unfolding fitSides size index voxel range voxels onBorder gap near touch apart taxicab shareFace neighbourhoodOf neighbourhood
+grid-rules = tt
+
+unfoldable measuring-rules : Unit {0}
+unfolding measuredNegative measuredNonNegative unless least greatest isIn negatives larger largest inside facing greatestFacing
+measuring-rules = tt
+
+unfoldable begin-rules : Unit {0}
+unfolding measuring-rules distance workedAt worked inBox exposed statusAt startStatus begun begin
+begin-rules = tt
+
+unfoldable status-rules : Unit {0}
+unfolding keptByte pendingByte woken rested isKept isPending anyPending testAt statusWithout without examine carving openable
+status-rules = tt
+
+unfoldable order-rules : Unit {0}
+unfolding prefer foremost firstOf removable isInside outside farther
+order-rules = tt
+
+unfoldable call-rules : Unit {0}
+unfolding unfitCounts unfitVoxel unfit wrongLength carved carve taken take toOpen opened openNext closed closedAt finishedOf finish
+call-rules = tt
+
+unfoldable worked-cases : Unit {0}
+unfolding start carvedTo ended caseA plate valuesC caseC layerD valuesD caseD valuesArc arc bar
+worked-cases = tt
+
 unfoldable pub all-rules : Unit {0}
-unfolding any filter reached others enter gather groups contains joined touched groupCount dimension countOf testOf test passes fitSides size index voxel range voxels onBorder gap near touch apart taxicab shareFace neighbourhoodOf neighbourhood measuredNegative measuredNonNegative unless least greatest isIn negatives larger largest inside facing greatestFacing distance workedAt worked inBox exposed statusAt startStatus begun begin keptByte pendingByte woken rested isKept isPending anyPending testAt prefer foremost firstOf removable statusWithout without examine carving openable isInside outside farther unfitCounts unfitVoxel unfit wrongLength carved carve taken take toOpen opened openNext closed closedAt finishedOf finish start carvedTo ended caseA plate valuesC caseC layerD valuesD caseD valuesArc arc bar
+unfolding local-rules grid-rules begin-rules status-rules order-rules call-rules worked-cases
 all-rules = tt
 
 pub case-a : CaseA

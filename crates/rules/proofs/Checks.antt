@@ -61,6 +61,12 @@ module _ {R : Type 0} (refuse : ℕ → R) (work : R) where
   unless-held [] h = refl
   unless-held (c ∷ cs) h = ap (λ (u : Bool). cond u (refuse (c .number)) (unless cs refuse work)) (h .0) ∙ unless-held cs (h .1)
 
+  -- checks that hold before others do not matter
+  pub unless-after : (cs ds : List Check) → AllHold cs → unless (cs ++ ds) refuse work ≡ unless ds refuse work
+  unfolding unless
+  unless-after [] ds h = refl
+  unless-after (c ∷ cs) ds h = ap (λ (u : Bool). cond u (refuse (c .number)) (unless (cs ++ ds) refuse work)) (h .0) ∙ unless-after cs ds (h .1)
+
   unless-first : (cs : List Check) → (firstFailing cs ≡ 0 → ⊥) → unless cs refuse work ≡ refuse (firstFailing cs)
   unfolding unless firstFailing
   unless-first [] f = absurd (f refl)

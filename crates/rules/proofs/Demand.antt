@@ -1,29 +1,24 @@
 -- Demand 3 of document 01: it holds after every list of calls, from any body to start from, and so on every grid that begin accepts.
 use mathlib.Core.Path.{_≡_, refl, ap, sym, _∙_, subst}
 use mathlib.Core.Bool.{Bool, true, false}
-use mathlib.Core.List.{List, [], _∷_}
+use mathlib.Core.List.{List, [], _∷_, _++_}
 use Prim.Native.Nat.{ℕ, _*_, _≤_, _<_}
 use native.Mathlib.Omega.{arith}
-use lib.Dec.{ltb}
 use lib.IntN.{ℤ, pos}
-use borrow.Author.Tests.{lt-ltb}
-use Rattle.cells.specs.Groups.{any}
-use Rattle.prelude.proofs.Bools.{not-false, true-and}
 use Rattle.rules.specs.declared.Sides.{Sides}
 use Rattle.rules.specs.declared.Record.{Record}
-use Rattle.rules.specs.Grid.{fitSides, size, voxels, measuredNegative, valueAt}
-use Rattle.rules.specs.Checks.{AllHold}
+use Rattle.rules.specs.Grid.{size, voxels}
 use Rattle.rules.specs.Answer.{done, untouched, buffers}
 use Rattle.rules.specs.Begin.{isIn, inside, inBox, worked, startStatus, newRecord, beginChecks, begun, begin}
 use Rattle.rules.specs.Status.{isPending, testAt, anyPending}
 use Rattle.rules.specs.Machine.{State, state, isInside}
-use Rattle.rules.specs.Demand.{Call, Sums, run, Demand, DemandIsMet}
-use Rattle.rules.specs.Meaning.{found, negative}
+use Rattle.rules.specs.Demand.{Call, Sums, call, run, Demand, DemandIsMet}
+use Rattle.rules.specs.Meaning.{found}
 use Rattle.rules.proofs.Checks.{by-checks}
-use Rattle.prelude.proofs.Ranges.{any-below, none-below}
+use Rattle.prelude.proofs.Ranges.{none-below}
 use Rattle.rules.proofs.Places.{fit}
 use Rattle.rules.proofs.Inside.{inside-some}
-use Rattle.rules.proofs.Boxes.{checked-border}
+use Rattle.rules.proofs.Fit.{Beginnable, beginnable}
 use Rattle.rules.proofs.Topology.Moves.{Inv}
 use Rattle.rules.proofs.Topology.Steps.{Sound, tally, sets}
 use Rattle.rules.proofs.Topology.Calls.{tallyOf, Good, run-keeps}
@@ -32,6 +27,12 @@ use Rattle.rules.proofs.Topology.Start.{box-sound, worked-signs}
 not-pending : (s : Sides) (status : List ℕ) → anyPending s status ≡ false → (i : ℕ) → i < size s → isPending status i ≡ false
 unfolding anyPending voxels
 not-pending s status quiet = none-below (isPending status) (size s) quiet
+
+-- a list of calls after another
+pub run-append : (cs ds : List Call) (g : State) → run (cs ++ ds) g .end ≡ run ds (run cs g .end) .end
+unfolding run
+run-append [] ds g = refl
+run-append (c ∷ cs) ds g = run-append cs ds (call c g .end)
 
 -- ---- any body to start from whose status bytes are sound, with distances whose signs are S
 
@@ -73,46 +74,43 @@ module _ (s : Sides) (T : ℕ) (values : List ℤ) (start : ℕ → Bool) (dist 
 
 -- ---- begin
 
--- a grid that passes begin's checks
-module _ (s : Sides) (values dist : List ℤ) (status : List ℕ) (checked : AllHold (beginChecks s values dist status)) where
-  -- some voxel is measured negative
-  some-negative : (v : ℕ) × (negative s values v ≡ true)
-  some-negative =
-      let v = any-below (λ i. measuredNegative (valueAt values i)) (size s)
-      (unfold voxels in not-false (any (λ i. measuredNegative (valueAt values i)) (voxels s)) (checked .1 .1 .1 .0)) in
-      (v .0, true-and (ltb (v .0) (size s)) (measuredNegative (valueAt values (v .0))) (lt-ltb (v .0) (size s) (v .1)) (v .2))
+-- the state that begin hands out
+abbrev pub handed : Sides → ℕ → List ℤ → State
+handed s T values = let S = inside s values in state (newRecord s T) (worked s values S) (startStatus s S (inBox s S))
 
+-- what holds of it for every grid that begin accepts, holds of begin's answer and buffers
+module _ (P : State → Type 0) where
+  pub by-begin : (s : Sides) (T : ℕ) (values dist : List ℤ) (status : List ℕ) → (Beginnable s values → P (handed s T values))
+      → (r : Record) → begin s T values dist status .answer ≡ done r
+      → let b = begin s T values dist status in P (state r (b .lent .dist) (b .lent .status))
+  unfolding begin begun
+  by-begin s T values dist status holds r e =
+      by-checks (untouched (buffers dist status)) (begun s T values) (λ o. o .answer ≡ done r → P (state r (o .lent .dist) (o .lent .status)))
+      (beginChecks s values dist status)
+      (λ n f. let z : _≡_ {A = ℕ} 0 1 = cc in let y : ⊥ = omega arith in absurd y)
+      (λ p f. let q : newRecord s T ≡ r = cc in
+      subst (λ (r : Record). P (state r (handed s T values .dist) (handed s T values .status))) q (holds (beginnable s values dist status p))) e
+
+module _ (s : Sides) (values : List ℤ) (accepted : Beginnable s values) where
   pub begun-inside : (i : ℕ) × (isIn (inside s values) i ≡ true)
-  begun-inside = inside-some s values (some-negative .0) (some-negative .1)
+  begun-inside = inside-some s values (accepted .some) (accepted .some-negative)
 
   begun-sound : Sound s (isIn (inside s values)) (λ j. false) (found s (inBox s (inside s values)))
       (startStatus s (inside s values) (inBox s (inside s values))) (tally 0 0 0 (pos 1))
-  begun-sound =
-      box-sound s values (fit s (not-false (fitSides s) (checked .0))) (checked-border s values (checked .1 .1 .0)) (some-negative .0) (some-negative .1) (λ j. false)
+  begun-sound = box-sound s values (fit s (accepted .sides)) (accepted .border) (accepted .some) (accepted .some-negative) (λ j. false)
 
-  pub begun-good : (T : ℕ) → Good (isIn (inside s values)) (λ j. false) (found s (inBox s (inside s values)))
-      (state (newRecord s T) (worked s values (inside s values)) (startStatus s (inside s values) (inBox s (inside s values))))
+  pub begun-good : (T : ℕ) → Good (isIn (inside s values)) (λ j. false) (found s (inBox s (inside s values))) (handed s T values)
   begun-good T =
       let S = inside s values in
       good-start s T values (inBox s S) (worked s values S) (startStatus s S (inBox s S)) begun-sound (worked-signs s values)
 
-  accepted : (T : ℕ) (calls : List Call)
-      → let after = run calls (state (newRecord s T) (worked s values (inside s values)) (startStatus s (inside s values) (inBox s (inside s values)))) in
-      Demand s values (inBox s (inside s values)) (after .end) (after .answers)
-  accepted T calls =
+  from-begin : (T : ℕ) (calls : List Call)
+      → let after = run calls (handed s T values) in Demand s values (inBox s (inside s values)) (after .end) (after .answers)
+  from-begin T calls =
       let S = inside s values in
       from-start s T values (inBox s S) (worked s values S) (startStatus s S (inBox s S)) begun-sound (worked-signs s values) calls
 
 pub demand-is-met : DemandIsMet
-unfolding begin begun
 demand-is-met s T values dist status r e calls =
-    by-checks (untouched (buffers dist status)) (begun s T values)
-    (λ o. o .answer ≡ done r → let after = run calls (state r (o .lent .dist) (o .lent .status)) in Demand s values (inBox s (inside s values)) (after .end) (after .answers))
-    (beginChecks s values dist status)
-    (λ n f. let z : _≡_ {A = ℕ} 0 1 = cc in let y : ⊥ = omega arith in absurd y)
-    (λ p f.
-    let q : newRecord s T ≡ r = cc in
-    subst (λ (r : Record).
-    let after = run calls (state r (worked s values (inside s values)) (startStatus s (inside s values) (inBox s (inside s values)))) in
-    Demand s values (inBox s (inside s values)) (after .end) (after .answers)) q
-    (accepted s values dist status p T calls)) e
+    by-begin (λ g. let after = run calls g in Demand s values (inBox s (inside s values)) (after .end) (after .answers))
+    s T values dist status (λ accepted. from-begin s values accepted T calls) r e

@@ -132,7 +132,8 @@ module _ (s : Sides) (S : List ℕ) (v : SomeVoxels s S) (i : ℕ) (h : i < size
 
   pub facing-eqb : isIn S i ≡ false → facing s S i ≡ eqb (distance s S i) 1
   facing-eqb o =
-      both-ways (facing s S i) (eqb (distance s S i) 1) (λ f. eq-eqb (distance s S i) 1 (facing-distance o f)) (λ e. distance-facing (eqb-true (distance s S i) 1 e))
+      both-ways (facing s S i) (eqb (distance s S i) 1) (λ f. eq-eqb (distance s S i) 1 (facing-distance o f))
+      (λ e. distance-facing (eqb-true (distance s S i) 1 e))
 
 pub distance-is-nearest : DistanceIsNearest
 distance-is-nearest s S v i h d = (λ e. subst (λ (n : ℕ). Nearest s S i n) e (distance-nearest s S v i h), nearest-distance s S v i h d)

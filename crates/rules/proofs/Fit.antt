@@ -5,23 +5,46 @@ use mathlib.Core.Bool.{Bool, true, false, not, _&&_, _||_}
 use mathlib.Core.List.{List, [], _∷_, _++_}
 use Prim.Native.Nat.{ℕ, _*_, _≤_, _<_}
 use native.Mathlib.Omega.{arith}
-use borrow.Author.Tests.{ltb-true, ltb-false, le-ltb, leb-false, eqb-true, eqb-false, eq-eqb}
+use borrow.Author.Tests.{ltb-true, ltb-false, lt-ltb, le-ltb, leb-false, eqb-true, eqb-false, eq-eqb}
 use lib.Dec.{eqb, ltb, leb}
 use lib.IntN.{ℤ, pos, natAbs}
 use lib.ListN.{length, List·getD-eq-default}
 use Rattle.cells.specs.Groups.{any}
 use Rattle.cells.specs.Cells.{passes}
-use Rattle.prelude.proofs.Bools.{and-true, or-true, or-false, not-false, not-both, two}
+use Rattle.prelude.proofs.Bools.{and-true, true-and, or-true, or-false, not-false, not-both, two}
 use Rattle.rules.specs.declared.Sides.{Sides}
 use Rattle.rules.specs.declared.Record.{Record}
-use Rattle.rules.specs.Grid.{fitSides, size, range, voxels, onBorder, isNegative, distanceAt}
+use Rattle.rules.specs.Grid.{fitSides, size, range, voxels, onBorder, isNegative, measuredNegative, valueAt, distanceAt}
 use Rattle.rules.specs.Checks.{_when_, AllHold}
+use Rattle.rules.specs.Meaning.{negative}
+use Rattle.rules.specs.Begin.{beginChecks}
 use Rattle.rules.specs.Status.{statusOf, isKept, anyPending, testAt}
 use Rattle.rules.specs.Machine.{State, isInside, unfitCounts, unfitVoxel, unfit, wrongLength, stateChecks, workingChecks, finishedChecks, voxelChecks}
 use Rattle.rules.specs.Machine.{takeChecks, quietChecks, openingChecks, openChecks, finishChecks}
 use Rattle.rules.specs.Fit.{Lent, Known, FitVoxels, FitState, Working, Ended, Takeable, Quiet, Openable}
-use Rattle.prelude.proofs.Ranges.{none-below, below-none}
+use Rattle.prelude.proofs.Ranges.{any-below, none-below, below-none}
+use Rattle.rules.proofs.Boxes.{checked-border}
 use Rattle.rules.proofs.Checks.{hold-append}
+
+-- ---- begin
+
+-- a grid that begin accepts
+pub record Beginnable (s : Sides) (values : List ℤ) : Type 0 where
+  pub sides : fitSides s ≡ true
+  pub border : (i : ℕ) → i < size s → onBorder s i ≡ true → measuredNegative (valueAt values i) ≡ false
+  pub some : ℕ
+  pub some-negative : negative s values some ≡ true
+
+pub beginnable : (s : Sides) (values dist : List ℤ) (status : List ℕ) → AllHold (beginChecks s values dist status) → Beginnable s values
+unfolding voxels
+beginnable s values dist status h =
+    let v = any-below (λ i. measuredNegative (valueAt values i)) (size s) (not-false _ (h .1 .1 .1 .0)) in
+    record {
+      sides = not-false (fitSides s) (h .0);
+      border = checked-border s values (h .1 .1 .0);
+      some = v .0;
+      some-negative = true-and (ltb (v .0) (size s)) (measuredNegative (valueAt values (v .0))) (lt-ltb (v .0) (size s) (v .1)) (v .2);
+    }
 
 -- ---- number 7 at a voxel
 
@@ -164,7 +187,8 @@ state-fits g fit =
         ap₂ (λ (p q : Bool). not (p && q)) (eq-eqb _ _ (lent .distances)) (eq-eqb _ _ (lent .statuses)),
         (
           ap₂ _||_
-              (ap₂ _||_ (le-ltb _ _ (fit .openings)) (ap₂ _||_ (le-ltb _ _ (fit .removals)) (ap₂ _||_ (le-ltb _ _ (fit .examinations)) (le-ltb _ _ (fit .euler)))))
+              (ap₂ _||_ (le-ltb _ _ (fit .openings))
+              (ap₂ _||_ (le-ltb _ _ (fit .removals)) (ap₂ _||_ (le-ltb _ _ (fit .examinations)) (le-ltb _ _ (fit .euler)))))
               (below-none _ (size s) (fit-voxel s (g .dist) (g .status) (fit .voxels))),
           tt,
         ),

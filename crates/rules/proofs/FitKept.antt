@@ -208,7 +208,8 @@ module _ (s : Sides) (dist : List ℤ) (ahead : ℕ → ℕ → Bool) (order : O
       ]
 
       go : (o : Option ℕ) → firstOf s ahead (isPending status) ≡ o
-          → ((i : ℕ) → FitVoxels s dist (examine s (outside dist) status i) → FitVoxels s dist (carving s (outside dist) ahead limit (examine s (outside dist) status i) .status))
+          → ((i : ℕ) → let after = examine s (outside dist) status i in
+          FitVoxels s dist after → FitVoxels s dist (carving s (outside dist) ahead limit after .status))
           → FitVoxels s dist (next o .status)
       go none e rest = fit
       go (some i) e rest =

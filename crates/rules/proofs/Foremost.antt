@@ -129,7 +129,8 @@ module _ (ahead : ℕ → ℕ → Bool) (order : Order ahead) where
       pick j false f q e =
           subst (λ (k : ℕ). First ahead (x ∷ xs) k) (some-inj x i e) (alone (λ y m. order .behind y j x (q .farthest y m) f))
 
-      go : (o : Option ℕ) → foremost ahead xs ≡ o → ((j : ℕ) → foremost ahead xs ≡ some j → First ahead xs j) → prefer ahead x o ≡ some i → First ahead (x ∷ xs) i
+      go : (o : Option ℕ) → foremost ahead xs ≡ o → ((j : ℕ) → foremost ahead xs ≡ some j → First ahead xs j)
+          → prefer ahead x o ≡ some i → First ahead (x ∷ xs) i
       go none f ih e = subst (λ (k : ℕ). First ahead (x ∷ xs) k) (some-inj x i e) (alone (λ y m. absurd (foremost-none ahead xs f y m)))
       go (some j) f ih e = pick j (ahead j x) refl (ih j f) e
 
@@ -196,8 +197,11 @@ first-is-foremost s ahead order p i = (first-foremost s ahead order p i, foremos
 
 none-first-any : (s : Sides) (ahead : ℕ → ℕ → Bool) (p : ℕ → Bool) → ((i : ℕ) → i < size s → p i ≡ false) → firstOf s ahead p ≡ none
 unfolding firstOf
-none-first-any s ahead p h = ap (foremost ahead) (nothing (filter p (voxels s)) (λ i m. let r = voxel-listed s ahead p i m in not-both (p i) (r .1) (h i (r .0)))) ∙ unfold foremost in refl
+none-first-any s ahead p h = ap (foremost ahead) (nothing (filter p (voxels s)) unlisted) ∙ unfold foremost in refl
   where
+    unlisted : (i : ℕ) → Mem i (filter p (voxels s)) → ⊥
+    unlisted i m = let r = voxel-listed s ahead p i m in not-both (p i) (r .1) (h i (r .0))
+
     nothing : (xs : List ℕ) → ((i : ℕ) → Mem i xs → ⊥) → xs ≡ []
     nothing [] n = refl
     nothing (x ∷ xs) n = absurd (n x here)

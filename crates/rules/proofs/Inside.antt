@@ -310,7 +310,9 @@ inside-is-found s values v e = inside-found s values v e
 -- two tests that find S find the same voxels
 pub found-same : (s : Sides) (values : List ℤ) (p q : ℕ → Bool) → IsInside s values p → IsInside s values q → (i : ℕ) → i < size s
     → p i ≡ true → q i ≡ true
-found-same s values p q a b i h e = b .group .whole i (subst (λ (r : ℕ). Linked (negative s values) (touch s) r i) (go (decLt (a .seed) (b .seed)) (decLt (b .seed) (a .seed))) (a .group .linked i h e))
+found-same s values p q a b i h e =
+    let same-seed = go (decLt (a .seed) (b .seed)) (decLt (b .seed) (a .seed)) in
+    b .group .whole i (subst (λ (r : ℕ). Linked (negative s values) (touch s) r i) same-seed (a .group .linked i h e))
   where
     go : Dec (a .seed < b .seed) → Dec (b .seed < a .seed) → a .seed ≡ b .seed
     go (yes l) d =

@@ -1,7 +1,7 @@
 -- The two ways to say neighbour are one.
-use mathlib.Core.Path.{_≡_, refl, ap, ap₂, sym, _∙_, subst}
+use mathlib.Core.Path.{_≡_, refl, ap, sym, _∙_, subst}
 use mathlib.Core.Bool.{Bool, true, false, not, _&&_, true≢false}
-use Prim.Native.Nat.{ℕ, suc, _+_, _-_, _/_, _%_, _≤_, _<_}
+use Prim.Native.Nat.{ℕ, _-_, _≤_, _<_}
 use native.Mathlib.Omega.{arith}
 use lib.Dec.{eqb}
 use borrow.Author.Tests.{eqb-true, eq-eqb}
@@ -17,7 +17,7 @@ use Rattle.rules.specs.Neighbours as told
 use Rattle.rules.specs.Neighbours.{TouchIsBlock, ExposedIsFace}
 use Rattle.rules.proofs.Places.{fit, index-lt, index-voxel, voxel-index}
 use Rattle.rules.proofs.Topology.Around.{Close, touch-close, close-touch, At, at-same, close-at, Inner, neighbour-at, neighbourhood-at}
-use Rattle.rules.proofs.Topology.Removal.{face-taxicab}
+use Rattle.rules.proofs.Topology.Removal.{away, apart-at, face-taxicab}
 use Rattle.rules.proofs.Topology.Start.{border-inner}
 
 module _ (s : Sides) (i : ℕ) (h : told.Inner s i) where
@@ -62,17 +62,6 @@ module _ (s : Sides) (i : ℕ) (h : told.Inner s i) where
       (close-touch s i (index s (neighbour (voxel s i) (r .0)))
       (subst (λ (v : Voxel). Close (voxel s i) v) (sym (a .1)) (close-of (r .0) (neighbour (voxel s i) (r .0)) (a .0))))
 
-  -- how far a position lies from the middle
-  abbrev away : ℕ → ℕ
-  away p = gap (p % 3) 1 + gap (p / 3 % 3) 1 + gap (p / 9) 1
-
-  taxicab-at : (v : Voxel) (p : ℕ) → At (voxel s i) v p → apart (voxel s i) v ≡ away p
-  unfolding apart
-  taxicab-at v p a = ap₂ _+_ (ap₂ _+_ (axis (voxel s i .x) (v .x) (p % 3) (a .x-at)) (axis (voxel s i .y) (v .y) (p / 3 % 3) (a .y-at))) (axis (voxel s i .z) (v .z) (p / 9) (a .z-at))
-    where
-      axis : (x y d : ℕ) → suc y ≡ x + d → gap x y ≡ gap d 1
-      axis x y d e = unfold gap in omega arith
-
   face-position : (p : ℕ) → p < 27 → away p ≡ 1 → Mem p facePositions
   unfolding any range gap
   face-position p l e =
@@ -100,7 +89,7 @@ module _ (s : Sides) (i : ℕ) (h : told.Inner s i) where
       let g = neighbour-at s (voxel s i) inner p (f .1) .1 in (
         index s w,
         index-lt s w g,
-        eq-eqb (apart (voxel s i) (voxel s (index s w))) 1 (ap (apart (voxel s i)) (a .1) ∙ taxicab-at w p (a .0) ∙ f .0),
+        eq-eqb (apart (voxel s i) (voxel s (index s w))) 1 (ap (apart (voxel s i)) (a .1) ∙ apart-at (voxel s i) w p (a .0) ∙ f .0),
         sym (neighbourhood-bare kept w p (a .0)) ∙ not-true (neighbourhood s kept i p) (r .2),
       )
 
@@ -116,7 +105,7 @@ module _ (s : Sides) (i : ℕ) (h : told.Inner s i) where
       let e : apart (voxel s i) (voxel s j) ≡ 1 = eqb-true (apart (voxel s i) (voxel s j)) 1 (r .2) in
       let q = position-of j (close-taxicab (voxel s j) e) in
       let p = q .0 in
-      true-any (λ p. not (neighbourhood s kept i p)) facePositions p (face-position p (q .1 .low) (sym (taxicab-at (voxel s j) p (q .1)) ∙ e))
+      true-any (λ p. not (neighbourhood s kept i p)) facePositions p (face-position p (q .1 .low) (sym (apart-at (voxel s i) (voxel s j) p (q .1)) ∙ e))
       (ap not (neighbourhood-bare kept (voxel s j) p (q .1) ∙ ap kept (index-of j) ∙ r .3))
 
 pub touch-is-block : TouchIsBlock

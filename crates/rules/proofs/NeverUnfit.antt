@@ -13,18 +13,17 @@ use native.Mathlib.Decide.{decLt}
 use borrow.Author.Tests.{ne-eqb}
 use Rattle.cells.specs.Cells.{test}
 use Rattle.closed_sets.proofs.EveryBlock.{k-few, m-few}
-use Rattle.prelude.proofs.Bools.{and-true, not-false, not-both, two}
+use Rattle.prelude.proofs.Bools.{and-true, not-both, two}
 use Rattle.prelude.proofs.Ranges.{getD-map-range, length-map-range, none-below}
 use Rattle.prelude.proofs.Integers.{difference-size, sum-size}
 use Rattle.rules.specs.declared.Sides.{Sides}
-use Rattle.rules.specs.declared.Record.{Record}
-use Rattle.rules.specs.Grid.{fitSides, size, range, voxel, voxels, onBorder, neighbourhood, isNegative, distanceAt}
+use Rattle.rules.specs.Grid.{size, range, voxel, voxels, onBorder, neighbourhood, isNegative, distanceAt}
 use Rattle.rules.specs.Checks.{_when_, AllHold}
-use Rattle.rules.specs.Answer.{done, Outcome, Buffers, untouched, buffers, Carving}
-use Rattle.rules.specs.Begin.{exposed, isIn, inside, inBox, greatestFacing, workedAt, worked, statusAt, startStatus, newRecord, beginChecks, begun, begin}
+use Rattle.rules.specs.Answer.{Outcome, Buffers, untouched, Carving}
+use Rattle.rules.specs.Begin.{exposed, isIn, inside, inBox, greatestFacing, workedAt, worked, statusAt, startStatus, newRecord}
 use Rattle.rules.specs.Meaning.{found}
 use Rattle.rules.specs.Status.{Progress, statusOf, keptByte, pendingByte, isKept, isPending, anyPending, testAt, removable, openable, carving}
-use Rattle.rules.specs.Machine.{State, state, after, lentTo, isInside, outside, farther, count, stateChecks, workingChecks, takeChecks, openChecks}
+use Rattle.rules.specs.Machine.{State, after, lentTo, isInside, outside, farther, count, stateChecks, workingChecks, takeChecks, openChecks}
 use Rattle.rules.specs.Machine.{finishChecks, carved, carve, taken, take, toOpen, isNone, theVoxel, opened, openNext, closed, closedAt, asFinished}
 use Rattle.rules.specs.Machine.{finishedOf, finish}
 use Rattle.rules.specs.Fit.{Lent, Known, FitVoxels, FitState, Working, Takeable, Quiet, Openable}
@@ -32,13 +31,13 @@ use Rattle.rules.specs.Demand.{Call, carveUpTo, takeAt, openOne, finishI
 use Rattle.rules.proofs.Checks.{by-checks, append-hold, unless-held}
 use Rattle.rules.proofs.Foremost.{farther-order, first-foremost}
 use Rattle.rules.proofs.Fit as checked
-use Rattle.rules.proofs.Fit.{state-fits}
+use Rattle.rules.proofs.Fit.{Beginnable, state-fits}
 use Rattle.rules.proofs.FitKept.{known-kept, known-settled, inside-below, fit-without, fit-carving}
 use Rattle.rules.proofs.Topology.Count.{found-all, found-omit}
 use Rattle.rules.proofs.Topology.Around.{Inner}
 use Rattle.rules.proofs.Topology.Steps.{Tally, Sound}
 use Rattle.rules.proofs.Topology.Calls.{tallyOf, Good, call-keeps, run-keeps, carving-ends}
-use Rattle.rules.proofs.Demand.{begun-good, begun-inside}
+use Rattle.rules.proofs.Demand.{handed, by-begin, begun-good, begun-inside}
 
 -- what the calls keep besides: the bytes are fit, openings are allowed and removals too, and each opening moves the Euler number by 8 at most
 record Fair (g : State) : Type 0 where
@@ -218,10 +217,6 @@ module _ (s : Sides) (S held : ℕ → Bool) (total : ℕ) (dist : List ℤ) (st
         inner = λ i e. let k = kept-inside i e in known-settled (statusOf status i) (known i) (k .0) (k .1);
       }
 
--- the state as begin leaves it
-abbrev started : Sides → ℕ → List ℤ → State
-started s T values = state (newRecord s T) (worked s values (inside s values)) (startStatus s (inside s values) (inBox s (inside s values)))
-
 start-known : (s : Sides) (S : List ℕ) (kept : ℕ → Bool) (i : ℕ) → Known (statusOf (startStatus s S kept) i)
 unfolding startStatus voxels statusAt
 start-known s S kept i =
@@ -235,7 +230,7 @@ start-known s S kept i =
     byte true false = inr (inl refl)
     byte false u = inl refl
 
-module _ (s : Sides) (T : ℕ) (values dist : List ℤ) (status : List ℕ) (accepted : AllHold (beginChecks s values dist status)) (calls : List Call) where
+module _ (s : Sides) (T : ℕ) (values : List ℤ) (accepted : Beginnable s values) (calls : List Call) where
   abbrev S : List ℕ
   S = inside s values
 
@@ -243,10 +238,10 @@ module _ (s : Sides) (T : ℕ) (values dist : List ℤ) (status : List ℕ) (acc
   total = found s (inBox s S)
 
   abbrev start-end : State
-  start-end = run calls (started s T values) .end
+  start-end = run calls (handed s T values) .end
 
-  good-begun : Good (isIn S) (λ j. false) total (started s T values)
-  good-begun = begun-good s values dist status accepted T
+  good-begun : Good (isIn S) (λ j. false) total (handed s T values)
+  good-begun = begun-good s values accepted T
 
   length-worked : length (worked s values S) ≡ size s
   unfolding worked voxels
@@ -255,21 +250,21 @@ module _ (s : Sides) (T : ℕ) (values dist : List ℤ) (status : List ℕ) (acc
   fit-begun : FitVoxels s (worked s values S) (startStatus s S (inBox s S))
   fit-begun =
       fit-sound s (isIn S) (λ j. false) total (worked s values S) (startStatus s S (inBox s S)) (tallyOf (newRecord s T)) (good-begun .sound)
-      (record { sides = not-false (fitSides s) (accepted .0); distances = length-worked; statuses = good-begun .sound .lent })
+      (record { sides = accepted .sides; distances = length-worked; statuses = good-begun .sound .lent })
       (start-known s S (inBox s S))
       (λ i e. sym (good-begun .signs refl i (omega (arith, inside-below (worked s values S) i e, length-worked))) ∙ e)
 
   both-end : Both (isIn S) (λ j. false) total start-end
   both-end =
-      run-both (isIn S) (λ j. false) total calls (started s T values)
+      run-both (isIn S) (λ j. false) total calls (handed s T values)
       (record { good = good-begun; fair = record { voxels = fit-begun; openings = omega arith; removals = omega arith; euler = omega arith } })
 
   same-sides : start-end .rec .sides ≡ s
-  same-sides = run-keeps (isIn S) (λ j. false) total calls (started s T values) good-begun .adds .sides
+  same-sides = run-keeps (isIn S) (λ j. false) total calls (handed s T values) good-begun .adds .sides
 
   end-holds : AllHold (stateChecks start-end)
   end-holds =
-      let first = begun-inside s values dist status accepted in
+      let first = begun-inside s values accepted in
       state-fits start-end
       (both-fit (isIn S) (λ j. false) total start-end both-end
       (subst (λ (t : Sides). total ≤ size t) (sym same-sides) (found-all s (inBox s S))) (first .0) (first .1))
@@ -277,9 +272,12 @@ module _ (s : Sides) (T : ℕ) (values dist : List ℤ) (status : List ℕ) (acc
   end-quiet : (limit : ℕ) → 27 * size s ≤ limit → start-end .rec .finished ≡ false → anyPending s (carved limit start-end .lent .status) ≡ false
   unfolding carved
   end-quiet limit h f =
-      subst (λ (t : Sides). anyPending t (carving (start-end .rec .sides) (outside (start-end .dist)) (farther (start-end .dist)) limit (start-end .status) .status) ≡ false) same-sides
-      (carving-ends (start-end .rec .sides) (isIn S) (λ j. false) (outside (start-end .dist)) (farther (start-end .dist)) (farther-order (start-end .dist)) total
-      free-is limit (start-end .status) (tallyOf (start-end .rec)) (both-end .good .sound) (omega (arith, found-all s (inBox s S))))
+      let g = start-end in
+      let free = outside (g .dist) in
+      let ahead = farther (g .dist) in
+      subst (λ (t : Sides). anyPending t (carving (g .rec .sides) free ahead limit (g .status) .status) ≡ false) same-sides
+      (carving-ends (g .rec .sides) (isIn S) (λ j. false) free ahead (farther-order (g .dist)) total
+      free-is limit (g .status) (tallyOf (g .rec)) (both-end .good .sound) (omega (arith, found-all s (inBox s S))))
     where
       free-is : (j : ℕ) → j < size (start-end .rec .sides) → outside (start-end .dist) j ≡ not (isIn S j)
       free-is j l = unfold outside in ap not (both-end .good .signs f j l)
@@ -290,27 +288,14 @@ module _ (s : Sides) (T : ℕ) (values dist : List ℤ) (status : List ℕ) (acc
       unless-held (untouched (lentTo start-end)) (carved limit start-end) (workingChecks start-end)
       (append-hold (stateChecks start-end) (8 when start-end .rec .finished ∷ []) end-holds (f, tt))
 
--- what holds of every grid that begin accepts, holds of the state that it hands out
-module _ (P : State → Type 0) where
-  begun-state : (s : Sides) (T : ℕ) (values dist : List ℤ) (status : List ℕ) → (AllHold (beginChecks s values dist status) → P (started s T values))
-      → (r : Record) → begin s T values dist status .answer ≡ done r
-      → let b = begin s T values dist status in P (state r (b .lent .dist) (b .lent .status))
-  unfolding begin begun
-  begun-state s T values dist status holds r e =
-      by-checks (untouched (buffers dist status)) (begun s T values) (λ o. o .answer ≡ done r → P (state r (o .lent .dist) (o .lent .status)))
-      (beginChecks s values dist status)
-      (λ n f. let z : _≡_ {A = ℕ} 0 1 = cc in let y : ⊥ = omega arith in absurd y)
-      (λ p f. let q : newRecord s T ≡ r = cc in
-      subst (λ (r : Record). P (state r (worked s values (inside s values)) (startStatus s (inside s values) (inBox s (inside s values))))) q (holds p)) e
-
 pub never-unfit : NeverUnfit
 never-unfit s T values dist status r e calls =
-    begun-state (λ g. AllHold (stateChecks (run calls g .end))) s T values dist status (λ p. end-holds s T values dist status p calls) r e
+    by-begin (λ g. AllHold (stateChecks (run calls g .end))) s T values dist status (λ accepted. end-holds s T values accepted calls) r e
 
 pub carve-ends : CarveEnds
 carve-ends s T values dist status r e calls limit h =
-    begun-state (λ g. let end = run calls g .end in
+    by-begin (λ g. let end = run calls g .end in
     end .rec .finished ≡ false → (carve limit end ≡ carved limit end) × (anyPending s (carve limit end .lent .status) ≡ false)) s T values dist status
-    (λ p f.
-    let c = end-carved s T values dist status p calls limit f in
-    (c, ap (λ (o : Outcome Buffers Carving). anyPending s (o .lent .status)) c ∙ end-quiet s T values dist status p calls limit h f)) r e
+    (λ accepted f.
+    let c = end-carved s T values accepted calls limit f in
+    (c, ap (λ (o : Outcome Buffers Carving). anyPending s (o .lent .status)) c ∙ end-quiet s T values accepted calls limit h f)) r e

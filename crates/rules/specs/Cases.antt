@@ -118,7 +118,8 @@ pub record Bar : Type 0 where
   pub pending-refused : openNext (bar (replicate 45 (pos 1))) .answer ≡ refused 13
   pub not-finished : finish (bar (replicate 45 (pos 1))) .answer ≡ refused 13
   -- the greatest distance is opened, and of equals the smallest index
-  pub farthest-opened : map (statusOf (openNext (carvedTo 9 (bar (replicate 23 (pos 1) ++ (pos 2 ∷ replicate 21 (pos 1))))) .lent .status)) (21 ∷ 22 ∷ 23 ∷ []) ≡ 1 ∷ 3 ∷ 0 ∷ []
+  pub farthest-opened :
+      map (statusOf (openNext (carvedTo 9 (bar (replicate 23 (pos 1) ++ (pos 2 ∷ replicate 21 (pos 1))))) .lent .status)) (21 ∷ 22 ∷ 23 ∷ []) ≡ 1 ∷ 3 ∷ 0 ∷ []
   pub earliest-opened : map (statusOf (openNext (carvedTo 9 (bar (replicate 45 (pos 1)))) .lent .status)) (21 ∷ 22 ∷ 23 ∷ []) ≡ 0 ∷ 3 ∷ 1 ∷ []
 
 -- ---- the numbers of a state, in their order

@@ -83,7 +83,8 @@ pub record WrongMachines : Type 0 where
   pub face-groups : Rejected (sides 4 4 3) valuesD (byFaceGroups caseD)
   pub invented-euler : Rejected (sides 4 4 3) valuesD (invents 0 (pos 1) caseD)
   -- counts that the record has and the answers have not
-  pub invented-examination : (start : ℕ → Bool) (answers : Sums) → answers .examined ≡ 0 → Demand (sides 4 4 3) valuesD start (invents 1 (pos 0) caseD) answers → ⊥
+  pub invented-examination : (start : ℕ → Bool) (answers : Sums) → answers .examined ≡ 0
+      → Demand (sides 4 4 3) valuesD start (invents 1 (pos 0) caseD) answers → ⊥
   pub begin-varies : NoConstant (λ (T : ℕ). begin (sides 4 4 3) T valuesD (caseD .dist) (caseD .status) .answer)
   pub begin-accepts : (n : ℕ) → begin (sides 4 4 3) 0 valuesD (caseD .dist) (caseD .status) .answer ≡ refused n → ⊥
   pub carve-varies : NoConstant (λ (limit : ℕ). carve limit caseD .answer)

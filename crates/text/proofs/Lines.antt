@@ -1,5 +1,5 @@
 -- A signed number, and a line as it is handed back.
-use mathlib.Core.Path.{_≡_, refl, ap, sym, subst, _∙_}
+use mathlib.Core.Path.{_≡_, ap, sym, subst, _∙_}
 use mathlib.Core.Bool.{Bool, true, false, cond, true≢false}
 use mathlib.Core.List.{List, [], _∷_, _++_}
 use Prim.Native.Nat.{ℕ, zero, suc, _+_, _-_, _/_, _%_, _≤_}
@@ -9,6 +9,7 @@ use lib.ListN.{length, take, drop, replicate, length-append, length-replicate}
 use lib.Seq.{drop-length}
 use lib.IntN.{ℤ, pos, negsuc, natAbs}
 use Rattle.prelude.specs.Integers.{isNegative}
+use Rattle.prelude.proofs.Replicate.{take-replicate}
 use Rattle.text.specs.declared.Text.{Text}
 use Rattle.text.specs.Line.{Line, refusedLine, carvedLine, decimal, number, signedNumber, lineText}
 use Rattle.text.specs.Line.{refusedWord, keptWord, removedWord, openedWord, examinedWord, eulerWord}
@@ -74,11 +75,6 @@ module _ {m start : ℕ} {old new : List ℕ} where
       openedWord ++ number opened (
       examinedWord ++ number examined (
       eulerWord ++ signedNumber held (0x0A ∷ t)))))) e w)
-
-take-replicate : {A : Type 0} (k n : ℕ) (x : A) → k ≤ n → take k (replicate n x) ≡ replicate k x
-take-replicate zero n x h = refl
-take-replicate (suc k) zero x h = let z : ⊥ = omega arith in absurd z
-take-replicate (suc k) (suc n) x h = ap (λ (l : List _). x ∷ l) (take-replicate k n x (omega arith))
 
 pub is-printed :
     (m start : ℕ) (new : List ℕ) (l : Line)

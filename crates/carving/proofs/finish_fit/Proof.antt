@@ -1,8 +1,5 @@
 -- `carving::finish_fit` meets its contract.
 use borrow.Author.Needs.{needs}
-use mir.Facts.{toZ-ofZ}
-use mir.Syntax.{w32}
-use mir.Val.{SFits}
 use Rattle.rules.specs.Machine.{State, state}
 use Rattle.carving.proofs.Calls.{finished-is, same-record}
 use Rattle.carving.proofs.finish_fit.Statement.{statement}
@@ -21,8 +18,7 @@ returns : tie.Need-returns
 returns c =
     let k = c .before .before .before in
     let s = k .before .before .before in
-    let f : SFits w32 (s .args .given .euler) = record { sfits = c .struct-told .given .1 .1 .1 .1 .1 .0 .1 } in
-    finished-is (lent-to s) _ _ (s .pre .statuses) (k .close .ensures) (same-record (s .args .given) _ (toZ-ofZ f))
+    finished-is (lent-to s) _ _ (s .pre .statuses) (k .close .ensures) (same-record (s .args .given) _ (search needs))
 
 pub finish-fit-spec : {M : Type 1} → statement M
 finish-fit-spec = tie.close (tie.spec close-requires same-length returns)

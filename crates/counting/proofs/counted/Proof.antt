@@ -10,7 +10,7 @@ use Rattle.counting.proofs.counted.Statement.{statement}
 use Rattle.counting.proofs.counted.Tie as tie
 
 euler-fits : (c : tie.After-struct-told) → SFits w32 (c .before .before .before .args .given .euler)
-euler-fits c = record { sfits = c .struct-told .given .1 .1 .1 .1 .1 .0 .1 }
+euler-fits c = search needs
 
 same-record :
     (r t : Record)

@@ -40,9 +40,10 @@ returns-3 c =
 unfit-counts-requires : tie.Need-unfit-counts-requires
 unfit-counts-requires c κs = search needs
 
-lent :
-    (c : tie.Else3)
-    → let a = c .before .before .before .before .before .before .before .args in Lent (a .given .sides) (a .dist .now) (a .status .now)
+abbrev start : tie.Else3 → tie.Start
+start c = c .before .before .before .before .before .before .before
+
+lent : (c : tie.Else3) → let a = start c .args in Lent (a .given .sides) (a .dist .now) (a .status .now)
 lent c =
     let n = c .before .before in
     record { sides = fits (n .before); distances = c .before .if2 .left ∙ n .voxel-count .ensures .0; statuses = c .if3 .left ∙ n .voxel-count .ensures .0 }
@@ -50,7 +51,8 @@ lent c =
 returns-4 : tie.Need-returns-4
 returns-4 c =
     let u = c .before in
-    sym (counts-refused (lent-to (u .before .before .before .before .before .before .before .before)) (lent (u .before)) _ _ (u .unfit-counts .ensures) refl (c .if4 .taken))
+    let l = u .before in
+    sym (counts-refused (lent-to (start l)) (lent l) _ _ (u .unfit-counts .ensures) refl (c .if4 .taken))
 
 unfit-grid-requires : tie.Need-unfit-grid-requires
 unfit-grid-requires c κs = lent (c .before .before)
@@ -60,14 +62,16 @@ returns-5 c =
     let v = c .before in
     let e = v .before in
     let u = e .before in
-    sym (grid-refused (lent-to (u .before .before .before .before .before .before .before .before)) (lent (u .before)) _ _ (u .unfit-counts .ensures) (v .unfit-grid .ensures) (c .if5 .taken))
+    let l = u .before in
+    sym (grid-refused (lent-to (start l)) (lent l) _ _ (u .unfit-counts .ensures) (v .unfit-grid .ensures) (c .if5 .taken))
 
 returns-6 : tie.Need-returns-6
 returns-6 c =
     let v = c .before in
     let e = v .before in
     let u = e .before in
-    sym (none-refused (lent-to (u .before .before .before .before .before .before .before .before)) (lent (u .before)) _ _ (u .unfit-counts .ensures) (v .unfit-grid .ensures) (e .if4 .left) (c .if5 .left))
+    let l = u .before in
+    sym (none-refused (lent-to (start l)) (lent l) _ _ (u .unfit-counts .ensures) (v .unfit-grid .ensures) (e .if4 .left) (c .if5 .left))
 
 pub refusal-spec : {M : Type 1} → statement M
 refusal-spec =

@@ -29,7 +29,7 @@ unfolding unfitCounts
 returns c =
     let s = c .before .before .before .before .before .before in
     let r = s .args .given in
-    let f : SFits w32 (r .euler) = record { sfits = c .before .before .before .before .struct-told .given .1 .1 .1 .1 .1 .0 .1 } in
+    let f : SFits w32 (r .euler) = search (needs, c .before .before .before .before .struct-told .given) in
     ap₂
     (λ (n e : ℕ). ltb (r .allowed) (r .openings) || (ltb n (r .removals) || (ltb (27 * n) (r .examinations) || ltb (8 * n) e)))
     (s .pre .0) (c .before .before .before .magnitude .ensures .0 ∙ ap natAbs (toZ-ofZ f))

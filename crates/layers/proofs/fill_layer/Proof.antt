@@ -8,7 +8,7 @@ use mir.Facts.{toZ-ofZ}
 use borrow.Author.Needs.{needs, sfits-of}
 use Rattle.words.specs.Words.{valueOf, valuesOf}
 use Rattle.layers.specs.Layer.{width}
-use Rattle.layers.proofs.Filling.{Filling, filling-start, filling-next, filling-done}
+use Rattle.prelude.proofs.Filling.{Filling, filling-start, filling-next, filling-done}
 use Rattle.layers.proofs.fill_layer.Statement.{statement}
 use Rattle.layers.proofs.fill_layer.Tie as tie
 

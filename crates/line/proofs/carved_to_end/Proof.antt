@@ -30,16 +30,18 @@ same-length c = search needs
 same-length-2 : tie.Need-same-length-2
 same-length-2 c = search needs
 
+euler-fits : (c : tie.After-struct-told) → SFits w32 (c .before .before .before .before .before .finish-on .result .euler)
+euler-fits c = search needs
+
 returns : tie.Need-returns
 returns c =
     let k = c .before .before .before in
     let f = k .before .before .before in
     let v = f .before .before .before .before .before in
     let a = v .before .before .before .before in
-    let z : SFits w32 (f .finish-on .result .euler) = record { sfits = c .before .struct-told .given .1 .1 .1 .1 .1 .0 .1 } in
     c .carved-line .ensures
     ∙ ap printed (line-ended _ _ _ _ _ _ _ _ _ (v .carve-and-open .kept .1 .1 .0 ∙ a .pre) (v .carve-and-open .ensures) (f .finish-on .ensures)
-    (k .kept-voxels .ensures) (toZ-ofZ z))
+    (k .kept-voxels .ensures) (toZ-ofZ (euler-fits (c .before))))
 
 pub carved-to-end-spec : {M : Type 1} → statement M
 carved-to-end-spec =

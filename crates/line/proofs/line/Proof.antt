@@ -3,7 +3,8 @@ use mathlib.Core.Path.{ap, _∙_}
 use Prim.Native.Nat.{ℕ}
 use lib.ListN.{replicate}
 use lib.IntN.{pos}
-use Rattle.line.proofs.Reading.{take-replicate, lent-length}
+use Rattle.prelude.proofs.Replicate.{take-replicate}
+use Rattle.line.proofs.Reading.{lent-length}
 use Rattle.line.specs.Program.{zeros}
 use borrow.Author.Needs.{needs}
 use Rattle.line.proofs.line.Statement.{statement}

@@ -13,7 +13,7 @@ byte-requires c κs = search needs
 returns : tie.Need-returns
 returns c =
     let r = c .before .before .before .args .r in
-    let f : SFits w32 (r .euler) = record { sfits = c .struct-told .given .1 .1 .1 .1 .1 .0 .1 } in
+    let f : SFits w32 (r .euler) = search needs in
     simp (toZ-ofZ f, c .before .byte .ensures)
 
 pub record-out-spec : {M : Type 1} → statement M

@@ -120,7 +120,8 @@ module _ (s : Sides) (b : Bounds) (fits : Fits s b) where
   -- so many steps down along each axis
   slide : (d e f : ℕ) (v : Voxel) → InBounds b v → v .x ≡ d + b .x0 → v .y ≡ e + b .y0 → v .z ≡ f + b .z0 → Linked (inside-box b) near v lowest
   unfolding lowest
-  slide zero zero zero v h i j k = subst (λ (w : Voxel). Linked (inside-box b) near v w) (voxel-eq v lowest (omega arith) (omega arith) (omega arith)) (stay (bounds-in b v h))
+  slide zero zero zero v h i j k =
+      subst (Linked (inside-box b) near v) (voxel-eq v lowest (omega arith) (omega arith) (omega arith)) (stay (bounds-in b v h))
   slide (suc d) e f v h i j k =
       let w : Voxel = record { x = d + b .x0; y = v .y; z = v .z } in
       before (bounds-in b v h) (close-near v w (omega arith)) (slide d e f w (omega (arith, h)) refl j k)
@@ -178,7 +179,8 @@ module _ (s : Sides) (b : Bounds) (fits : Fits s b) where
   unfolding outside
   out-outside v g o =
       body-in s (background s (boxed s b)) v g
-      ∙ true-and (ltb (index s v) (size s)) (not (boxed s b (index s v))) (lt-ltb (index s v) (size s) (index-lt s v g)) (ap not (boxed-index v g ∙ out-inside v o))
+      ∙ true-and (ltb (index s v) (size s)) (not (boxed s b (index s v))) (lt-ltb (index s v) (size s) (index-lt s v g))
+      (ap not (boxed-index v g ∙ out-inside v o))
 
   -- along an axis, from its first voxel
   walk : (f : ℕ → Voxel) → ((i : ℕ) → beside (f i) (f (suc i)) ≡ true) → (n : ℕ) → ((i : ℕ) → i ≤ n → outside (f i) ≡ true)
@@ -235,7 +237,9 @@ module _ (s : Sides) (b : Bounds) (fits : Fits s b) where
       subst (λ (j : ℕ). Linked (background s (boxed s b)) (shareFace s) (index s (vox 0 0 0)) j) (index-of i) (
       carry (index s) (λ u m. body-true s (background s (boxed s b)) u m .1)
       (λ u w m n t.
-      ap₂ (λ (u w : Voxel). eqb (apart u w) 1) (voxel-of u (body-true s (background s (boxed s b)) u m .0)) (voxel-of w (body-true s (background s (boxed s b)) w n .0)) ∙ t)
+      ap₂ (λ (u w : Voxel). eqb (apart u w) 1) (voxel-of u (body-true s (background s (boxed s b)) u m .0))
+      (voxel-of w (body-true s (background s (boxed s b)) w n .0))
+      ∙ t)
       (from-first (voxel s i) g (inside-out (voxel s i) o)))
 
   boxed-background : OnePiece (background s (boxed s b)) (shareFace s)

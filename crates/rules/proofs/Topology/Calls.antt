@@ -28,7 +28,7 @@ use Rattle.rules.proofs.Checks.{by-checks}
 use Rattle.prelude.proofs.Ranges.{any-below}
 use Rattle.rules.proofs.Foremost.{farther-order, first-foremost, first-none}
 use Rattle.rules.proofs.Fit as fit
-use Rattle.rules.proofs.Topology.Steps.{Tally, tally, Sound, sound-taken, sound-opened, sound-examined}
+use Rattle.rules.proofs.Topology.Steps.{Tally, tally, examinedOnce, Sound, sound-taken, sound-opened, sound-examined}
 
 -- ---- a run of examinations, by any order, with no voxel pinned
 
@@ -61,8 +61,10 @@ module _ (s : Sides) (S held free : ℕ → Bool) (ahead : ℕ → ℕ → Bool)
   abbrev grown : Tally → Progress → Tally
   grown t p = tally (p .examined + t .examined) (p .removed + t .removed) (t .opened) (t .number)
 
-  nothing-done : (status : List ℕ) (t : Tally) → Sound s S held total status t → Sound s S held total status (tally (0 + t .examined) (0 + t .removed) (t .opened) (t .number))
-  nothing-done status t h = subst (λ (t : Tally). Sound s S held total status t) (λ n. tally (same (t .examined) n) (same (t .removed) n) (t .opened) (t .number)) h
+  nothing-done : (status : List ℕ) (t : Tally) → Sound s S held total status t
+      → Sound s S held total status (tally (0 + t .examined) (0 + t .removed) (t .opened) (t .number))
+  nothing-done status t h =
+      subst (Sound s S held total status) (λ n. tally (same (t .examined) n) (same (t .removed) n) (t .opened) (t .number)) h
     where
       same : (n : ℕ) → n ≡ 0 + n
       same n = omega arith
@@ -79,7 +81,7 @@ module _ (s : Sides) (S held free : ℕ → Bool) (ahead : ℕ → ℕ → Bool)
         | some i ↦ counted (passes (testAt s status i)) (carving s free ahead limit (examine s free status i))
       ]
 
-      more : (u : Bool) (p : Progress) → Sound s S held total (p .status) (grown (tally (suc (t .examined)) (cond u (suc (t .removed)) (t .removed)) (t .opened) (t .number)) p)
+      more : (u : Bool) (p : Progress) → Sound s S held total (p .status) (grown (examinedOnce u t) p)
           → Sound s S held total (counted u p .status) (grown t (counted u p))
       more u p h = subst (λ (t : Tally). Sound s S held total (p .status) t) (λ n. tally (examinations n) (removals u n) (t .opened) (t .number)) h
         where
@@ -98,7 +100,7 @@ module _ (s : Sides) (S held free : ℕ → Bool) (ahead : ℕ → ℕ → Bool)
       go (some i) e rest =
           let first = first-foremost s ahead order (isPending status) i e in
           more (passes (testAt s status i)) (carving s free ahead limit (examine s free status i))
-          (rest i (tally (suc (t .examined)) (cond (passes (testAt s status i)) (suc (t .removed)) (t .removed)) (t .opened) (t .number))
+          (rest i (examinedOnce (passes (testAt s status i)) t)
           (sound-examined s S none-pinned held free total never-pinned free-unpinned status t sound i (first .below) (first .chosen) refl))
 
   -- so many examinations, unless nothing is pending any more

@@ -114,7 +114,8 @@ module _ (s : Sides) (x y z : ℕ) (before after : Voxels) (gone : Gone s x y z 
       → covered before (piece k i) (piece l j) (piece m h) ≡ covered after (piece k i) (piece l j) (piece m h)
   unfolding covered
   covered-apart k l m i j h o =
-      some-ext (piece k i) (λ x'. some (piece l j) (λ y'. some (piece m h) (before x' y'))) (λ x'. some (piece l j) (λ y'. some (piece m h) (after x' y'))) (λ x' ix.
+      some-ext (piece k i) (λ x'. some (piece l j) (λ y'. some (piece m h) (before x' y')))
+      (λ x'. some (piece l j) (λ y'. some (piece m h) (after x' y'))) (λ x' ix.
       some-ext (piece l j) (λ y'. some (piece m h) (before x' y')) (λ y'. some (piece m h) (after x' y')) (λ y' iy.
       some-ext (piece m h) (before x' y') (after x' y') (λ z' iz. gone .rest x' y' z' (other x' y' z' ix iy iz o))))
     where
@@ -146,10 +147,14 @@ module _ (s : Sides) (x y z : ℕ) (before after : Voxels) (gone : Gone s x y z 
   unfolding countAt win3 win covered some
   no-cube = omega (arith, ap (λ (t : Bool). bit t) (gone .now))
 
+  -- the voxel's cells of three kinds that stay covered
+  abbrev left : Bool → Bool → Bool → ℕ
+  left k l m = countAt x y z k l m after
+
   -- k - m is added to the Euler number, if the corners - edges + faces of the voxel that stay covered are 1 + k - m
   pub euler-gone : (k m : ℕ)
-      → m + countAt x y z true true true after + (countAt x y z true false false after + countAt x y z false true false after + countAt x y z false false true after)
-      ≡ k + 1 + (countAt x y z false true true after + countAt x y z true false true after + countAt x y z true true false after)
+      → m + left true true true + (left true false false + left false true false + left false false true)
+      ≡ k + 1 + (left false true true + left true false true + left true true false)
       → eulerOf s after ≡ eulerOf s before +ℤ (pos k -ℤ pos m)
   unfolding eulerOf corners edges faces cubes count covered some
   euler-gone k m h =

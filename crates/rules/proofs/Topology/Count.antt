@@ -8,9 +8,10 @@ use native.Mathlib.Decide.{ℕ-discrete}
 use lib.Dec.{eqb}
 use lib.ListN.{length}
 use borrow.Author.Tests.{eq-eqb, ne-eqb}
-use Rattle.cells.specs.Groups.{any, filter, consIf}
+use Rattle.cells.specs.Groups.{any, filter}
 use Rattle.cells.specs.Cells.{bit}
 use Rattle.prelude.proofs.Lists.{Mem, here, there, filter-ext}
+use Rattle.prelude.proofs.Counts.{length-filter}
 use Rattle.rules.specs.declared.Sides.{Sides}
 use Rattle.rules.specs.Grid.{size, range, voxels}
 use Rattle.rules.specs.Meaning.{found}
@@ -22,12 +23,8 @@ countIn : (ℕ → Bool) → List ℕ → ℕ
 countIn p l = length (filter p l)
 
 count-cons : (p : ℕ → Bool) (x : ℕ) (l : List ℕ) → countIn p (x ∷ l) ≡ bit (p x) + countIn p l
-unfolding countIn filter
-count-cons p x l = go (p x)
-  where
-    go : (t : Bool) → length (consIf t x (filter p l)) ≡ bit t + length (filter p l)
-    go true = omega arith
-    go false = omega arith
+unfolding countIn
+count-cons p x l = length-filter p x l
 
 count-nil : (p : ℕ → Bool) → countIn p [] ≡ 0
 unfolding countIn filter
@@ -74,7 +71,8 @@ at-range x k (suc n) = go (ℕ-discrete k x) (at-range x (suc k) n)
         (omega (arith, count-cons (λ j. eqb j x) k (range (suc k) n), ap (λ (t : Bool). bit t) (eq-eqb k x e)), λ h. let f : ⊥ = omega arith in absurd f)
     go (no f) ih =
         let z : bit (eqb k x) ≡ 0 = ap (λ (t : Bool). bit t) (ne-eqb k x f) in
-        (omega (arith, count-cons (λ j. eqb j x) k (range (suc k) n), ih .0), λ h. omega (arith, count-cons (λ j. eqb j x) k (range (suc k) n), ih .1 (omega arith)))
+        let c = count-cons (λ j. eqb j x) k (range (suc k) n) in
+        (omega (arith, ih .0), λ h. omega (arith, ih .1 (omega arith)))
 
 omit-in : (p : ℕ → Bool) (i : ℕ) (l : List ℕ) → Mem i l → p i ≡ true → suc (countIn (omit p i) l) ≤ countIn p l
 omit-in p i (x ∷ l) here e =

@@ -7,7 +7,7 @@ use mathlib.Core.List.{List, map}
 use Prim.Native.Nat.{ℕ, suc, _+_, _*_, _≤_}
 use native.Mathlib.Omega.{arith}
 use lib.Dec.{eqb}
-use lib.IntN.{ℤ, pos, _+ℤ_, _-ℤ_}
+use lib.IntN.{ℤ, pos, _+ℤ_}
 use borrow.Author.Tests.{eq-eqb}
 use Rattle.cells.specs.Groups.{any}
 use Rattle.cells.specs.Linked.{OnePiece}
@@ -24,7 +24,7 @@ use Rattle.rules.proofs.InsideLeast.{mem-map}
 use Rattle.rules.proofs.Topology.Around.{touch-close, at-same, close-at, neighbour-at, at-place}
 use Rattle.rules.proofs.Topology.Surface.{omit, omit-true, true-omit}
 use Rattle.rules.proofs.Topology.Removal.{AllInner, background, omit-split, passes-parts, passes-exposed, removal-euler, passing-euler, removal-body}
-use Rattle.rules.proofs.Topology.Removal.{removal-background, removal-elsewhere}
+use Rattle.rules.proofs.Topology.Removal.{eulerChange, removal-background, removal-elsewhere}
 use Rattle.rules.proofs.Topology.Count.{found-mono, found-or, found-omit, found-list}
 
 -- ---- the shape of a body: what every removal of a voxel keeps that passes, or has a face neighbour not kept
@@ -49,14 +49,12 @@ module _ (s : Sides) (kept : ℕ → Bool) (opened : ℕ) (number : ℤ) (shape 
       }
 
   pub shape-opened : exposed s kept i ≡ true
-      → Shape s (omit kept i) (suc opened) (number +ℤ (pos (test (neighbourhood s kept i) .k) -ℤ pos (test (neighbourhood s kept i) .m)))
+      → Shape s (omit kept i) (suc opened) (number +ℤ eulerChange s kept i)
   shape-opened e =
       record {
         inner = still-inner;
         outside = removal-background s kept (shape .inner) i ki e (shape .outside);
-        counted =
-            ap (λ (q : ℤ). q +ℤ (pos (test (neighbourhood s kept i) .k) -ℤ pos (test (neighbourhood s kept i) .m))) (shape .counted)
-            ∙ sym (removal-euler s kept (shape .inner) i ki);
+        counted = ap (λ (q : ℤ). q +ℤ eulerChange s kept i) (shape .counted) ∙ sym (removal-euler s kept (shape .inner) i ki);
         unopened = λ z. let f : ⊥ = omega arith in absurd f;
       }
 
@@ -69,6 +67,18 @@ pub record Sets : Type 0 where
   pub removed : ℕ
   pub opened : ℕ
   pub number : ℤ
+
+-- the sets after the voxel i is examined, and stays
+abbrev pub settled : Sets → ℕ → Sets
+settled g i =
+    record {
+      kept = g .kept;
+      pending = omit (g .pending) i;
+      examined = suc (g .examined);
+      removed = g .removed;
+      opened = g .opened;
+      number = g .number;
+    }
 
 module _ (s : Sides) (S : ℕ → Bool) where
   -- pending after the voxel i is gone: every kept voxel outside S that touches it besides, save the pinned ones
@@ -91,7 +101,7 @@ module _ (s : Sides) (S : ℕ → Bool) where
   pub data Move (pins : ℕ → Bool) (g : Sets) : Sets → Type 0 where
     -- examined, and it stays: it does not pass, or it is pinned
     stayed : (i : ℕ) → g .pending i ≡ true → (passes (test (neighbourhood s (g .kept) i)) && not (pins i)) ≡ false
-        → Move pins g (record { kept = g .kept; pending = omit (g .pending) i; examined = suc (g .examined); removed = g .removed; opened = g .opened; number = g .number })
+        → Move pins g (settled g i)
     -- examined, and gone
     passed : (i : ℕ) → g .pending i ≡ true → pins i ≡ false → passes (test (neighbourhood s (g .kept) i)) ≡ true
         → Move pins g (gone pins g i (suc (g .examined)) (g .opened) (g .number))
@@ -99,7 +109,7 @@ module _ (s : Sides) (S : ℕ → Bool) where
     taken : (i : ℕ) → g .kept i ≡ true → S i ≡ false → pins i ≡ false → passes (test (neighbourhood s (g .kept) i)) ≡ true
         → Move pins g (gone pins g i (g .examined) (g .opened) (g .number))
     opened-up : (i : ℕ) → g .kept i ≡ true → S i ≡ false → pins i ≡ false → exposed s (g .kept) i ≡ true
-        → Move pins g (gone pins g i (g .examined) (suc (g .opened)) (g .number +ℤ (pos (test (neighbourhood s (g .kept) i) .k) -ℤ pos (test (neighbourhood s (g .kept) i) .m))))
+        → Move pins g (gone pins g i (g .examined) (suc (g .opened)) (g .number +ℤ eulerChange s (g .kept) i))
 
   -- held: every voxel that some call of the list pins, or more
   pub record Inv (held : ℕ → Bool) (total : ℕ) (g : Sets) : Type 0 where
@@ -257,7 +267,11 @@ module _ (s : Sides) (S : ℕ → Bool) where
       free j h = elim (two (pins j)) [ inl e ↦ not-both (held j) (sub j e) h | inr e ↦ e ]
 
       fails : pins i ≡ false → passes (test (neighbourhood s (g .kept) i)) ≡ false
-      fails f = elim (and-false (passes (test (neighbourhood s (g .kept) i))) (not (pins i)) e) [ inl h ↦ h | inr h ↦ not-both (pins i) (not-false (pins i) h) f ]
+      fails f =
+          elim (and-false (passes (test (neighbourhood s (g .kept) i))) (not (pins i)) e) [
+            | inl h ↦ h
+            | inr h ↦ not-both (pins i) (not-false (pins i) h) f
+          ]
   move-keeps held total pins sub {g} inv (passed i pi fi e) =
       let w = inv .waiting i pi in
       inv-gone held total pins sub g inv i (w .0) (w .1) (suc (g .examined)) (g .opened) (g .number)
@@ -268,7 +282,7 @@ module _ (s : Sides) (S : ℕ → Bool) where
       (shape-passed s (g .kept) (g .opened) (g .number) (inv .shape) i ki e)
       (omega (arith, fewer held total pins sub g inv i ki si, inv .bounded))
   move-keeps held total pins sub {g} inv (opened-up i ki si fi e) =
-      inv-gone held total pins sub g inv i ki si (g .examined) (suc (g .opened)) (g .number +ℤ (pos (test (neighbourhood s (g .kept) i) .k) -ℤ pos (test (neighbourhood s (g .kept) i) .m)))
+      inv-gone held total pins sub g inv i ki si (g .examined) (suc (g .opened)) (g .number +ℤ eulerChange s (g .kept) i)
       (shape-opened s (g .kept) (g .opened) (g .number) (inv .shape) i ki e)
       (omega (arith, fewer held total pins sub g inv i ki si, inv .bounded))
 

@@ -6,7 +6,7 @@ use Prim.Native.Nat.{ℕ, suc, _+_, _/_, _%_, _<_}
 use native.Mathlib.Omega.{arith}
 use native.Mathlib.Decide.{ℕ-discrete}
 use lib.Dec.{leb, ltb, eqb}
-use lib.IntN.{pos, _+ℤ_, _-ℤ_, +ℤ-idr}
+use lib.IntN.{ℤ, pos, _+ℤ_, _-ℤ_, +ℤ-idr}
 use borrow.Author.Tests.{leb-false, lt-ltb, eqb-true, eq-eqb}
 use Rattle.cells.specs.Groups.{any, filter}
 use Rattle.cells.specs.Linked.{Linked, OnePiece}
@@ -15,7 +15,8 @@ use Rattle.cells.specs.Cells.{contains, joined, positions, touched, Test, testO
 use Rattle.prelude.proofs.Bools.{and-true, true-and, or-true, or-false, both-ways, not-true, not-false, not-both, two, and-zero}
 use Rattle.prelude.proofs.Lists.{Mem, any-true, true-any, any-false, any-ext}
 use Rattle.cells.proofs.GroupsAre.{mem-among, cells-one-piece}
-use Rattle.closed_sets.proofs.EveryBlock.{contains-self, bare-face}
+use Rattle.cells.proofs.GroupsAre.{contains-self}
+use Rattle.closed_sets.proofs.EveryBlock.{bare-face}
 use Rattle.rules.specs.declared.Sides.{Sides}
 use Rattle.rules.specs.Grid.{Voxel, index, voxel, size, gap, touch, apart, taxicab, shareFace, neighbour, neighbourhoodOf, neighbourhood, facePositions}
 use Rattle.rules.specs.Begin.{exposed}
@@ -24,8 +25,8 @@ use Rattle.rules.proofs.Places.{InGrid, voxel-index, index-voxel, index
 use Rattle.rules.proofs.Inside.{touch-back}
 use Rattle.rules.proofs.Topology.Cells.{Gone, euler-gone}
 use Rattle.rules.proofs.Topology.Links.{one-taken, one-put, cells-carry}
-use Rattle.rules.proofs.Topology.Around.{Close, touch-close, close-touch, At, close-at, Inner, inner-in, neighbour-at, neighbourhood-at, place-low, at-place}
-use Rattle.rules.proofs.Topology.Around.{Contains, contains-close, contains-border}
+use Rattle.rules.proofs.Topology.Around.{Close, touch-close, close-touch, At, close-at, Inner, inner-in, neighbour-at}
+use Rattle.rules.proofs.Topology.Around.{neighbourhood-at, place-low, at-place, Contains, contains-close, contains-border}
 use Rattle.rules.proofs.Topology.Surface.{omit, omit-true, true-omit, body-true, body-in, touched-contains, contains-touched, surface-euler}
 
 -- no voxel of the set lies on the border
@@ -65,27 +66,25 @@ passes-exposed s kept i e =
 
 -- ---- voxels that share a face
 
-gap-place : (u v d : ℕ) → suc v ≡ u + d → gap u v ≡ gap d 1
-unfolding gap
-gap-place u v d h = omega arith
+-- how far a position lies from the middle
+abbrev pub away : ℕ → ℕ
+away p = gap (p % 3) 1 + gap (p / 3 % 3) 1 + gap (p / 9) 1
 
-pub face-taxicab : (f : ℕ) → Mem f facePositions → (gap (f % 3) 1 + gap (f / 3 % 3) 1 + gap (f / 9) 1 ≡ 1) × (f < 27)
+pub apart-at : (u v : Voxel) (p : ℕ) → At u v p → apart u v ≡ away p
+unfolding apart
+apart-at u v p a = ap₂ _+_ (ap₂ _+_ (axis _ _ _ (a .x-at)) (axis _ _ _ (a .y-at))) (axis _ _ _ (a .z-at))
+  where
+    axis : (x y d : ℕ) → suc y ≡ x + d → gap x y ≡ gap d 1
+    axis x y d e = unfold gap in omega arith
+
+pub face-taxicab : (f : ℕ) → Mem f facePositions → (away f ≡ 1) × (f < 27)
 unfolding any gap
 face-taxicab f m =
-    let d : ℕ → ℕ = λ f. gap (f % 3) 1 + gap (f / 3 % 3) 1 + gap (f / 9) 1 in
-    let h = or-false (not (eqb (d f) 1)) (leb 27 f) (any-false (λ f. not (eqb (d f) 1) || leb 27 f) facePositions refl f m) in
-    (eqb-true (d f) 1 (not-false (eqb (d f) 1) (h .0)), leb-false 27 f (h .1))
+    let h = or-false (not (eqb (away f) 1)) (leb 27 f) (any-false (λ f. not (eqb (away f) 1) || leb 27 f) facePositions refl f m) in
+    (eqb-true (away f) 1 (not-false (eqb (away f) 1) (h .0)), leb-false 27 f (h .1))
 
 pub face-at : (u v : Voxel) (f : ℕ) → Mem f facePositions → At u v f → apart u v ≡ 1
-unfolding apart
-face-at u v f m a =
-    omega (
-      arith,
-      face-taxicab f m .0,
-      gap-place (u .x) (v .x) (f % 3) (a .x-at),
-      gap-place (u .y) (v .y) (f / 3 % 3) (a .y-at),
-      gap-place (u .z) (v .z) (f / 9) (a .z-at),
-    )
+face-at u v f m a = apart-at u v f a ∙ face-taxicab f m .0
 
 gap-turn : (u v : ℕ) → gap u v ≡ gap v u
 unfolding gap
@@ -101,6 +100,10 @@ face-turn s i j e =
     (omega (arith, gap-turn (u .x) (v .x), gap-turn (u .y) (v .y), gap-turn (u .z) (v .z)))
 
 -- ---- the voxel i of the body goes
+
+-- what that adds to the Euler number
+abbrev pub eulerChange : Sides → (ℕ → Bool) → ℕ → ℤ
+eulerChange s kept i = let t = test (neighbourhood s kept i) in pos (t .k) -ℤ pos (t .m)
 
 module _ (s : Sides) (kept : ℕ → Bool) (all : AllInner s kept) (i : ℕ) (ki : kept i ≡ true) where
   inner : Inner s (voxel s i)
@@ -151,11 +154,12 @@ module _ (s : Sides) (kept : ℕ → Bool) (all : AllInner s kept) (i : ℕ) (ki
           body-in s left v (b .0) ∙ true-omit kept i (index s v) (b .1) (λ q. n (sym (voxel-of v (b .0)) ∙ ap (voxel s) q)))
           (λ e. let b = body-true s left v e in body-in s kept v (b .0) ∙ omit-true kept i (index s v) (b .1) .0)
 
-  pub removal-euler : eulerOf s (bodyOf s left) ≡ eulerOf s (bodyOf s kept) +ℤ (pos (test (neighbourhood s kept i) .k) -ℤ pos (test (neighbourhood s kept i) .m))
+  pub removal-euler : eulerOf s (bodyOf s left) ≡ eulerOf s (bodyOf s kept) +ℤ eulerChange s kept i
   unfolding neighbourhood
   removal-euler =
-      euler-gone s (voxel s i .x) (voxel s i .y) (voxel s i .z) (bodyOf s kept) (bodyOf s left) gone (test (neighbourhood s kept i) .k) (test (neighbourhood s kept i) .m)
-      (rw (← others-left) (surface-euler s kept (voxel s i) inner))
+      let u = voxel s i in
+      let t = test (neighbourhood s kept i) in
+      euler-gone s (u .x) (u .y) (u .z) (bodyOf s kept) (bodyOf s left) gone (t .k) (t .m) (rw (← others-left) (surface-euler s kept u inner))
 
   -- a voxel that passes leaves the Euler number as it was
   pub passing-euler : passes (test (neighbourhood s kept i)) ≡ true → eulerOf s (bodyOf s left) ≡ eulerOf s (bodyOf s kept)

@@ -13,8 +13,8 @@ use borrow.Author.Tests.{lt-ltb, le-ltb, eqb-false}
 use Rattle.prelude.proofs.Bools.{and-true, true-and, or-false, not-true, not-both}
 use Rattle.prelude.proofs.Lists.{Mem, any-ext}
 use Rattle.rules.specs.declared.Sides.{Sides}
-use Rattle.rules.specs.Grid.{size, Voxel, index, voxel, voxels, end, onBorder, neighbour, neighbourhood, facePositions, measuredNegative, measuredNonNegative}
-use Rattle.rules.specs.Grid.{isNegative, valueAt}
+use Rattle.rules.specs.Grid.{size, Voxel, index, voxel, voxels, end, onBorder, neighbour, neighbourhood, facePositions}
+use Rattle.rules.specs.Grid.{measuredNegative, measuredNonNegative, isNegative, valueAt}
 use Rattle.rules.specs.Begin.{least, greatest, isIn, inside, facing, greatestFacing, distance, workedAt, worked, inBox, exposed, statusAt, startStatus}
 use Rattle.rules.specs.Status.{statusOf, keptByte, pendingByte, isKept, isPending}
 use Rattle.rules.specs.Machine.{isInside}
@@ -180,7 +180,9 @@ module _ (s : Sides) (S : List ℕ) (K : ℕ → Bool) (shape : Shape s (inGrid 
       let a = neighbour-at s (voxel s j) u p (face-taxicab p m .1) in
       let w : Voxel = neighbour (voxel s j) p in
       ap not (
-      neighbourhood-at s K (voxel s j) w p u (a .0) ∙ sym (body-in-grid (index s w) (index-lt s w (a .1))) ∙ sym (neighbourhood-at s (inGrid s K) (voxel s j) w p u (a .0))))
+      neighbourhood-at s K (voxel s j) w p u (a .0)
+      ∙ sym (body-in-grid (index s w) (index-lt s w (a .1)))
+      ∙ sym (neighbourhood-at s (inGrid s K) (voxel s j) w p u (a .0))))
 
   -- what holds at the start, whatever voxels are held
   pub start-sound : (held : ℕ → Bool) → Sound s (isIn S) held (found s K) started (tally 0 0 0 (pos 1))
@@ -205,12 +207,14 @@ module _ (s : Sides) (S : List ℕ) (K : ℕ → Bool) (shape : Shape s (inGrid 
 
       inv : Inv s (isIn S) held (found s K) (sets started (tally 0 0 0 (pos 1)))
       inv =
-          subst (λ (n : ℕ). Inv s (isIn S) held n (sets started (tally 0 0 0 (pos 1)))) (found-same s (isKept started) K (λ j h. kept-start j ∙ body-in-grid j h))
+          subst (λ (n : ℕ). Inv s (isIn S) held n (sets started (tally 0 0 0 (pos 1))))
+          (found-same s (isKept started) K (λ j h. kept-start j ∙ body-in-grid j h))
           (start-inv s (isIn S) held (isKept started) (isPending started) start)
 
 -- ---- the box of some voxels off the border
 
-module _ (s : Sides) (sides : Fit s) (S : List ℕ) (off : (j : ℕ) → isIn S j ≡ true → (j < size s) × (Inner s (voxel s j))) (first : ℕ) (some-in : isIn S first ≡ true) where
+module _ (s : Sides) (sides : Fit s) (S : List ℕ)
+    (off : (j : ℕ) → isIn S j ≡ true → (j < size s) × (Inner s (voxel s j))) (first : ℕ) (some-in : isIn S first ≡ true) where
   fits : Fits s (bounds s S)
   fits =
       let x = extremes (s .a) S (λ j. voxel s j .x) (omega (arith, sides .a-low)) (λ j m. (off j m .1 .x-low, off j m .1 .x-high)) first some-in in
@@ -252,7 +256,8 @@ worked-signs s values i h =
 
 -- the solid box is a body to start from
 module _ (s : Sides) (values : List ℤ) (sides : Fit s)
-    (clear : (i : ℕ) → i < size s → onBorder s i ≡ true → measuredNegative (valueAt values i) ≡ false) (v : ℕ) (some-negative : negative s values v ≡ true) where
+    (clear : (i : ℕ) → i < size s → onBorder s i ≡ true → measuredNegative (valueAt values i) ≡ false)
+    (v : ℕ) (some-negative : negative s values v ≡ true) where
   abbrev S : List ℕ
   S = inside s values
 

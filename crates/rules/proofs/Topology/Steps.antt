@@ -10,14 +10,15 @@ use lib.ListN.{length, getD, set, length-set, List·getD-eq-default}
 use lib.Seq.{getD-set-same, getD-set-other}
 use lib.IntN.{ℤ, pos, _+ℤ_, _-ℤ_}
 use borrow.Author.Tests.{eq-eqb, ne-eqb}
-use Rattle.cells.specs.Cells.{test, passes}
+use Rattle.cells.specs.Cells.{passes}
 use Rattle.prelude.proofs.Bools.{and-zero, and-one, not-both}
 use Rattle.rules.specs.declared.Sides.{Sides}
-use Rattle.rules.specs.Grid.{size, voxels, touch, neighbourhood}
+use Rattle.rules.specs.Grid.{size, voxels, touch}
 use Rattle.rules.specs.Begin.{exposed}
 use Rattle.rules.specs.Status.{statusOf, keptByte, pendingByte, rested, isKept, isPending, removable, testAt, statusWithout, without, examinedAs, examine}
 use Rattle.prelude.proofs.Ranges.{getD-map-range, length-map-range}
 use Rattle.rules.proofs.Topology.Surface.{omit}
+use Rattle.rules.proofs.Topology.Removal.{eulerChange}
 use Rattle.rules.proofs.Topology.Moves.{Sets, pendingAfter, gone, Move, stayed, passed, taken, opened-up, Inv, move-keeps}
 use Rattle.rules.proofs.Topology.Bytes.{rested-kept, rested-pending, still-kept, now-pending}
 
@@ -30,6 +31,10 @@ pub record Tally : Type 0 where
 
 abbrev pub tally : ℕ → ℕ → ℕ → ℤ → Tally
 tally examined removed opened number = record { examined = examined; removed = removed; opened = opened; number = number }
+
+-- the counts after an examination of a voxel, by whether it goes
+abbrev pub examinedOnce : Bool → Tally → Tally
+examinedOnce goes t = tally (suc (t .examined)) (cond goes (suc (t .removed)) (t .removed)) (t .opened) (t .number)
 
 -- the sets that status bytes stand for
 abbrev pub sets : List ℕ → Tally → Sets
@@ -138,8 +143,7 @@ module _ (s : Sides) (S pins held free : ℕ → Bool) (total : ℕ) (within : (
       (tally (t .examined) (suc (t .removed)) (suc (t .opened)) (t .number +ℤ (pos (testAt s status i .k) -ℤ pos (testAt s status i .m))))
   unfolding testAt
   sound-opened i ki si fi e =
-      sound-gone i (t .examined) (suc (t .opened)) (t .number +ℤ (pos (test (neighbourhood s (isKept status) i) .k) -ℤ pos (test (neighbourhood s (isKept status) i) .m)))
-      (keeps (opened-up i ki si fi e))
+      sound-gone i (t .examined) (suc (t .opened)) (t .number +ℤ eulerChange s (isKept status) i) (keeps (opened-up i ki si fi e))
 
   sound-passed : (i : ℕ) → isPending status i ≡ true → pins i ≡ false → passes (testAt s status i) ≡ true
       → Sound s S held total (without s free status i) (tally (suc (t .examined)) (suc (t .removed)) (t .opened) (t .number))
@@ -213,11 +217,11 @@ module _ (s : Sides) (S pins held free : ℕ → Bool) (total : ℕ) (within : (
 
   -- an examination of a voxel that is not pinned
   pub sound-examined : (i : ℕ) → i < size s → isPending status i ≡ true → pins i ≡ false
-      → Sound s S held total (examine s free status i) (tally (suc (t .examined)) (cond (passes (testAt s status i)) (suc (t .removed)) (t .removed)) (t .opened) (t .number))
+      → Sound s S held total (examine s free status i) (examinedOnce (passes (testAt s status i)) t)
   unfolding examine
   sound-examined i h pi fi = go (passes (testAt s status i)) refl
     where
       go : (u : Bool) → passes (testAt s status i) ≡ u
-          → Sound s S held total (examinedAs u s free status i) (tally (suc (t .examined)) (cond u (suc (t .removed)) (t .removed)) (t .opened) (t .number))
+          → Sound s S held total (examinedAs u s free status i) (examinedOnce u t)
       go true e = sound-passed i pi fi e
       go false e = sound-stayed i h pi (ap (λ (u : Bool). u && not (pins i)) e)

@@ -214,6 +214,7 @@ module _ (s : Sides) (kept : ℕ → Bool) (u : Voxel) (inner : Inner s u) where
   faces-counted = tally-touched 2 ∙ omega arith
 
   -- Euler's formula on the voxel's surface, with the cells that the body without it covers
-  pub surface-euler : test (neighbourhoodOf s kept u) .m + counted true true true + (counted true false false + counted false true false + counted false false true)
+  pub surface-euler :
+      test (neighbourhoodOf s kept u) .m + counted true true true + (counted true false false + counted false true false + counted false false true)
       ≡ test (neighbourhoodOf s kept u) .k + 1 + (counted false true true + counted true false true + counted true true false)
   surface-euler = omega (arith, euler (neighbourhoodOf s kept u), corners-counted, edges-counted, faces-counted)

@@ -90,6 +90,9 @@ same-length c =
     let f4 = c .before .before in
     f4 .put-field4 .kept .0 ∙ same-so-far (f4 .before .before .before .before .before)
 
+euler-fits : (c : tie.After-struct-told) → SFits w32 (c .before .before .before .before .before .before .before .args .s .euler)
+euler-fits c = search needs
+
 returns : tie.Need-returns
 returns c =
     let f4 = c .before .before in
@@ -101,7 +104,6 @@ returns c =
     let p = n .before .before .before .before .before in
     let a = p .before .before .before in
     let s = a .args .s in
-    let fits : SFits w32 (s .euler) = record { sfits = n .before .struct-told .given .1 .1 .1 .1 .0 .1 } in
     let room : 160 ≤ length (a .args .out .now) = omega (arith, a .pre) in
     let held : ℤ = toZ w32 (ofZ w32 (s .euler)) in
     let euler = written-then (signedNumber held) room (p .put .ensures) (n .put-signed .ensures) in
@@ -110,7 +112,7 @@ returns c =
     let opened = written-then (λ t. openedWord ++ number (s .opened) t) room examined (f2 .put-field2 .ensures) in
     let removed = written-then (λ t. removedWord ++ number (s .removed) t) room opened (f3 .put-field3 .ensures) in
     let kept = written-then (λ t. keptWord ++ number (s .kept) t) room removed (f4 .put-field4 .ensures) in
-    carved-text (s .kept) (s .removed) (s .opened) (s .examined) held (s .euler) (toZ-ofZ fits) (a .pre) kept
+    carved-text (s .kept) (s .removed) (s .opened) (s .examined) held (s .euler) (toZ-ofZ (euler-fits (n .before))) (a .pre) kept
 
 pub put-carved-spec : {M : Type 1} → statement M
 put-carved-spec =
