@@ -53,7 +53,7 @@ pub extern "C" fn wattlerugby_take(
         ≡ writtenOut (takeStruct given) (machine.take index (state (recordIn given) (now (dist .entry)) (now (status .entry)))) ⌝ }
 {
     let r = replies::record_in(given);
-    replies::take_answer(given, carving::take(r, dist, status, index))
+    replies::take_answer(given, taking::take(r, dist, status, index))
 }
 
 #[no_mangle]
@@ -62,7 +62,7 @@ pub extern "C" fn wattlerugby_open(given: CRecord, dist: &[i32], status: &mut [u
         ≡ writtenOut (openStruct given) (machine.openNext (state (recordIn given) (now (dist .entry)) (now (status .entry)))) ⌝ }
 {
     let r = replies::record_in(given);
-    replies::open_answer(given, carving::open_next(r, dist, status))
+    replies::open_answer(given, opening::open_next(r, dist, status))
 }
 
 #[no_mangle]
@@ -75,5 +75,5 @@ pub extern "C" fn wattlerugby_finish(
         ≡ writtenOut (finishStruct given) (machine.finish (state (recordIn given) (now (dist .entry)) (now (status .entry)))) ⌝ }
 {
     let r = replies::record_in(given);
-    replies::finish_answer(given, carving::finish(r, dist, status))
+    replies::finish_answer(given, closing::finish(r, dist, status))
 }

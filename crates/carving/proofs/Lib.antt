@@ -1,4 +1,1 @@
-pub mod Few
-pub mod Counting
-pub mod Calls
 pub mod Carving

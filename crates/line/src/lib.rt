@@ -58,7 +58,7 @@ fn open_on(given: Record, dist: &[i32], status: &mut [u8]) -> Opening
     ensures state { λ r. ⌜ state (r .next) (now (dist .entry)) (now (status .exit)) ≡ afterOpen (state given (now (dist .entry)) (now (status .entry))) ⌝ }
     ensures opened { λ r. ⌜ r .opened ≡ opens (state given (now (dist .entry)) (now (status .entry))) ⌝ }
 {
-    match carving::open_next(given, dist, status) {
+    match opening::open_next(given, dist, status) {
         Opened::Through {
             index: _,
             k: _,
@@ -90,7 +90,7 @@ fn carve_and_open(given: Record, dist: &[i32], status: &mut [u8]) -> Record
 fn finish_on(given: Record, dist: &mut [i32], status: &[u8]) -> Record
     ensures { λ r. ⌜ state r (now (dist .exit)) (now (status .entry)) ≡ afterFinish (state given (now (dist .entry)) (now (status .entry))) ⌝ }
 {
-    match carving::finish(given, dist, status) {
+    match closing::finish(given, dist, status) {
         Finished::Closed(next) => next,
         Finished::Refused(_) => given,
     }

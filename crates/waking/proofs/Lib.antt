@@ -1,3 +1,4 @@
 pub mod Idle
 pub mod Waking
 pub mod Removal
+pub mod Fitting

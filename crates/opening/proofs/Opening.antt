@@ -1,0 +1,101 @@
+-- open: the voxel it works on, and what it answers.
+use mathlib.Core.Path.{_≡_, refl, sym, ap, _∙_}
+use mathlib.Core.Bool.{true, _&&_}
+use mathlib.Core.List.{List, [], _∷_}
+use mathlib.Core.Option.{Option, none, some}
+use Prim.Native.Nat.{ℕ}
+use native.Mathlib.Omega.{arith}
+use borrow.Author.Tests.{eqb-false}
+use lib.Dec.{eqb}
+use lib.IntN.{ℤ, pos, _-ℤ_}
+use Rattle.cells.specs.Cells.{Test}
+use Rattle.prelude.proofs.Bools.{and-true}
+use Rattle.rules.specs.declared.Record.{Record}
+use Rattle.rules.specs.Answer.{done, Outcome, outcome, untouched, Buffers, buffers, Opening}
+use Rattle.rules.specs.Checks.{Check, _when_, firstFailing}
+use Rattle.rules.specs.Begin.{exposed}
+use Rattle.rules.specs.Status.{isKept, testAt, without, removable, openable}
+use Rattle.rules.specs.Machine.{State, lentTo, outside, farther, count, toOpen, isNone}
+use Rattle.rules.specs.Machine.{theVoxel, openChecks, opened, openNext, finishChecks}
+use Rattle.rules.specs.Fit.{FitState, Working}
+use Rattle.rules.proofs.Foremost.{farther-order, first-foremost}
+use Rattle.neighbourhood.proofs.Bodies.{fit-body}
+use Rattle.waking.specs.Waking.{Removable}
+use Rattle.waking.proofs.Fitting.{kept-removable}
+use Rattle.searching.specs.Argmax.{Searchable}
+use Rattle.rules.proofs.Checks.{fails-first, holds-first, all-hold, call-refused, call-done, hold-append, refused-first, held-first}
+use Rattle.rules.proofs.Fit.{quiet}
+use Rattle.opening.specs.Opening.{spentChecks, OpensAt}
+
+-- ---- what the parts ask
+
+pub searchable : (g : State) → FitState g → Searchable (g .rec .sides) (g .dist) (g .status)
+searchable g f = record { body = fit-body _ _ (g .dist) (f .voxels); distances = f .voxels .lent .distances }
+
+pub open-removable : (i : ℕ) (g : State) → OpensAt i g → Removable (g .rec .sides) (g .dist) (g .status) i
+unfolding toOpen openable removable
+open-removable i g o =
+    let s = g .rec .sides in
+    let free = outside (g .dist) in
+    let m = first-foremost s (farther (g .dist)) (farther-order (g .dist)) (openable s free (g .status)) i (o .found) in
+    let p = and-true (isKept (g .status) i && free i) (exposed s (isKept (g .status)) i) (m .chosen) in
+    let q = and-true (isKept (g .status) i) (free i) (p .0) in
+    kept-removable g (o .working .fit) i (m .below) (q .0)
+
+-- ---- what it answers
+
+module _ (g : State) where
+  pub opened-is :
+      (i : ℕ) (t : Test) (next : Record) (status : List ℕ) (change : ℤ)
+      → t ≡ testAt (g .rec .sides) (g .status) i
+      → next ≡ count (g .rec) 0 1 1 change
+      → change ≡ pos (t .k) -ℤ pos (t .m)
+      → status ≡ without (g .rec .sides) (outside (g .dist)) (g .status) i
+      → outcome (done (record { index = i; k = t .k; m = t .m; next = next })) (buffers (g .dist) status) ≡ opened i g
+  unfolding opened
+  opened-is i t next status change e f c h =
+      let n : next ≡ count (g .rec) 0 1 1 (pos (testAt (g .rec .sides) (g .status) i .k) -ℤ pos (testAt (g .rec .sides) (g .status) i .m)) =
+      f ∙ ap (count (g .rec) 0 1 1) (c ∙ ap (λ (u : Test). pos (u .k) -ℤ pos (u .m)) e) in
+      λ j. outcome (done (record { index = i; k = e j .k; m = e j .m; next = n j })) (buffers (g .dist) (h j))
+
+-- ---- open, by its checks up to 14 and what the search finds
+
+module _ (g : State) (n : ℕ) (e : n ≡ firstFailing (spentChecks g)) where
+  abbrev last : List Check
+  last = 15 when isNone (toOpen g) ∷ []
+
+  abbrev spent : List Check
+  spent = 14 when eqb (g .rec .openings) (g .rec .allowed) ∷ []
+
+  abbrev answer : Outcome Buffers Opening
+  answer = opened (theVoxel (toOpen g)) g
+
+  pub open-refused : (n ≡ 0 → ⊥) → untouched (lentTo g) n ≡ openNext g
+  unfolding openNext
+  open-refused f = call-refused (untouched (lentTo g)) answer (openChecks g) n (refused-first (spentChecks g) last n e f) f
+
+  module _ (z : n ≡ 0) where
+    checked : (Working g) × (g .rec .openings ≡ g .rec .allowed → ⊥)
+    checked =
+        let p = hold-append (finishChecks g) spent (all-hold (spentChecks g) refl (sym e ∙ z)) in
+        (quiet g (p .0) .working, eqb-false _ _ (p .1 .0))
+
+    pub open-fit : FitState g
+    open-fit = checked .0 .fit
+
+    pub open-nothing : toOpen g ≡ none → untouched (lentTo g) 15 ≡ openNext g
+    unfolding openNext
+    open-nothing f =
+        call-refused (untouched (lentTo g)) answer (openChecks g) 15
+        (held-first (spentChecks g) last n e refl z 15 (sym (fails-first 15 (isNone (toOpen g)) [] (ap isNone f)))) (λ q. let y : ⊥ = omega arith in y)
+
+    module _ (i : ℕ) (f : toOpen g ≡ some i) where
+      pub opens-at : OpensAt i g
+      opens-at = record { working = checked .0; left = checked .1; found = f }
+
+      pub open-done : (r : Outcome Buffers Opening) → r ≡ opened i g → r ≡ openNext g
+      unfolding openNext firstFailing
+      open-done r h =
+          call-done (untouched (lentTo g)) answer (openChecks g) 0
+          (held-first (spentChecks g) last n e refl z 0 (sym (holds-first 15 (isNone (toOpen g)) [] (ap isNone f)))) refl refl r
+          (h ∙ ap (λ (o : Option ℕ). opened (theVoxel o) g) (sym f))

@@ -1,0 +1,70 @@
+// Open, of document 01's carving machine.
+ghost use mathlib.Core.Path.{_≡_};
+ghost use Prim.Native.Nat.{_≤_};
+ghost use lib.IntN.{pos, _-ℤ_};
+ghost use Rattle.rules.specs.Answer.{outcome, buffers, openedAnswer};
+ghost use Rattle.rules.specs.Checks.{firstFailing};
+ghost use Rattle.rules.specs.Machine as machine;
+ghost use Rattle.rules.specs.Machine.{state, opened};
+ghost use Rattle.opening.specs.Opening.{spentChecks, OpensAt};
+use rules::Opened;
+use rules::Record;
+use searching::Found;
+
+// The number that refuses open before a voxel is looked for, or 0.
+fn open_refusal(given: Record, dist: &[i32], status: &[u8]) -> u8
+    ensures { λ r. ⌜ r ≡ firstFailing (spentChecks (state given (now (dist .entry)) (now (status .entry)))) ⌝ }
+{
+    let n = closing::quiet_refusal(given, dist, status);
+    if n != 0 {
+        return n;
+    }
+    let allowed = given.allowed as u32;
+    if given.openings == allowed {
+        return 14;
+    }
+    0
+}
+
+// k - m, by which an opening changes the Euler number.
+fn change(k: u32, m: u32) -> i32
+    requires { ⌜ (k ≤ 26) × (m ≤ 26) ⌝ }
+    ensures { λ r. ⌜ r ≡ pos k -ℤ pos m ⌝ }
+{
+    (k as i32) - (m as i32)
+}
+
+fn open_at(given: Record, dist: &[i32], status: &mut [u8], i: usize) -> Opened
+    requires { ⌜ OpensAt i (state given (now dist) (now status)) ⌝ }
+    ensures { λ r. ⌜
+        outcome (openedAnswer r) (buffers (now (dist .entry)) (now (status .exit)))
+        ≡ opened i (state given (now (dist .entry)) (now (status .entry))) ⌝ }
+{
+    let s = given.sides;
+    let t = neighbourhood::test_at(s, status, i);
+    waking::remove(s, dist, status, i);
+    Opened::Through {
+        index: i,
+        k: t.k,
+        m: t.m,
+        next: counting::counted(given, 0, 1, 1, change(t.k, t.m)),
+    }
+}
+
+// Removes the kept voxel outside S with a face neighbour that is gone, the farthest, the first among equals.
+pub fn open_next(given: Record, dist: &[i32], status: &mut [u8]) -> Opened
+    ensures { λ r. ⌜
+        outcome (openedAnswer r) (buffers (now (dist .entry)) (now (status .exit)))
+        ≡ machine.openNext (state given (now (dist .entry)) (now (status .entry))) ⌝ }
+{
+    let n = open_refusal(given, dist, status);
+    if n != 0 {
+        return Opened::Refused(n);
+    }
+    let s = given.sides;
+    let next = searching::to_open(s, dist, status);
+    let Found::At(i) = next else {
+        return Opened::Refused(15);
+    };
+    open_at(given, dist, status, i)
+}

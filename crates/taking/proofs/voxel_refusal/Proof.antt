@@ -1,0 +1,102 @@
+-- `taking::voxel_refusal` meets its contract: each return by the tests that led there.
+use mathlib.Core.Path.{_≡_, sym, _∙_}
+use mathlib.Core.Bool.{true, false}
+use Prim.Native.Nat.{_≤_, _<_}
+use native.Mathlib.Omega.{arith}
+use borrow.Author.Needs.{sfits-of, needs}
+use borrow.Author.Tests.{le-leb, lt-leb}
+use lib.Dec.{leb}
+use mir.Syntax.{w32}
+use mir.Val.{SFits}
+use Rattle.prelude.proofs.Signs.{held-negative}
+use Rattle.rules.specs.Status.{isKept}
+use Rattle.rules.specs.Machine.{State, state, isInside}
+use Rattle.rules.specs.Checks.{firstFailing}
+use Rattle.rules.specs.Grid.{size, distanceAt}
+use Rattle.neighbourhood.proofs.Gathering.{even-gone, odd-kept}
+use Rattle.waking.proofs.Fitting.{kept-removable}
+use Rattle.taking.proofs.voxel_refusal.Statement.{statement}
+use Rattle.taking.proofs.voxel_refusal.Tie as tie
+
+abbrev lent-to : tie.Start → State
+lent-to c = state (c .args .given) (c .args .dist .now) (c .args .status .now)
+
+returns : tie.Need-returns
+unfolding firstFailing
+returns c =
+    let p = c .before .before in
+    let l = p .pre .fit .voxels .lent .statuses in
+    let h : size (p .args .given .sides) ≤ p .args .index = omega (arith, c .if1 .taken) in
+    simp (le-leb _ _ h)
+
+below : (c : tie.Else1) → let p = c .before .before .args in p .index < size (p .given .sides)
+below c = let l = c .before .before .pre .fit .voxels .lent .statuses in omega (arith, c .if1 .left)
+
+within : (c : tie.Else1) → leb (size (c .before .before .args .given .sides)) (c .before .before .args .index) ≡ false
+within c = lt-leb _ _ (below c)
+
+shared-slice-read-if2 : tie.Need-shared-slice-read-if2
+shared-slice-read-if2 c = search needs
+
+returns-2 : tie.Need-returns-2
+unfolding firstFailing isKept
+returns-2 c = simp (within (c .before .before), even-gone _ (c .if2 .taken))
+
+kept : (c : tie.Else2) → let a = c .before .before .before .before .args in isKept (a .status .now) (a .index) ≡ true
+unfolding isKept
+kept c = odd-kept _ (c .if2 .left)
+
+mul-d : tie.Need-mul-d
+mul-d c = search needs
+
+shared-slice-copy-out-d : tie.Need-shared-slice-copy-out-d
+shared-slice-copy-out-d c = search needs
+
+sign : (c : tie.After-d) → let a = c .before .before .before .before .before .args in SFits w32 (distanceAt (a .dist .now) (a .index))
+sign c = sfits-of (c .d .given)
+
+returns-3 : tie.Need-returns-3
+unfolding firstFailing isInside
+returns-3 c = let e = c .before .before in simp (within (e .before .before), kept e, sym (held-negative (sign (c .before))) ∙ c .if3 .taken)
+
+outer : (c : tie.Else3) → let a = c .before .before .before .before .before .before .args in isInside (a .dist .now) (a .index) ≡ false
+unfolding isInside
+outer c = sym (held-negative (sign (c .before))) ∙ c .if3 .left
+
+passes-at-requires : tie.Need-passes-at-requires
+passes-at-requires c κs =
+    let e = c .before .before .before in
+    let b = e .before .before in
+    let s = b .before .before in
+    let r = kept-removable (lent-to s) (s .pre .fit) (s .args .index) (below b) (kept e) in
+    (r .voxel, r .statuses)
+
+returns-4 : tie.Need-returns-4
+unfolding firstFailing
+returns-4 c =
+    let p = c .before in
+    let o = p .before .before in
+    let e = o .before .before in
+    simp (within (e .before .before), kept e, outer o, ← p .passes-at .ensures, c .if4 .taken)
+
+returns-5 : tie.Need-returns-5
+unfolding firstFailing
+returns-5 c =
+    let p = c .before in
+    let o = p .before .before in
+    let e = o .before .before in
+    simp (within (e .before .before), kept e, outer o, ← p .passes-at .ensures, c .if4 .left)
+
+pub voxel-refusal-spec : {M : Type 1} → statement M
+voxel-refusal-spec =
+    tie.close
+    (tie.spec
+    returns
+    shared-slice-read-if2
+    returns-2
+    mul-d
+    shared-slice-copy-out-d
+    returns-3
+    passes-at-requires
+    returns-4
+    returns-5)
