@@ -115,5 +115,6 @@ module _ (s : Sides) (i : ℕ) (n : Inner s i) where
   pub code-test : (status : List ℕ) {x : ℕ} → x ≡ bits 27 (keptOf (codeOf s status i)) → test (has x) ≡ testAt s status i
   unfolding testAt
   code-test status e =
-      test-of-bits (neighbourhood s (isKept status) i)
-      (e ∙ bits-ext 27 (keptOf (codeOf s status i)) (neighbourhood s (isKept status) i) (λ p h. code-kept s status i p h ∙ sym (neighbourhood-around (isKept status) p h)))
+      let kept = neighbourhood s (isKept status) i in
+      test-of-bits kept
+      (e ∙ bits-ext 27 (keptOf (codeOf s status i)) kept (λ p h. code-kept s status i p h ∙ sym (neighbourhood-around (isKept status) p h)))

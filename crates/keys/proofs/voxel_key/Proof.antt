@@ -20,7 +20,8 @@ returns : tie.Need-returns
 returns c =
     let r = c .before in
     let d = r .before in
-    c .key .ensures ∙ ap (λ (x : ℕ). keyOf x (d .before .args .j)) (r .raised .ensures .0 ∙ ap rankOf (toZ-ofZ (sfits-of (d .distance .ok)) ∙ d .distance .ensures))
+    let rank = r .raised .ensures .0 ∙ ap rankOf (toZ-ofZ (sfits-of (d .distance .ok)) ∙ d .distance .ensures) in
+    c .key .ensures ∙ ap (λ (x : ℕ). keyOf x (d .before .args .j)) rank
 
 pub voxel-key-spec : {M : Type 1} → statement M
 voxel-key-spec = tie.close (tie.spec distance-requires raised-requires key-requires returns)
