@@ -7,7 +7,7 @@ use lib.Ieee.{fin}
 use Rattle.cells.proofs.Examples.{local-tests}
 use Rattle.rules.specs.Answer.{done, outcome}
 use Rattle.rules.specs.Cases.{sides, caseA, ended, valuesD}
-use Rattle.rules.proofs.Cases.{all-rules, case-a, case-c, case-d}
+use Rattle.rules.proofs.Cases.{all-rules, case-a, case-d}
 use Rattle.surface.specs.Surface.{crossing}
 use Rattle.surface.proofs.Worked.{rule}
 use Rattle.gridfile.specs.File.{read}
@@ -17,6 +17,7 @@ use Rattle.text.specs.Line.{decimal, lineText}
 use Rattle.line.specs.Program.{zeros}
 use Rattle.line.proofs.Examples as lines
 use Rattle.cases.specs.Cases.{Cases}
+use Rattle.cases.proofs.Carved.{case-c}
 
 a-point :
     crossing 13 0 (ended caseA) .answer

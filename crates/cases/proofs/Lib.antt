@@ -1,1 +1,2 @@
+pub mod Carved
 pub mod Cases

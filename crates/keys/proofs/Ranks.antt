@@ -16,7 +16,7 @@ use Rattle.prelude.proofs.Bools.{not-both}
 use Rattle.prelude.proofs.Signs.{widened}
 use Rattle.rules.specs.Grid.{distanceAt}
 use Rattle.rules.specs.Status.{isPending}
-use Rattle.masks.proofs.Loading.{past-pending}
+use Rattle.rules.proofs.Topology.Steps.{pending-beyond}
 use Rattle.keys.specs.Key.{most, rankOf, rankAt, keyOf, keyAt, voxelKey, voxelOf}
 
 -- ---- a distance raised by 2^31 + 1
@@ -114,7 +114,7 @@ module _ (dist : List ℤ) (status : List ℕ) (j : ℕ) where
 
   -- there is none past the last voxel
   pub key-past : length status ≤ j → keyAt dist status j ≡ 0
-  key-past h = key-by false (past-pending status j h)
+  key-past h = key-by false (pending-beyond status j h)
 
   -- the voxel of a key
   pub key-voxel : j < most → 0 < keyAt dist status j → voxelOf (keyAt dist status j) ≡ j

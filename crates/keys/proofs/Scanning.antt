@@ -18,7 +18,7 @@ use Rattle.bits.specs.Bits.{has}
 use Rattle.rules.specs.Grid.{distanceAt}
 use Rattle.rules.specs.Status.{isPending}
 use Rattle.bits.specs.Lowest.{Lowest}
-use Rattle.masks.proofs.Loading.{past-pending}
+use Rattle.rules.proofs.Topology.Steps.{pending-beyond}
 use Rattle.keys.specs.Key.{most, Lent, rankOf, keyOf, keyAt, greatest, width, stretchKey, bitKey, Readable}
 use Rattle.keys.proofs.Greatest.{greatest-none, greatest-lift, greatest-moved}
 use Rattle.keys.proofs.Ranks.{rank-some, key-by}
@@ -158,7 +158,7 @@ module _ (dist : List ℤ) (status : List ℕ) (at set : ℕ) (lent : Lent dist 
           each = λ t l e. (
               elim (decLt (at + t) (length status)) [
                 | yes u ↦ omega arith
-                | no u ↦ not-both (isPending status (at + t)) (sym (shown t l) ∙ e) (past-pending status (at + t) (omega arith))
+                | no u ↦ not-both (isPending status (at + t)) (sym (shown t l) ∙ e) (pending-beyond status (at + t) (omega arith))
               ]
               );
         }

@@ -11,12 +11,13 @@ use lib.Dec.{eqb, leb, lit<}
 use lib.Arith.{digits-lt}
 use lib.Pow.{shl-exact, pow-add}
 use lib.Bits.{bitOr, or-shifted-r}
-use lib.ListN.{length, getD, List·getD-eq-default}
+use lib.ListN.{length, getD}
 use Rattle.prelude.proofs.Bools.{or-zero}
 use Rattle.cells.specs.Cells.{bit}
 use Rattle.bits.specs.Bits.{has, bits}
 use Rattle.bits.proofs.Bits.{has-or, has-shl, has-bits, bits-lt, bits-ext}
 use Rattle.rules.specs.Status.{pendingByte, isPending}
+use Rattle.rules.proofs.Topology.Steps.{pending-beyond}
 use Rattle.masks.specs.Bits.{width, Loaded}
 
 -- a number has no digit past its length
@@ -118,10 +119,6 @@ module _ (status : List ℕ) (at : ℕ) where
 
 -- ---- a stretch that ends with the last voxel
 
-pub past-pending : (status : List ℕ) (j : ℕ) → length status ≤ j → isPending status j ≡ false
-unfolding isPending pendingByte
-past-pending status j h = ap pendingByte (List·getD-eq-default status 0 h)
-
 -- those up to the last voxel are all that a shorter stretch has
 pub shown-rest :
     (status : List ℕ) (at set : ℕ) → at ≤ length status → length status < at + width
@@ -132,4 +129,4 @@ shown-rest status at set l u e t = ap (λ (x : ℕ). has x t) e ∙ go (decLt t 
     go (yes h) = has-bits (length status - at) (λ c. isPending status (at + c)) t h
     go (no h) =
         has-past _ _ t (bits-lt (length status - at) (λ c. isPending status (at + c))) (omega arith)
-        ∙ sym (past-pending status (at + t) (omega arith))
+        ∙ sym (pending-beyond status (at + t) (omega arith))

@@ -1,4 +1,4 @@
--- The cases, by computation from the rules.
+-- The cases, by computation from the rules; case C and the arc, which take long, stand in the crate of all cases.
 use mathlib.Core.Path.{refl}
 use Rattle.cells.specs.Groups.{any, filter, reached, others, enter, gather, groups}
 use Rattle.cells.specs.Cells.{contains, joined, touched, groupCount, dimension, countOf, testOf, test, passes}
@@ -11,8 +11,8 @@ use Rattle.rules.specs.Status.{keptByte, pendingByte, woken, rested, isK
 use Rattle.rules.specs.Status.{statusWithout, without, examine, carving, openable}
 use Rattle.rules.specs.Machine.{isInside, outside, farther, unfitCounts, unfitVoxel, unfit, wrongLength, carved, carve, taken, take, toOpen, opened}
 use Rattle.rules.specs.Machine.{openNext, closed, closedAt, finishedOf, finish}
-use Rattle.rules.specs.Cases.{start, carvedTo, ended, caseA, plate, valuesC, caseC, layerD, valuesD, caseD, valuesArc, arc, bar, CaseA, CaseC, CaseD}
-use Rattle.rules.specs.Cases.{Arc, Bar, Numbers}
+use Rattle.rules.specs.Cases.{start, carvedTo, ended, caseA, plate, valuesC, caseC, layerD, valuesD, caseD, valuesArc, arc, bar, CaseA, CaseD}
+use Rattle.rules.specs.Cases.{Bar, Numbers}
 
 -- ---- all that a case computes with: to unfold `all-rules` is to unfold the rules
 
@@ -56,17 +56,9 @@ pub case-a : CaseA
 unfolding all-rules
 case-a = record { worked = refl; nothing-pending = refl }
 
-pub case-c : CaseC
-unfolding all-rules
-case-c = record { one-examination = refl; middle-filled = refl; opening = refl; none-allowed = refl; none-left = refl; not-taken = refl }
-
 pub case-d : CaseD
 unfolding all-rules
 case-d = record { before = refl; first = refl; second = refl }
-
-pub the-arc : Arc
-unfolding all-rules
-the-arc = record { first = refl; second = refl; end = refl }
 
 pub the-bar : Bar
 unfolding all-rules
