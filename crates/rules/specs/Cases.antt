@@ -1,5 +1,5 @@
 -- Document 01, "What the second supplier may hold us to": the worked cases of begin and the machine, and small ones that notice what those
--- leave open. proofs/Cases.antt proves each by computation. The crate cases gathers all of document 01's into one list.
+-- leave open. proofs/Cases.antt proves each by computation, the crate cases case C and the arc; it gathers all of document 01's into one list.
 use mathlib.Core.Path.{_≡_}
 use mathlib.Core.Bool.{Bool, true, false}
 use mathlib.Core.List.{List, [], _∷_, _++_, map}
