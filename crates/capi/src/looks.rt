@@ -1,4 +1,4 @@
-// crossing, all points, read, reading a layer and the local test for C: none of them changes a grid.
+// crossing, all points, read, reading a layer, write and the local test for C: none of them changes a grid.
 ghost use mathlib.Core.Path.{_≡_};
 ghost use mathlib.Core.Option.{Option};
 ghost use Rattle.cells.specs.Cells.{test};
@@ -10,14 +10,16 @@ ghost use Rattle.surface.specs.Surface.{crossing, BoundedAt};
 ghost use Rattle.points.specs.Listing.{points};
 ghost use Rattle.gridfile.specs.File.{read};
 ghost use Rattle.layers.specs.Layer.{readLayer};
+ghost use Rattle.writing.specs.Written.{write};
 ghost use Rattle.replies.specs.Reply.{returned, writtenOut};
 ghost use Rattle.replies.specs.Structs.{recordIn};
-ghost use Rattle.look_replies.specs.Looks.{crossingStruct, pointsStruct, readStruct, layerStruct};
+ghost use Rattle.look_replies.specs.Looks.{crossingStruct, pointsStruct, readStruct, layerStruct, writeStruct};
 ghost use Rattle.capi.specs.Local.{localTest};
 use look_replies::CrossingAnswer;
 use look_replies::LayerReply;
 use look_replies::PointsAnswer;
 use look_replies::ReadReply;
+use look_replies::WriteReply;
 use replies::CRecord;
 use rules::Sides;
 
@@ -65,6 +67,18 @@ pub extern "C" fn wattlerugby_read_layer(sides: Sides, file: &[u8], start: usize
     ensures { λ r. ⌜ r ≡ layerStruct (readLayer sides (now (file .entry)) start) ⌝ }
 {
     look_replies::layer_answer(layers::layer(sides, file, start))
+}
+
+#[no_mangle]
+pub extern "C" fn wattlerugby_write(
+    sides: Sides,
+    allowed: u16,
+    values: &[i16],
+    file: &mut [u8],
+) -> WriteReply
+    ensures { λ r. ⌜ returned r (now (file .exit)) ≡ writtenOut writeStruct (write sides allowed (now (values .entry)) (now (file .entry))) ⌝ }
+{
+    look_replies::write_answer(writing::write(sides, allowed, values, file))
 }
 
 #[repr(C)]

@@ -31,7 +31,7 @@ pub struct LayerPart<'a> {
 
 // ---- how large a record is
 
-fn area(sides: Sides) -> usize
+pub fn area(sides: Sides) -> usize
     requires { ⌜ fitSides sides ≡ true ⌝ }
     ensures { λ r. ⌜ (r ≡ spec.area sides) × (r ≤ 4096) ⌝ }
 {

@@ -1,6 +1,7 @@
 -- What each struct holds for each reply of a call that only looks. After a refusal all else is 0.
 use mathlib.Core.Bool.{true, false}
 use mathlib.Core.Option.{Option, none, some}
+use Prim.Native.Nat.{ℕ}
 use lib.Ieee.{ofBits, binary64}
 use Rattle.rules.specs.Answer.{Reply, refused, done}
 use Rattle.surface.specs.declared.Point.{Point}
@@ -11,6 +12,7 @@ use Rattle.look_replies.specs.declared.CrossingAnswer.{CrossingAnswer}
 use Rattle.look_replies.specs.declared.PointsAnswer.{PointsAnswer}
 use Rattle.look_replies.specs.declared.ReadReply.{ReadReply}
 use Rattle.look_replies.specs.declared.LayerReply.{LayerReply}
+use Rattle.look_replies.specs.declared.WriteReply.{WriteReply}
 
 -- all bits 0
 abbrev pub origin : Point
@@ -32,3 +34,7 @@ readStruct (done h) = record { refusal = 0; sides = h .sides; allowed = h .allow
 abbrev pub layerStruct : Reply LayerSpan → LayerReply
 layerStruct (refused n) = record { refusal = n; z = 0; from = 0; to = 0 }
 layerStruct (done l) = record { refusal = 0; z = l .z; from = l .from; to = l .to }
+
+abbrev pub writeStruct : Reply ℕ → WriteReply
+writeStruct (refused n) = record { refusal = n; length = 0 }
+writeStruct (done l) = record { refusal = 0; length = l }

@@ -1,16 +1,18 @@
-// What the calls that only look answer to C, as structs: crossing, all points, read, reading a layer.
+// What the calls that only look answer to C, as structs: crossing, all points, read, reading a layer, write.
 ghost use mathlib.Core.Path.{_≡_};
 ghost use Rattle.surface.specs.Surface.{crossedAnswer};
 ghost use Rattle.points.specs.Listing.{listedAnswer};
 ghost use Rattle.gridfile.specs.File.{readAnswer};
 ghost use Rattle.layers.specs.Part.{layerAnswer};
-ghost use Rattle.look_replies.specs.Looks.{origin, crossingStruct, pointsStruct, readStruct, layerStruct};
+ghost use Rattle.writing.specs.Written.{writeAnswer};
+ghost use Rattle.look_replies.specs.Looks.{origin, crossingStruct, pointsStruct, readStruct, layerStruct, writeStruct};
 use gridfile::ReadAnswer;
 use layers::LayerAnswer;
 use points::Listed;
 use rules::Sides;
 use surface::Crossed;
 use surface::Point;
+use writing::WriteAnswer;
 
 #[repr(C)]
 pub struct CrossingAnswer {
@@ -39,6 +41,12 @@ pub struct LayerReply {
     pub z: u8,
     pub from: usize,
     pub to: usize,
+}
+
+#[repr(C)]
+pub struct WriteReply {
+    pub refusal: u8,
+    pub length: usize,
 }
 
 fn zero() -> Point
@@ -123,5 +131,14 @@ pub fn layer_answer(l: LayerAnswer) -> LayerReply
             from: 0,
             to: 0,
         },
+    }
+}
+
+pub fn write_answer(w: WriteAnswer) -> WriteReply
+    ensures { λ r. ⌜ r ≡ writeStruct (writeAnswer w) ⌝ }
+{
+    match w {
+        WriteAnswer::Written(length) => WriteReply { refusal: 0, length },
+        WriteAnswer::Refused(refusal) => WriteReply { refusal, length: 0 },
     }
 }

@@ -3,7 +3,7 @@ use mathlib.Core.Path.{_≡_}
 use mathlib.Core.Bool.{true, false}
 use mathlib.Core.List.{[], _∷_}
 use lib.IntN.{pos, negsuc}
-use Rattle.words.specs.Words.{word, valueOf, valuesOf, tagged}
+use Rattle.words.specs.Words.{word, valueOf, valuesOf, wordBytes, valueBytes, tagged}
 
 pub record Examples : Type 0 where
   -- low byte first, for any width
@@ -17,6 +17,12 @@ pub record Examples : Type 0 where
   pub greatest : valueOf 2 (0xFF ∷ 0x7F ∷ []) 0 ≡ pos 32767
   pub missing : valueOf 2 (0x00 ∷ 0x80 ∷ []) 0 ≡ negsuc 32767
   pub in-order : valuesOf 2 3 (0x06 ∷ 0x00 ∷ 0xFA ∷ 0xFF ∷ 0x07 ∷ 0x00 ∷ []) ≡ pos 6 ∷ negsuc 5 ∷ pos 7 ∷ []
+  -- and back
+  pub two-written : wordBytes 2 0x0102 ≡ 0x02 ∷ 0x01 ∷ []
+  pub four-written : wordBytes 4 0x01020304 ≡ 0x04 ∷ 0x03 ∷ 0x02 ∷ 0x01 ∷ []
+  pub minus-six-written : valueBytes 2 (negsuc 5) ≡ 0xFA ∷ 0xFF ∷ []
+  pub minus-six-written-wide : valueBytes 4 (negsuc 5) ≡ 0xFA ∷ 0xFF ∷ 0xFF ∷ 0xFF ∷ []
+  pub missing-written : valueBytes 2 (negsuc 32767) ≡ 0x00 ∷ 0x80 ∷ []
   -- hex 56, then the kind
   pub right-tag : tagged 0x4C (0x00 ∷ 0x56 ∷ 0x4C ∷ []) 1 ≡ true
   pub wrong-kind : tagged 0x4C (0x56 ∷ 0x48 ∷ []) 0 ≡ false

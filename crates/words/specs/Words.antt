@@ -1,7 +1,7 @@
 -- Document 01, "The grid file": what stands in a file's bytes. A number of so many bytes, low byte first; two's complement; a record's tag.
 use mathlib.Core.Bool.{Bool, cond, _&&_}
-use mathlib.Core.List.{List, map}
-use Prim.Native.Nat.{ℕ, zero, suc, _+_, _-_, _*_}
+use mathlib.Core.List.{List, [], _∷_, map}
+use Prim.Native.Nat.{ℕ, zero, suc, _+_, _-_, _*_, _/_, _%_}
 use lib.Dec.{ltb, eqb}
 use lib.ListN.{getD}
 use lib.IntN.{ℤ, pos, negsuc}
@@ -31,6 +31,22 @@ valueOf width bytes at = signed (half width) (word width bytes at)
 -- the first values of so many bytes each
 unfoldable pub valuesOf : ℕ → ℕ → List ℕ → List ℤ
 valuesOf width count bytes = map (λ k. valueOf width bytes (width * k)) (range 0 count)
+
+-- ---- the same bytes, from a number
+
+abbrev pub wordBytes : ℕ → ℕ → List ℕ
+wordBytes zero n = []
+wordBytes (suc width) n = n % 256 ∷ wordBytes width (n / 256)
+
+-- of twice h numbers the one that stands for a value
+unfoldable pub unsigned : ℕ → ℤ → ℕ
+unsigned h (pos n) = n
+unsigned h (negsuc n) = h + h - 1 - n
+
+unfoldable pub valueBytes : ℕ → ℤ → List ℕ
+valueBytes width v = wordBytes width (unsigned (half width) v)
+
+-- ---- marks
 
 -- document 01's mark of a record: hex 56, then the kind
 abbrev pub tagged : ℕ → List ℕ → ℕ → Bool

@@ -1,10 +1,11 @@
-// What stands in a file's bytes: a number, a value, a record's tag, and whether so many bytes are left.
+// What stands in a file's bytes: a number, a value, a record's tag, and whether so many bytes are left; numbers and values written.
 ghost use mathlib.Core.Path.{_≡_};
 ghost use Prim.Native.Nat.{_+_, _<_, _≤_};
 ghost use lib.Dec.{ltb};
 ghost use lib.ListN.{length};
+ghost use lib.Seq.{sets};
 ghost use Rattle.words.specs.Words as spec;
-ghost use Rattle.words.specs.Words.{half, valueOf, tagged};
+ghost use Rattle.words.specs.Words.{half, valueOf, wordBytes, valueBytes, tagged};
 
 fn wide(x: u8) -> u16
     ensures { λ r. ⌜ (r ≡ x) × (r < 256) ⌝ }
@@ -54,4 +55,34 @@ pub fn is_tagged(file: &[u8], start: usize, kind: u8) -> bool
     ensures { λ r. ⌜ r ≡ tagged kind (now (file .entry)) start ⌝ }
 {
     (file[start] == 0x56) & (file[start + 1] == kind)
+}
+
+// ---- written
+
+// A number as two bytes, low byte first.
+pub fn put_word(bytes: &mut [u8], at: usize, n: u16)
+    requires { ⌜ at + 2 ≤ length (now bytes) ⌝ }
+    ensures { λ _. ⌜ now (bytes .exit) ≡ sets (now (bytes .entry)) at (wordBytes 2 n) ⌝ }
+{
+    bytes[at] = (n % 256) as u8;
+    bytes[at + 1] = (n / 256) as u8;
+}
+
+// Two's complement.
+fn unsigned(v: i16) -> u16
+    ensures { λ r. ⌜ r ≡ spec.unsigned (half 2) v ⌝ }
+{
+    if v < 0 {
+        65535 - ((!v) as u16)
+    } else {
+        v as u16
+    }
+}
+
+// A measured value as two bytes.
+pub fn put_value(bytes: &mut [u8], at: usize, v: i16)
+    requires { ⌜ at + 2 ≤ length (now bytes) ⌝ }
+    ensures { λ _. ⌜ now (bytes .exit) ≡ sets (now (bytes .entry)) at (valueBytes 2 v) ⌝ }
+{
+    put_word(bytes, at, unsigned(v));
 }

@@ -1,0 +1,77 @@
+-- The written form by its parts: how long each is, and one more at the end.
+use mathlib.Core.Path.{_≡_, refl, ap, ap₂, _∙_}
+use mathlib.Core.Bool.{true}
+use mathlib.Core.List.{List, [], _∷_, _++_, flatMap}
+use Prim.Native.Nat.{ℕ, zero, suc, _+_, _*_, _≤_, _<_}
+use native.Mathlib.Nat.{mul-le-mul}
+use native.Mathlib.Omega.{arith}
+use lib.ListN.{length, take, drop, getD, length-append, length-drop}
+use lib.Seq.{length-take-le, take-suc}
+use lib.IntN.{ℤ, pos}
+use Rattle.prelude.specs.Lists.{range}
+use Rattle.prelude.proofs.Ranges.{range-suc}
+use Rattle.rules.specs.declared.Sides.{Sides}
+use Rattle.rules.specs.Grid.{fitSides, size}
+use Rattle.rules.proofs.Places.{fit}
+use Rattle.words.specs.Words.{valueBytes}
+use Rattle.words.proofs.Bytes.{length-valuesBytes}
+use Rattle.layers.specs.Layer.{width, area, layerLength}
+use Rattle.layers.proofs.Sizes.{area-small, layer-room}
+use Rattle.writing.specs.Written.{layerValues, valuesForm, layerForm, layersForm, writtenLength}
+use Rattle.writing.proofs.Laying.{flatMap-snoc}
+
+-- ---- values
+
+pub length-valuesForm : (values : List ℤ) → length (valuesForm values) ≡ width * length values
+unfolding valuesForm
+length-valuesForm values = length-valuesBytes width values
+
+pub valuesForm-next :
+    (values : List ℤ) (i : ℕ) → i < length values → valuesForm (take (suc i) values) ≡ valuesForm (take i values) ++ valueBytes width (getD values i (pos 0))
+unfolding valuesForm
+valuesForm-next values i h = ap valuesForm (take-suc values i (pos 0) h) ∙ flatMap-snoc (valueBytes width) (take i values) (getD values i (pos 0))
+
+-- ---- records
+
+module _ (s : Sides) (values : List ℤ) where
+  -- that of layer z; those of as many layers as are left, from z on
+  abbrev pub recordForm : ℕ → List ℕ
+  recordForm z = layerForm z (layerValues s values z)
+
+  abbrev pub recordsFrom : ℕ → ℕ → List ℕ
+  recordsFrom z left = flatMap recordForm (range z left)
+
+  pub layersForm-next : (z : ℕ) → layersForm s values (suc z) ≡ layersForm s values z ++ recordForm z
+  unfolding layersForm
+  layersForm-next z =
+      let e : 0 + z ≡ z = omega arith in
+      ap (flatMap recordForm) (range-suc 0 z ∙ ap (λ (k : ℕ). range 0 z ++ (k ∷ [])) e) ∙ flatMap-snoc recordForm (range 0 z) z
+
+  module _ (long : length values ≡ size s) where
+    pub length-layerValues : (z : ℕ) → z < s .c → length (layerValues s values z) ≡ area s
+    length-layerValues z h =
+        length-take-le (area s) (drop (z * area s) values) (omega (arith, length-drop (z * area s) values, layer-room s z (area s) refl h))
+
+    pub length-recordForm : (z : ℕ) → z < s .c → length (recordForm z) ≡ layerLength s
+    length-recordForm z h = omega (arith, length-valuesForm (layerValues s values z), length-layerValues z h)
+
+    pub length-recordsFrom : (z left : ℕ) → z + left ≤ s .c → length (recordsFrom z left) ≡ left * layerLength s
+    unfolding flatMap range
+    length-recordsFrom z zero h = omega arith
+    length-recordsFrom z (suc left) h =
+        length-append (recordForm z) (recordsFrom (suc z) left)
+        ∙ ap₂ _+_ (length-recordForm z (omega arith)) (length-recordsFrom (suc z) left (omega arith))
+        ∙ omega arith
+
+    pub length-layersForm : (count : ℕ) → count ≤ s .c → length (layersForm s values count) ≡ count * layerLength s
+    unfolding layersForm
+    length-layersForm count h = length-recordsFrom 0 count (omega arith)
+
+-- ---- the file
+
+pub written-small : (s : Sides) → fitSides s ≡ true → writtenLength s ≤ 524487
+written-small s e =
+    let f = fit s e in
+    let l : layerLength s ≤ 8195 = omega (arith, area-small s e) in
+    let m : s .c * layerLength s ≤ 64 * 8195 = mul-le-mul (f .c-high) l in
+    omega arith

@@ -1,0 +1,51 @@
+-- Bytes laid one after the other into a lent buffer: what is laid so far stands before what was lent.
+use mathlib.Core.Path.{_≡_, refl, sym, ap, _∙_}
+use mathlib.Core.List.{List, [], _∷_, _++_, flatMap, append-assoc, append-nil}
+use Prim.Native.Nat.{ℕ, _+_, _-_, _≤_}
+use native.Mathlib.Omega.{arith}
+use lib.ListN.{length, take, drop, set}
+use lib.Seq.{sets, sets-eq, take-at, drop-at, drop-drop, drop-length}
+
+module _ {A B : Type 0} (f : A → List B) where
+  pub flatMap-append : (xs ys : List A) → flatMap f (xs ++ ys) ≡ flatMap f xs ++ flatMap f ys
+  unfolding flatMap
+  flatMap-append [] ys = refl
+  flatMap-append (x ∷ xs) ys = ap (λ (r : List B). f x ++ r) (flatMap-append xs ys) ∙ sym (append-assoc (f x) (flatMap f xs) (flatMap f ys))
+
+  -- one more at the end
+  pub flatMap-snoc : (xs : List A) (y : A) → flatMap f (xs ++ (y ∷ [])) ≡ flatMap f xs ++ f y
+  unfolding flatMap
+  flatMap-snoc xs y = flatMap-append xs (y ∷ []) ∙ ap (λ (r : List B). flatMap f xs ++ r) (append-nil (f y))
+
+module _ {A : Type 0} (done new lent : List A) (at : ℕ) (e : length done ≡ at) where
+  -- by a part of the buffer
+  pub lay : (n : ℕ) → let file = done ++ drop at lent in take at file ++ (new ++ drop n (drop at file)) ≡ (done ++ new) ++ drop (at + n) lent
+  lay n =
+      rw (take-at done (drop at lent) at e, drop-at done (drop at lent) at e, drop-drop)
+      (sym (append-assoc done new (drop (at + n) lent)))
+
+  pub lay-on : (n : ℕ) → let file = done ++ drop at lent in (take at file ++ new) ++ drop (at + n) file ≡ (done ++ new) ++ drop (at + n) lent
+  lay-on n =
+      let file : List A = done ++ drop at lent in
+      append-assoc (take at file) new (drop (at + n) file)
+      ∙ ap (λ (r : List A). take at file ++ (new ++ r)) (sym (drop-drop n at file))
+      ∙ lay n
+
+  -- by stores
+  pub lay-sets : at + length new ≤ length (done ++ drop at lent) → sets (done ++ drop at lent) at new ≡ (done ++ new) ++ drop (at + length new) lent
+  lay-sets h = sets-eq new (done ++ drop at lent) at h ∙ lay-on (length new)
+
+module _ {A : Type 0} where
+  -- a mark of three stores, then the rest as a part of the buffer
+  pub mark-then :
+      (bytes rest : List A) (x y z : A)
+      → 3 ≤ length bytes
+      → let b = set (set (set bytes 0 x) 1 y) 2 z in
+      take 3 b ++ (rest ++ drop (length b - 3) (drop 3 b)) ≡ x ∷ y ∷ z ∷ rest
+  mark-then [] rest x y z h = let w : ⊥ = omega arith in absurd w
+  mark-then (p ∷ []) rest x y z h = let w : ⊥ = omega arith in absurd w
+  mark-then (p ∷ q ∷ []) rest x y z h = let w : ⊥ = omega arith in absurd w
+  mark-then (p ∷ q ∷ r ∷ bytes) rest x y z h =
+      let e : length (p ∷ q ∷ r ∷ bytes) - 3 ≡ length bytes = omega arith in
+      ap (λ (l : List A). x ∷ y ∷ z ∷ (rest ++ l)) (ap (λ (n : ℕ). drop n bytes) e ∙ drop-length bytes)
+      ∙ ap (λ (l : List A). x ∷ y ∷ z ∷ l) (append-nil rest)

@@ -1,0 +1,134 @@
+-- Reading what was written gives the grid back; so two grids with one form are one grid.
+use mathlib.Core.Path.{_≡_, refl, ap, ap₂, sym, _∙_}
+use mathlib.Core.Bool.{true, false, not, _||_}
+use mathlib.Core.List.{List, [], _∷_, flatMap}
+use Prim.Native.Nat.{ℕ, zero, suc, _+_, _*_, _≤_, _<_}
+use native.Mathlib.Omega.{arith}
+use lib.ListN.{length, take, drop, length-drop}
+use lib.Seq.{take-all, take-at}
+use lib.IntN.{ℤ}
+use borrow.Author.Tests.{le-ltb, le-leb, eq-eqb, ne-eqb}
+use Rattle.prelude.specs.Lists.{any, range}
+use Rattle.prelude.proofs.Bools.{true-and}
+use Rattle.rules.specs.declared.Sides.{Sides}
+use Rattle.rules.specs.Grid.{size}
+use Rattle.rules.specs.Checks.{AllHold}
+use Rattle.rules.specs.Answer.{untouched}
+use Rattle.rules.specs.Begin.{isIn}
+use Rattle.rules.proofs.Checks.{append-hold, unless-held}
+use Rattle.rules.proofs.Places.{fit}
+use Rattle.words.proofs.Bytes.{word-drop, word-wordBytes}
+use Rattle.layers.specs.declared.LayerSpan.{LayerSpan}
+use Rattle.layers.specs.Layer.{area, layerLength, zAt, layerAt, withLayer}
+use Rattle.layers.proofs.Sizes.{length-withLayer}
+use Rattle.gridfile.specs.File.{headerLength, sidesIn, allowedIn, fitUpTo, headerChecks, recordChecks, layersChecks, layersFilled}
+use Rattle.gridfile.specs.File.{readChecks, accepted, readUpTo, read}
+use Rattle.writing.specs.Written.{layersForm, writtenForm, writtenLength, writeChecks, written, write}
+use Rattle.writing.specs.RoundTrip.{Writable, grid, RoundTrip}
+use Rattle.writing.proofs.Forms.{length-layersForm}
+use Rattle.writing.proofs.Reading.{Ahead, z-below, z-ahead, ahead-next, record-holds, withLayer-ahead}
+
+-- no layer from z on came before
+abbrev Fresh : ℕ → List ℕ → Type 0
+Fresh z seen = (i : ℕ) → z ≤ i → isIn seen i ≡ false
+
+fresh-start : Fresh 0 []
+unfolding isIn any
+fresh-start i h = refl
+
+fresh-next : (z : ℕ) (seen : List ℕ) → Fresh z seen → Fresh (suc z) (z ∷ seen)
+unfolding isIn any
+fresh-next z seen f i h = ap₂ _||_ (ne-eqb i z (λ e. omega arith)) (f i (omega arith))
+
+module _ {s : Sides} {T : ℕ} {values : List ℤ} (w : Writable s T values) where
+  abbrev form : List ℕ
+  form = writtenForm s T values
+
+  form-length : length form ≡ writtenLength s
+  form-length = omega (arith, length-layersForm s values (w .long) (s .c) (omega arith))
+
+  -- ---- reading the records that are left
+
+  records-ahead : Ahead s values form headerLength 0 (s .c)
+  unfolding layersForm
+  records-ahead = record { count = omega arith; holds = refl }
+
+  layers-hold : (left start z : ℕ) (seen : List ℕ) → Ahead s values form start z left → Fresh z seen → AllHold (layersChecks s form left start seen)
+  unfolding layersChecks flatMap range
+  layers-hold zero start z seen r f =
+      let n : length form ≤ start = omega (arith, length-drop start form, ap length (r .holds)) in
+      (le-ltb start (length form) n, tt)
+  layers-hold (suc left) start z seen r f =
+      let next : ℕ = start + layerLength s in
+      let seen' : List ℕ = zAt form start ∷ seen in
+      append-hold (recordChecks s form start seen) (layersChecks s form left next seen') (record-holds w r seen (f z (omega arith)))
+      (layers-hold left next (suc z) seen' (ahead-next w r) (rw (z-ahead w r) (fresh-next z seen f)))
+
+  layers-filled :
+      (left start z : ℕ) (buffer : List ℤ) → Ahead s values form start z left → length buffer ≡ size s
+      → take (z * area s) buffer ≡ take (z * area s) values
+      → layersFilled s form left start buffer ≡ values
+  unfolding layersFilled size
+  layers-filled zero start z buffer r long e =
+      let c : z ≡ s .c = omega arith in
+      let n : z * area s ≡ s .c * area s = ap (λ (k : ℕ). k * area s) c in
+      sym (take-all (z * area s) buffer (omega arith)) ∙ e ∙ take-all (z * area s) values (omega (arith, w .long))
+  layers-filled (suc left) start z buffer r long e =
+      let l : LayerSpan = layerAt s form start in
+      let below : l .z < s .c = rw (z-ahead w r) (z-below w r) in
+      layers-filled left (start + layerLength s) (suc z) (withLayer s form buffer l) (ahead-next w r)
+      (length-withLayer s form buffer l below long) (withLayer-ahead w r buffer e)
+
+  -- ---- reading
+
+  fit-read : fitUpTo 64 s ≡ true
+  unfolding fitUpTo
+  fit-read =
+      let f = fit s (w .fits) in
+      true-and _ _ (w .fits) (true-and _ _ (le-leb _ _ (f .a-high)) (true-and _ _ (le-leb _ _ (f .b-high)) (le-leb _ _ (f .c-high))))
+
+  allowed-read : allowedIn form ≡ T
+  allowed-read = sym (word-drop 2 5 form 0) ∙ word-wordBytes 2 T (layersForm s values (s .c)) (w .allowed)
+
+  module _ (lent : List ℤ) (long : length lent ≡ size s) where
+    header-holds : AllHold (headerChecks 64 form (length lent))
+    header-holds = (le-ltb (length form) headerLength (omega arith), (refl, (ap not fit-read, (ap not (eq-eqb _ _ long), tt))))
+
+    read-holds : AllHold (readChecks 64 form (length lent))
+    read-holds =
+        append-hold (headerChecks 64 form (length lent)) (layersChecks s form (s .c) headerLength []) header-holds
+        (layers-hold (s .c) headerLength 0 [] records-ahead fresh-start)
+
+    read-back : read form lent ≡ grid s T values
+    unfolding read readUpTo
+    read-back =
+        let n : 0 * area s ≡ 0 = omega arith in
+        unless-held (untouched lent) (accepted form lent) (readChecks 64 form (length lent)) read-holds
+        ∙ ap₂ (grid s) allowed-read (layers-filled (s .c) headerLength 0 lent records-ahead long (rw n))
+
+  -- ---- the bytes that write leaves, up to what it answers
+
+  write-holds : (file : List ℕ) → writtenLength s ≤ length file → AllHold (writeChecks s values (length file))
+  write-holds file room = (ap not (w .fits), (ap not (eq-eqb _ _ (w .long)), (le-ltb _ _ room, tt)))
+
+  output-is : (file : List ℕ) → writtenLength s ≤ length file → take (writtenLength s) (write s T values file .lent) ≡ form
+  unfolding write
+  output-is file room =
+      rw (unless-held (untouched file) (written s T values file) (writeChecks s values (length file)) (write-holds file room))
+      (take-at form (drop (writtenLength s) file) (writtenLength s) form-length)
+
+-- the sides stand in the form: they agree before anything is read into a buffer
+one-grid : {s t : Sides} {T U : ℕ} {values others : List ℤ} → Writable s T values → Writable t U others
+    → writtenForm s T values ≡ writtenForm t U others → grid s T values ≡ grid t U others
+one-grid {s} {t} {values = values} w v e =
+    let same : s ≡ t = ap sidesIn e in
+    sym (read-back w values (w .long)) ∙ ap (λ (file : List ℕ). read file values) e ∙ read-back v values (w .long ∙ ap size same)
+
+pub round-trip : RoundTrip
+round-trip =
+    record {
+      form-length = λ s T values w. form-length w;
+      read-back = λ s T values lent w long. read-back w lent long;
+      output-back = λ s T values lent file w long room. rw (output-is w file room) (read-back w lent long);
+      one-grid = λ s t T U values others w v e. one-grid w v e;
+    }

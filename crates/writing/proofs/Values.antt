@@ -1,0 +1,70 @@
+-- A layer's values, written one after the other: the loop's invariant.
+use mathlib.Core.Path.{_≡_, refl, sym, ap, ap₂, _∙_}
+use mathlib.Core.List.{List, [], _∷_, _++_, flatMap, append-nil}
+use Prim.Native.Nat.{ℕ, suc, _+_, _*_, _≤_, _<_}
+use native.Mathlib.Omega.{arith}
+use lib.ListN.{length, take, drop, getD, length-append, length-drop}
+use lib.Seq.{sets, length-sets, length-take-le, take-length, drop-length}
+use lib.IntN.{ℤ, pos}
+use Rattle.words.specs.Words.{valueBytes}
+use Rattle.words.proofs.Bytes.{length-valueBytes}
+use Rattle.layers.specs.Layer.{width}
+use Rattle.writing.specs.Written.{valuesForm}
+use Rattle.writing.proofs.Laying.{lay-sets}
+use Rattle.writing.proofs.Forms.{length-valuesForm, valuesForm-next}
+
+module _ (values : List ℤ) (lent : List ℕ) where
+  -- the values below i stand before what was lent
+  pub record Laid (bytes : List ℕ) (i : ℕ) : Type 0 where
+    pub within : i ≤ length values
+    pub room : length lent ≡ width * length values
+    pub long : length bytes ≡ length lent
+    pub stands : bytes ≡ valuesForm (take i values) ++ drop (width * i) lent
+
+  pub laid-start : length lent ≡ width * length values → Laid lent 0
+  unfolding valuesForm flatMap
+  laid-start e = record { within = omega arith; room = e; long = refl; stands = refl }
+
+  module _ (bytes : List ℕ) (i : ℕ) (p : Laid bytes i) where
+    laid-length : length (valuesForm (take i values)) ≡ width * i
+    laid-length = length-valuesForm (take i values) ∙ ap (λ (n : ℕ). width * n) (length-take-le i values (p .within))
+
+    pub laid-next : (v : ℤ) → i < length values → v ≡ getD values i (pos 0) → Laid (sets bytes (width * i) (valueBytes width v)) (i + 1)
+    laid-next v h e =
+        record {
+          within = omega arith;
+          room = p .room;
+          long = length-sets bytes at new ∙ p .long;
+          stands =
+              ap (λ (b : List ℕ). sets b at new) (p .stands)
+              ∙ lay-sets (valuesForm (take i values)) new lent at laid-length (omega (arith, width-is, ap length (p .stands), p .long, p .room))
+              ∙ ap₂ (λ (b c : List ℕ). b ++ c) one-more (ap (λ (n : ℕ). drop n lent) after);
+        }
+      where
+        at : ℕ
+        at = width * i
+
+        new : List ℕ
+        new = valueBytes width v
+
+        width-is : length new ≡ 2
+        width-is = length-valueBytes width v
+
+        after : at + length new ≡ width * (i + 1)
+        after = omega (arith, width-is)
+
+        one-more : valuesForm (take i values) ++ new ≡ valuesForm (take (i + 1) values)
+        one-more =
+            let s : i + 1 ≡ suc i = omega arith in
+            ap (λ (w : ℤ). valuesForm (take i values) ++ valueBytes width w) e
+            ∙ sym (valuesForm-next values i h)
+            ∙ ap (λ (n : ℕ). valuesForm (take n values)) (sym s)
+
+    pub laid-done : length values ≤ i → bytes ≡ valuesForm values
+    laid-done h =
+        let e : i ≡ length values = omega (arith, p .within) in
+        let f : width * i ≡ length lent = omega (arith, p .room) in
+        p .stands
+        ∙ ap₂ (λ (n k : ℕ). valuesForm (take n values) ++ drop k lent) e f
+        ∙ ap₂ (λ (v : List ℤ) (r : List ℕ). valuesForm v ++ r) (take-length values) (drop-length lent)
+        ∙ append-nil (valuesForm values)

@@ -1,0 +1,137 @@
+-- `writing::write_layers` meets its contract.
+use mathlib.Core.Path.{_≡_, sym, ap, _∙_}
+use Prim.Native.Nat.{ℕ, _+_, _-_, _*_, _≤_, _<_}
+use native.Mathlib.Omega.{arith}
+use lib.ListN.{length}
+use borrow.Author.Needs.{needs}
+use Rattle.rules.specs.Grid.{size}
+use Rattle.rules.proofs.Places.{fit}
+use Rattle.layers.proofs.Sizes.{size-small, layer-room, length-part}
+use Rattle.writing.proofs.Layers.{Laid, laid-start, laid-long, laid-room, laid-end, laid-next, laid-done}
+use Rattle.writing.proofs.write_layers.Statement.{statement}
+use Rattle.writing.proofs.write_layers.Tie as tie
+
+abbrev Inv-loop : tie.InvT-loop
+Inv-loop sides values file₀ count total start₀ z₀ file start z = Laid sides values file₀ file start z
+
+abbrev μ-loop : tie.MeasureT-loop
+μ-loop sides values file₀ count total start₀ z₀ file start z = sides .c - z
+
+-- in the loop: where the layer lies among the values, and its record in the file
+room : (c : tie.Then1 Inv-loop μ-loop) → let l = c .before .before in let n = l .before .before .area .result in
+    l .loop .z * n + n ≤ size (c .before .before .before .before .before .before .args .sides)
+room c = layer-room _ _ _ (c .before .before .before .before .area .ensures .0) (c .if1 .taken)
+
+small : (c : tie.Then1 Inv-loop μ-loop) → size (c .before .before .before .before .before .before .args .sides) ≤ 262144
+small c = size-small _ (c .before .before .loop .inv .ready .fits)
+
+record-room : (c : tie.Then1 Inv-loop μ-loop) → let l = c .before .before in l .loop .start + l .before .layer-length .result ≤ length (l .loop .file)
+record-room c = omega (arith, laid-room _ _ _ _ _ _ (c .before .before .loop .inv) (c .if1 .taken), c .before .before .before .layer-length .ensures)
+
+-- no sum overflows
+record-end : (c : tie.Then1 Inv-loop μ-loop) → let l = c .before .before in l .loop .start + l .before .layer-length .result ≤ 524487
+record-end c = let l = c .before .before in laid-end _ _ _ _ _ _ (l .loop .inv) _ (c .if1 .taken) (l .before .layer-length .ensures)
+
+area-requires : tie.Need-area-requires Inv-loop μ-loop
+area-requires c κs = c .before .pre .fits
+
+layer-length-requires : tie.Need-layer-length-requires Inv-loop μ-loop
+layer-length-requires c κs = c .before .before .pre .fits
+
+loop-holds : tie.Need-loop-holds Inv-loop μ-loop
+loop-holds c = laid-start _ _ _ (c .before .before .before .pre)
+
+mul-at : tie.Need-mul-at Inv-loop μ-loop
+mul-at c = omega (arith, room c, small c)
+
+cast-write-layer : tie.Need-cast-write-layer Inv-loop μ-loop
+cast-write-layer c = omega (arith, c .if1 .taken, fit _ (c .before .before .loop .inv .ready .fits) .c-high)
+
+add-write-layer : tie.Need-add-write-layer Inv-loop μ-loop
+add-write-layer c = omega (arith, room c, small c)
+
+mul-write-layer : tie.Need-mul-write-layer Inv-loop μ-loop
+mul-write-layer c = omega (arith, room c, small c)
+
+sub-write-layer : tie.Need-sub-write-layer Inv-loop μ-loop
+sub-write-layer c = search needs
+
+part-write-layer-start : tie.Need-part-write-layer-start Inv-loop μ-loop
+part-write-layer-start c = search needs
+
+part-write-layer-end : tie.Need-part-write-layer-end Inv-loop μ-loop
+part-write-layer-end c = omega (arith, room c, c .before .before .loop .inv .ready .long)
+
+add-write-layer-2 : tie.Need-add-write-layer-2 Inv-loop μ-loop
+add-write-layer-2 c = omega (arith, record-end (c .before))
+
+sub-write-layer-2 : tie.Need-sub-write-layer-2 Inv-loop μ-loop
+sub-write-layer-2 c = search needs
+
+part-write-layer-start-2 : tie.Need-part-write-layer-start-2 Inv-loop μ-loop
+part-write-layer-start-2 c = search needs
+
+part-write-layer-end-2 : tie.Need-part-write-layer-end-2 Inv-loop μ-loop
+part-write-layer-end-2 c = omega (arith, record-room (c .before))
+
+write-layer-requires : tie.Need-write-layer-requires Inv-loop μ-loop
+write-layer-requires c κs =
+    let t = c .before .before in
+    let l = t .before .before in
+    let n : ℕ = l .before .before .area .result in
+    let at : ℕ = l .loop .z * n in
+    let bytes = length-part (l .loop .file) (l .loop .start) (l .loop .start + l .before .layer-length .result) (omega arith) (record-room t) in
+    let values = length-part (l .before .before .before .before .args .values .now) at (at + n) (omega arith) (omega (arith, room t, l .loop .inv .ready .long)) in
+    omega (arith, bytes, values, l .before .layer-length .ensures, l .before .before .area .ensures .0)
+
+add-start : tie.Need-add-start Inv-loop μ-loop
+add-start c = omega (arith, record-end (c .before .before .before .before .before))
+
+add-z : tie.Need-add-z Inv-loop μ-loop
+add-z c =
+    let t = c .before .before .before .before .before in
+    omega (arith, t .if1 .taken, fit _ (t .before .before .loop .inv .ready .fits) .c-high)
+
+loop-less : tie.Need-loop-less Inv-loop μ-loop
+loop-less c = omega (arith, c .before .before .before .before .before .if1 .taken)
+
+loop-again : tie.Need-loop-again Inv-loop μ-loop
+loop-again c =
+    let t = c .before .before .before .before .before in
+    let l = t .before .before in
+    laid-next _ _ _ _ _ _ (l .loop .inv) _ _ _ (t .if1 .taken) (l .before .before .area .ensures .0) (l .before .layer-length .ensures)
+    (c .before .before .write-layer .ensures)
+
+same-length : tie.Need-same-length Inv-loop μ-loop
+same-length c = laid-long _ _ _ _ _ _ (c .before .before .loop .inv)
+
+returns : tie.Need-returns Inv-loop μ-loop
+returns c = laid-done _ _ _ _ _ _ (c .before .before .loop .inv) (c .if1 .left)
+
+pub write-layers-spec : {M : Type 1} → statement M
+write-layers-spec =
+    tie.close
+    (tie.spec
+    Inv-loop
+    μ-loop
+    area-requires
+    layer-length-requires
+    loop-holds
+    mul-at
+    cast-write-layer
+    add-write-layer
+    mul-write-layer
+    sub-write-layer
+    part-write-layer-start
+    part-write-layer-end
+    add-write-layer-2
+    sub-write-layer-2
+    part-write-layer-start-2
+    part-write-layer-end-2
+    write-layer-requires
+    add-start
+    add-z
+    loop-less
+    loop-again
+    same-length
+    returns)
