@@ -10,8 +10,8 @@
 
 #include "wattlerugby.h"
 
-/* The largest grid and its file; one byte more shows whether bytes are left after the last layer. */
-enum { MOST_SIDE = 64, MOST = MOST_SIDE * MOST_SIDE * MOST_SIDE, MOST_BYTES = 7 + MOST_SIDE * 3 + 2 * MOST };
+/* The largest grid. */
+enum { MOST_SIDE = 64, MOST = MOST_SIDE * MOST_SIDE * MOST_SIDE };
 
 /* Examinations in one slice: between two slices a display can be drawn, or the work given up. */
 enum { SLICE = 250 };
@@ -19,7 +19,8 @@ enum { SLICE = 250 };
 /* Points in one call: each call checks the whole grid once, so not too few. */
 enum { MOST_POINTS = 500 };
 
-static uint8_t file[MOST_BYTES + 1];
+/* One byte more than any file has shows whether bytes are left after the last layer. */
+static uint8_t file[WATTLERUGBY_LONGEST_FILE + 1];
 static int16_t values[MOST];
 static int32_t dist[MOST];
 static uint8_t status[MOST];

@@ -15,6 +15,7 @@
  *     wattlerugby_crossing  a point of the body's surface between two voxels
  *     wattlerugby_points    all points of the surface, as many at a time as you have room for
  *     wattlerugby_read, wattlerugby_read_layer   a grid file, whole or a layer at a time
+ *     wattlerugby_write     values out as a grid file; wattlerugby_written_length says how long it is
  *     wattlerugby_local_test   the test by which a voxel may go, on its own
  *     wattlerugby_reason    a refusal number as text
  *
@@ -93,9 +94,9 @@
 /* ---- version */
 
 #define WATTLERUGBY_VERSION_MAJOR 0
-#define WATTLERUGBY_VERSION_MINOR 1
+#define WATTLERUGBY_VERSION_MINOR 2
 #define WATTLERUGBY_VERSION_PATCH 0
-#define WATTLERUGBY_VERSION "0.1.0"
+#define WATTLERUGBY_VERSION "0.2.0"
 
 #ifdef __cplusplus
 extern "C" {
@@ -115,7 +116,7 @@ enum {
 
     /* the input */
     WATTLERUGBY_SIDE = 1,              /* a side is outside 3 to 64 */
-    WATTLERUGBY_LENGTH = 2,            /* a lent buffer's length is not n */
+    WATTLERUGBY_LENGTH = 2,            /* the length of a lent value, distance or status buffer is not n */
     WATTLERUGBY_BORDER_NEGATIVE = 3,   /* a border voxel is measured negative: the body reaches the edge of the grid */
     WATTLERUGBY_NO_NEGATIVE = 4,       /* no voxel is measured negative: there is no body */
     WATTLERUGBY_INDEX = 5,             /* the index is n or more; points: the position is over 3 n */
@@ -137,7 +138,8 @@ enum {
     WATTLERUGBY_MARK = 22,             /* wrong mark */
     WATTLERUGBY_LAYER = 23,            /* a layer's z is c or more */
     WATTLERUGBY_LAYER_TWICE = 24,      /* a layer's z came before */
-    WATTLERUGBY_BYTES_LEFT = 25        /* bytes after the last layer */
+    WATTLERUGBY_BYTES_LEFT = 25,       /* bytes after the last layer */
+    WATTLERUGBY_ROOM = 26              /* write: the buffer is shorter than the written file */
 };
 
 /* What a refusal number says, in English, without a full stop. Any number gets a text. */
@@ -165,6 +167,7 @@ static inline const char *wattlerugby_reason(uint8_t refusal)
     case WATTLERUGBY_LAYER: return "a layer's z is beyond the grid";
     case WATTLERUGBY_LAYER_TWICE: return "a layer's z came before";
     case WATTLERUGBY_BYTES_LEFT: return "bytes are left after the last layer";
+    case WATTLERUGBY_ROOM: return "the lent buffer is shorter than the file";
     default: return "no number of this library";
     }
 }
@@ -409,6 +412,35 @@ wattlerugby_read_layer_answer wattlerugby_read_layer(
     wattlerugby_sides sides,
     const uint8_t *file, size_t file_len,
     size_t start);
+
+/* The bytes of the longest grid file, that of 64 x 64 x 64 voxels: room for any. */
+#define WATTLERUGBY_LONGEST_FILE 524487
+
+/* How many bytes the file of a grid with these sides has. 0 where a side is outside 3 to 64: there is no such file, and write refuses
+ * with 1. */
+static inline size_t wattlerugby_written_length(wattlerugby_sides sides)
+{
+    if (sides.a < 3 || sides.a > 64 || sides.b < 3 || sides.b > 64 || sides.c < 3 || sides.c > 64)
+        return 0;
+    return 7 + sides.c * (3 + 2 * sides.a * sides.b);
+}
+
+typedef struct wattlerugby_write_answer {
+    uint8_t refusal;
+    size_t length;   /* bytes written: file[0] up to, and without, file[length] */
+} wattlerugby_write_answer;
+
+/* Writes n values with their sides and T as a grid file, the layers in rising z. Read takes these bytes and gives the same sides, T and
+ * values. Nothing in them is left to choice: a grid has one written form, the same on every instrument.
+ *
+ * Any 16-bit value is written as it is, WATTLERUGBY_MISSING too, and so is a grid that begin would refuse. `file` may be longer than
+ * wattlerugby_written_length; its bytes past that stay as they were.
+ *
+ * Checks: 1, 2 (`values`), 26. */
+wattlerugby_write_answer wattlerugby_write(
+    wattlerugby_sides sides, uint16_t allowed,
+    const int16_t *values, size_t values_len,
+    uint8_t *file, size_t file_len);
 
 /* ---- the local test */
 

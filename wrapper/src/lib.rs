@@ -18,6 +18,19 @@
 //! # Ok::<(), wattlerugby::Refusal>(())
 //! ```
 //!
+//! A grid file comes in by [`read`], or a layer at a time by [`read_layer`], and goes out by [`write()`]; [`written`] gives its bytes as a
+//! vector. Each grid has one written form, so two of them are the same exactly where their files are:
+//!
+//! ```
+//! use wattlerugby::{written, Grid, Sides};
+//!
+//! let mut values = [5; 27];
+//! values[13] = -5;
+//! let file = written(Sides { a: 3, b: 3, c: 3 }, 0, &values)?;
+//! assert_eq!(Grid::from_file(&file), Grid::begin(Sides { a: 3, b: 3, c: 3 }, 0, &values));
+//! # Ok::<(), wattlerugby::Refusal>(())
+//! ```
+//!
 //! The library is the archive that `rt staticlib capi` writes, for x86-64 Linux: build.rs looks for it in the folder that the variable
 //! `WATTLERUGBY_ARCHIVE` names (as libwattlerugby.a or libcapi.a), otherwise in target/staticlib. `cargo doc` and `cargo check` need none.
 //! Rounding must be to nearest, as it is where nobody changed it.
@@ -39,6 +52,8 @@ pub use surface::Points;
 pub const MISSING: i16 = -32768;
 /// A limit that no carve reaches.
 pub const NO_LIMIT: u32 = u32::MAX;
+/// The bytes of the longest grid file, that of 64 x 64 x 64 voxels: room for any.
+pub const LONGEST_FILE: usize = 524_487;
 /// A status byte of a voxel that is not kept.
 pub const GONE: u8 = 0;
 /// A status byte of a voxel that is kept.
@@ -321,6 +336,64 @@ pub fn read_layer(sides: Sides, file: &[u8], start: usize) -> Result<Layer<'_>, 
     // SAFETY: as in `begin`.
     let r = unsafe { raw::wattlerugby_read_layer(sides, file.as_ptr(), file.len(), start) };
     done(r.refusal, Layer { z: r.z, from: r.from, bytes: &file[r.from..r.to] })
+}
+
+/// How many bytes the file of a grid with these sides has; nothing where a side is outside 3 to 64, which [`write()`] refuses with 1.
+///
+/// ```
+/// use wattlerugby::{written_length, Sides, LONGEST_FILE};
+///
+/// assert_eq!(written_length(Sides { a: 4, b: 4, c: 3 }), Some(112));
+/// assert_eq!(written_length(Sides { a: 64, b: 64, c: 64 }), Some(LONGEST_FILE));
+/// assert_eq!(written_length(Sides { a: usize::MAX, b: 4, c: 3 }), None);
+/// ```
+pub fn written_length(sides: Sides) -> Option<usize> {
+    sides.voxels().map(|n| 7 + 3 * sides.c + 2 * n)
+}
+
+/// Writes n values with their sides and T as a grid file, the layers in rising z, and answers its length. [`read`] takes these bytes and
+/// gives the same sides, T and values. Nothing in them is left to choice: a grid has one written form.
+///
+/// Any value is written as it is, [`MISSING`] too, and so is a grid that [`begin`] would refuse. `file` may be longer than
+/// [`written_length`]; its bytes past that stay as they were.
+///
+/// Checks: 1, 2 (`values`), 26.
+///
+/// ```
+/// use wattlerugby::{write, Refusal, Sides};
+///
+/// let sides = Sides { a: 3, b: 3, c: 3 };
+/// let mut file = [0xEE; 80];
+/// assert_eq!(write(sides, 2, &[-6; 27], &mut file)?, 70);
+/// assert_eq!(file[..12], [0x56, 0x48, 3, 3, 3, 2, 0, 0x56, 0x4C, 0, 0xFA, 0xFF]);
+/// assert_eq!(file[70..], [0xEE; 10]);
+/// assert_eq!(write(sides, 2, &[-6; 27], &mut file[..69]), Err(Refusal::ROOM));
+/// # Ok::<(), Refusal>(())
+/// ```
+pub fn write(sides: Sides, allowed: u16, values: &[i16], file: &mut [u8]) -> Result<usize, Refusal> {
+    // SAFETY: as in `begin`.
+    let r = unsafe { raw::wattlerugby_write(sides, allowed, values.as_ptr(), values.len(), file.as_mut_ptr(), file.len()) };
+    done(r.refusal, r.length)
+}
+
+/// The file that [`write()`] writes, in a vector of its length.
+///
+/// Checks: 1, 2.
+///
+/// ```
+/// use wattlerugby::{read, written, Sides, MISSING};
+///
+/// let (sides, values) = (Sides { a: 3, b: 4, c: 5 }, [MISSING; 60]);
+/// let file = written(sides, 1, &values)?;
+/// let mut again = [0; 60];
+/// assert_eq!(read(&file, &mut again)?, (sides, 1));
+/// assert_eq!(again, values);
+/// # Ok::<(), wattlerugby::Refusal>(())
+/// ```
+pub fn written(sides: Sides, allowed: u16, values: &[i16]) -> Result<Vec<u8>, Refusal> {
+    let mut file = vec![0; written_length(sides).unwrap_or(0)];
+    write(sides, allowed, values, &mut file)?;
+    Ok(file)
 }
 
 /// The test of a block: bit (dx + 1) + 3 (dy + 1) + 9 (dz + 1) of `kept` says whether the voxel at (dx, dy, dz) from the middle is kept.

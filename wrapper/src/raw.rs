@@ -99,6 +99,12 @@ pub struct ReadLayerAnswer {
     pub to: usize,
 }
 
+#[repr(C)]
+pub struct WriteAnswer {
+    pub refusal: u8,
+    pub length: usize,
+}
+
 extern "C" {
     pub fn wattlerugby_begin(
         sides: Sides,
@@ -157,6 +163,15 @@ extern "C" {
     pub fn wattlerugby_read(file: *const u8, file_len: usize, values: *mut i16, values_len: usize) -> ReadAnswer;
 
     pub fn wattlerugby_read_layer(sides: Sides, file: *const u8, file_len: usize, start: usize) -> ReadLayerAnswer;
+
+    pub fn wattlerugby_write(
+        sides: Sides,
+        allowed: u16,
+        values: *const i16,
+        values_len: usize,
+        file: *mut u8,
+        file_len: usize,
+    ) -> WriteAnswer;
 
     pub fn wattlerugby_local_test(kept: u32) -> crate::LocalTest;
 }

@@ -65,6 +65,7 @@ numbers! {
     23 LAYER "a layer's z is beyond the grid"
     24 LAYER_TWICE "a layer's z came before"
     25 BYTES_LEFT "bytes are left after the last layer"
+    26 ROOM "the lent buffer is shorter than the file"
 }
 
 impl std::fmt::Debug for Refusal {

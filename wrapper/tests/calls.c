@@ -1,5 +1,6 @@
 /* Every call on a state from C, on document 01's case C, with each answer printed: a ring of eight voxels around an empty one, and one
- * opening allowed. Then what the header says of null pointers, padding and numbers. The status is 0 where all of that holds. */
+ * opening allowed. Then a file out and in, and what the header says of null pointers, padding and numbers. The status is 0 where all of
+ * that holds. */
 #include <stdio.h>
 #include <string.h>
 
@@ -134,12 +135,53 @@ static int ring(void)
     return record.euler == 0 ? 0 : 1;
 }
 
+/* ---- a file out, and in again */
+
+static wattlerugby_write_answer write_file(wattlerugby_sides sides, const int16_t *values, size_t count, uint8_t *file, size_t room)
+{
+    wattlerugby_write_answer r = wattlerugby_write(sides, 0xABCD, values, count, file, room);
+    printf("write %u values, room for %u bytes: ", (unsigned)count, (unsigned)room);
+    if (r.refusal != 0)
+        printf("refused %u\n", r.refusal);
+    else
+        printf("length %u\n", (unsigned)r.length);
+    return r;
+}
+
+static int files(void)
+{
+    enum { VALUES = 60, LENGTH = 142, ROOM = LENGTH + 3 };
+    const wattlerugby_sides sides = {3, 4, 5}, unfit = {2, 4, 5};
+    int16_t values[VALUES], again[VALUES];
+    uint8_t file[ROOM], untouched[ROOM];
+    wattlerugby_read_answer back;
+    int i, wrong = 0;
+    for (i = 0; i < VALUES; i++)
+        values[i] = (int16_t)(i == 0 ? WATTLERUGBY_MISSING : 1000 * (i - 30));
+    memset(file, 0xEE, ROOM);
+    memset(untouched, 0xEE, ROOM);
+    wrong += write_file(unfit, values, VALUES, file, ROOM).refusal != WATTLERUGBY_SIDE;
+    wrong += write_file(sides, values, VALUES - 1, file, ROOM).refusal != WATTLERUGBY_LENGTH;
+    wrong += write_file(sides, values, VALUES, file, LENGTH - 1).refusal != WATTLERUGBY_ROOM;
+    wrong += memcmp(file, untouched, ROOM) != 0;
+    wrong += write_file(sides, values, VALUES, file, ROOM).length != wattlerugby_written_length(sides);
+    wrong += memcmp(file + LENGTH, untouched, ROOM - LENGTH) != 0;
+    for (i = 0; i < 14; i++)
+        printf("%s%02X", i == 0 ? "  " : " ", file[i]);
+    back = wattlerugby_read(file, LENGTH, again, VALUES);
+    wrong += back.refusal != 0 || back.allowed != 0xABCD || memcmp(&back.sides, &sides, sizeof sides) != 0;
+    wrong += memcmp(values, again, sizeof values) != 0;
+    printf(" ..\n  %s\n", wrong ? "WRONG" : "reads as what was written");
+    return wrong;
+}
+
 /* ---- null pointers with length 0 */
 
 static int nulls(void)
 {
     const wattlerugby_sides fit = {3, 3, 3}, unfit = {3, 3, 65};
     const uint8_t header[7] = {0x56, 0x48, 3, 3, 3, 0, 0};
+    const int16_t values[27] = {0};
     const int32_t dist[27] = {0};
     const uint8_t status[27] = {0};
     wattlerugby_points_answer filled;
@@ -158,6 +200,9 @@ static int nulls(void)
     wrong += wattlerugby_read(NULL, 0, NULL, 0).refusal != WATTLERUGBY_SHORT;
     wrong += wattlerugby_read(header, 7, NULL, 0).refusal != WATTLERUGBY_LENGTH;
     wrong += wattlerugby_read_layer(fit, NULL, 0, 7).refusal != WATTLERUGBY_SHORT;
+    wrong += wattlerugby_write(unfit, 0, NULL, 0, NULL, 0).refusal != WATTLERUGBY_SIDE;
+    wrong += wattlerugby_write(fit, 0, NULL, 0, NULL, 0).refusal != WATTLERUGBY_LENGTH;
+    wrong += wattlerugby_write(fit, 0, values, 27, NULL, 0).refusal != WATTLERUGBY_ROOM;
     r.finished = 1;
     filled = wattlerugby_points(r, dist, 27, status, 27, 5, NULL, 0);
     wrong += filled.refusal != 0 || filled.count != 0 || filled.next != 5;
@@ -266,7 +311,34 @@ static void numbers(void)
     NUMBER(LAYER);
     NUMBER(LAYER_TWICE);
     NUMBER(BYTES_LEFT);
+    NUMBER(ROOM);
     printf("255 %s\n", wattlerugby_reason(255));
+    printf("longest file %u\n", (unsigned)WATTLERUGBY_LONGEST_FILE);
+}
+
+/* ---- lengths: a line `A B C LENGTH` for each side from 2 to 65 along each axis, beside some along the others; then for sides whose
+ * product is too large for a size_t */
+
+static void length(size_t a, size_t b, size_t c)
+{
+    const wattlerugby_sides sides = {a, b, c};
+    printf("%zu %zu %zu %zu\n", a, b, c, wattlerugby_written_length(sides));
+}
+
+static void lengths(void)
+{
+    static const size_t some[] = {2, 3, 5, 64, 65}, large[] = {0, 3, (size_t)1 << 32, (size_t)1 << 63, SIZE_MAX};
+    size_t side, i, j, k;
+    for (i = 0; i < 5; i++)
+        for (j = 0; j < 5; j++) {
+            for (side = 2; side <= 65; side++) {
+                length(side, some[i], some[j]);
+                length(some[i], side, some[j]);
+                length(some[i], some[j], side);
+            }
+            for (k = 0; k < 5; k++)
+                length(large[i], large[j], large[k]);
+        }
 }
 
 int main(int argc, char **argv)
@@ -275,5 +347,9 @@ int main(int argc, char **argv)
         numbers();
         return 0;
     }
-    return ring() + nulls() + padding() + finished_bytes();
+    if (argc > 1 && strcmp(argv[1], "lengths") == 0) {
+        lengths();
+        return 0;
+    }
+    return ring() + files() + nulls() + padding() + finished_bytes();
 }

@@ -1,6 +1,6 @@
 //! Document 01's worked cases, through the wrapper.
 
-use wattlerugby::{local_test, Grid, Point, Refusal, Sides};
+use wattlerugby::{local_test, written, Grid, Point, Refusal, Sides};
 
 fn grid(sides: [usize; 3], value: i16, negative: &[usize]) -> (Sides, Vec<i16>) {
     let [a, b, c] = sides;
@@ -56,11 +56,14 @@ fn case_d() {
     assert_eq!((g.status()[22], g.status()[25]), (wattlerugby::GONE, wattlerugby::GONE));
     assert_eq!((g.record().removals, g.record().examinations, g.record().euler), (2, 2, 1));
 
-    let mut file = vec![0x56, 0x48, 4, 4, 3, 0, 0];
+    // the file as document 01 has it
+    let bytes = |i: usize| if i == 21 || i == 26 { [0xFA, 0xFF] } else { [0x06, 0x00] };
+    let mut file = vec![0x56, 0x48, 0x04, 0x04, 0x03, 0x00, 0x00];
     for z in 0..3usize {
         file.extend([0x56, 0x4C, z as u8]);
-        file.extend(values[16 * z..16 * z + 16].iter().flat_map(|v| v.to_le_bytes()));
+        file.extend((16 * z..16 * z + 16).flat_map(bytes));
     }
+    assert_eq!(written(sides, 0, &values).as_ref(), Ok(&file));
     let mut read = Grid::from_file(&file).unwrap();
     read.carve_to_the_end().unwrap();
     assert_eq!(read.status().iter().filter(|&&s| s != wattlerugby::GONE).count(), 2);

@@ -126,6 +126,20 @@ fn files_and_layers() {
 }
 
 #[test]
+fn a_written_file() {
+    const LENGTH: usize = 7 + 5 * 27;
+    let values: [i16; N] = std::array::from_fn(|i| 256 * (i / 12) as i16 + (i % 12) as i16);
+    let mut file = [9; LENGTH + 1];
+    // SAFETY: the pointers are those of two live arrays, of which no more is lent than there is.
+    let mut write = |room| unsafe { wattlerugby_write(SIDES, 0xABCD, values.as_ptr(), N, file.as_mut_ptr(), room) };
+    let (refused, done) = (write(LENGTH - 1), write(LENGTH + 1));
+    assert_eq!((refused.refusal, refused.length), (26, 0));
+    assert_eq!((done.refusal, done.length), (0, LENGTH));
+    assert_eq!(file[..12], [0x56, 0x48, 3, 4, 5, 0xCD, 0xAB, 0x56, 0x4C, 0, 0, 0]);
+    assert_eq!(file[LENGTH - 4..], [10, 4, 11, 4, 9]);
+}
+
+#[test]
 fn the_local_test_has_five_numbers() {
     // The two middle voxels below and above are not kept: no two of the five numbers are equal.
     let t = wattlerugby::local_test(0x07FF_FFFF & !(1 << 4 | 1 << 13 | 1 << 22));

@@ -4,7 +4,7 @@ use std::mem::{offset_of, size_of};
 use std::path::{Path, PathBuf};
 use std::process::Command;
 use wattlerugby::raw::*;
-use wattlerugby::{Grid, LocalTest, Point, Refusal, Sides};
+use wattlerugby::{write, written_length, Grid, LocalTest, Point, Refusal, Sides, LONGEST_FILE};
 
 fn root() -> PathBuf {
     Path::new(env!("CARGO_MANIFEST_DIR")).join("..")
@@ -76,13 +76,14 @@ fn sizes_and_offsets() {
     lay_out!(ours, "points_answer", PointsAnswer, refusal count next);
     lay_out!(ours, "read_answer", ReadAnswer, refusal sides allowed);
     lay_out!(ours, "read_layer_answer", ReadLayerAnswer, refusal z from to);
+    lay_out!(ours, "write_answer", WriteAnswer, refusal length);
     lay_out!(ours, "local_answer", LocalTest, k m corners edges faces);
     for header in printed_by_each(&root().join("wrapper/tests/layout.c"), "layout", &[]) {
         assert_eq!(header.lines().collect::<Vec<_>>(), ours);
     }
 }
 
-/// Each call's answers, null pointers, padding.
+/// Each call's answers, a file out and in, null pointers, padding.
 #[test]
 fn calls() {
     let source = root().join("wrapper/tests/calls.c");
@@ -97,6 +98,7 @@ fn version_and_numbers() {
     let mut ours = vec![concat!("version ", env!("CARGO_PKG_VERSION")).to_string()];
     ours.extend(Refusal::ALL.iter().map(|r| format!("{} {} {}", r.name().expect("it has a name"), r.0, r.reason())));
     ours.push(format!("255 {}", Refusal(255).reason()));
+    ours.push(format!("longest file {LONGEST_FILE}"));
     let source = root().join("wrapper/tests/calls.c");
     for header in printed_by_each(&source, "numbers", &["numbers"]) {
         assert_eq!(header.lines().collect::<Vec<_>>(), ours);
@@ -104,6 +106,27 @@ fn version_and_numbers() {
     let text = std::fs::read_to_string(root().join("include/wattlerugby.h")).expect("the header can be read");
     let number = |part: &str| text.lines().find_map(|l| l.strip_prefix(&format!("#define WATTLERUGBY_VERSION_{part} "))).expect("a number");
     assert_eq!([number("MAJOR"), number("MINOR"), number("PATCH")].join("."), env!("CARGO_PKG_VERSION"));
+}
+
+/// The header's length, the wrapper's and the one that write answers: lent so many bytes it writes, and one less is refused.
+#[test]
+fn lengths() {
+    let said = printed_by_each(&root().join("wrapper/tests/calls.c"), "lengths", &["lengths"]);
+    assert!(said.iter().all(|other| *other == said[0]), "the same in C++ as in C");
+    let (values, mut file, mut fit) = (vec![0; 64 * 64 * 64], vec![0; LONGEST_FILE], 0);
+    for line in said[0].lines() {
+        let numbers: Vec<usize> = line.split(' ').map(|word| word.parse().expect("a number")).collect();
+        let (sides, length) = (Sides { a: numbers[0], b: numbers[1], c: numbers[2] }, numbers[3]);
+        assert_eq!(written_length(sides).unwrap_or(0), length, "{line}");
+        let Some(n) = sides.voxels() else {
+            assert_eq!((write(sides, 0, &values, &mut file), length), (Err(Refusal::SIDE), 0), "{line}");
+            continue;
+        };
+        assert_eq!(write(sides, 0, &values[..n], &mut file[..length]), Ok(length), "{line}");
+        assert_eq!(write(sides, 0, &values[..n], &mut file[..length - 1]), Err(Refusal::ROOM), "{line}");
+        fit += 1;
+    }
+    assert_eq!((said[0].lines().count(), fit), (25 * (3 * 64 + 5), 9 * 3 * 62 + 1));
 }
 
 /// Every crossing of a file's body, in rising order of 3 index + axis.

@@ -64,6 +64,9 @@ int main(void)
     FIELD(read_layer_answer, z);
     FIELD(read_layer_answer, from);
     FIELD(read_layer_answer, to);
+    STRUCT(write_answer);
+    FIELD(write_answer, refusal);
+    FIELD(write_answer, length);
     STRUCT(local_answer);
     FIELD(local_answer, k);
     FIELD(local_answer, m);
