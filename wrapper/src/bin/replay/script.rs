@@ -2,7 +2,7 @@
 
 use crate::words::{hash, Words};
 use wattlerugby::raw::Record;
-use wattlerugby::{begin, carve, crossing, finish, local_test, open, points, read, read_layer, take, Grid, Refusal, Sides};
+use wattlerugby::{begin, carve, crossing, finish, local_test, open, points, read, read_layer, take, write, Grid, Refusal, Sides};
 
 pub struct State {
     sides: Sides,
@@ -57,10 +57,12 @@ impl State {
             "autohash" => self.hashes = words.yes_or_no()?,
             "hash" => return Ok(Some(self.buffers())),
             "dump" => return self.dump(words.word()?),
+            "showfile" => return Ok(Some(self.file.iter().map(|b| format!("{b:02X}")).collect())),
             "program" => return Ok(Some(program(&self.file))),
             _ => {
                 let said = match command {
                     "points" => self.points(words)?,
+                    "write" => self.write(words)?,
                     _ => match self.call(command, words)? {
                         Ok(text) => format!("{command} ok {text}"),
                         Err(Refusal(number)) => format!("{command} refused {number}"),
@@ -125,16 +127,28 @@ impl State {
 
     /// All points from a position on, into a buffer whose every byte is told, written or not.
     fn points(&mut self, words: &mut Words) -> Result<String, String> {
-        let (position, capacity) = (words.number()?, words.number()?);
-        if capacity > LONGEST {
-            return Err(format!("longer than {LONGEST}: {capacity}"));
-        }
-        let mut out = vec![f64::from_bits(0x5A5A_5A5A_5A5A_5A5A); capacity];
+        let position = words.number()?;
+        let mut out = vec![f64::from_bits(0x5A5A_5A5A_5A5A_5A5A); length(words)?];
         let answer = match points(self.record, &self.dist, &self.status, position, &mut out) {
             Ok(filled) => format!("ok count {} next {}", filled.count, filled.next),
             Err(Refusal(number)) => format!("refused {number}"),
         };
         Ok(format!("points {answer} bytes {}", hash(out.iter().flat_map(|d| d.to_bits().to_le_bytes()))))
+    }
+
+    /// The grid as a file, into a buffer whose every byte is told, written or not. What was written is the file from then on.
+    fn write(&mut self, words: &mut Words) -> Result<String, String> {
+        let mut buffer = vec![0xA5; length(words)?];
+        let written = write(self.sides, self.allowed, &self.values, &mut buffer);
+        let told = hash(buffer.iter().copied());
+        Ok(match written {
+            Ok(length) => {
+                buffer.truncate(length);
+                self.file = buffer;
+                format!("write ok length {length} buffer {told}")
+            }
+            Err(Refusal(number)) => format!("write refused {number} buffer {told}"),
+        })
     }
 
     fn call(&mut self, name: &str, words: &mut Words) -> Result<Result<String, Refusal>, String> {
@@ -169,8 +183,15 @@ impl State {
     }
 }
 
-/// The longest buffer that `len` makes and `points` lends: longer than any grid's, and short enough to be made.
+/// The longest buffer that `len` makes, and `points` and `write` lend: longer than any grid's, and short enough to be made.
 const LONGEST: usize = 1 << 20;
+
+fn length(words: &mut Words) -> Result<usize, String> {
+    match words.number()? {
+        length if length <= LONGEST => Ok(length),
+        length => Err(format!("longer than {LONGEST}: {length}")),
+    }
+}
 
 /// fill V, set I V, list V V .., len L
 fn edit<T: Copy + Default + TryFrom<i128>>(buffer: &mut Vec<T>, words: &mut Words) -> Result<(), String> {
@@ -182,10 +203,7 @@ fn edit<T: Copy + Default + TryFrom<i128>>(buffer: &mut Vec<T>, words: &mut Word
             *buffer.get_mut(place).ok_or_else(|| format!("the buffer ends before {place}"))? = value;
         }
         "list" => *buffer = words.rest()?,
-        "len" => match words.number()? {
-            len if len <= LONGEST => buffer.resize(len, T::default()),
-            len => return Err(format!("longer than {LONGEST}: {len}")),
-        },
+        "len" => buffer.resize(length(words)?, T::default()),
         other => return Err(format!("a buffer is not changed by {other}")),
     }
     Ok(())
