@@ -1,7 +1,7 @@
 //! Writes samples/: the grid files, and beside each its line and its picture as text.
 //! usage: cargo run --example samples -- FOLDER
 
-use wattlerugby::{Grid, Refusal, Sides, GONE, MISSING, NO_LIMIT};
+use wattlerugby::{written, Grid, Refusal, Sides, GONE, MISSING, NO_LIMIT};
 
 pub struct Sample {
     pub name: &'static str,
@@ -95,16 +95,9 @@ impl Sample {
         Sample { name, sides: Sides { a, b, c }, allowed, values }
     }
 
-    /// The grid file's bytes, layers in rising z.
+    /// The grid file's bytes.
     pub fn file(&self) -> Vec<u8> {
-        let Sides { a, b, c } = self.sides;
-        let mut bytes = vec![0x56, 0x48, a as u8, b as u8, c as u8];
-        bytes.extend(self.allowed.to_le_bytes());
-        for (z, layer) in self.values.chunks(a * b).enumerate() {
-            bytes.extend([0x56, 0x4C, z as u8]);
-            bytes.extend(layer.iter().flat_map(|v| v.to_le_bytes()));
-        }
-        bytes
+        written(self.sides, self.allowed, &self.values).expect("fit sides, and a value for each voxel")
     }
 
     fn carved(&self) -> Result<Carved, Refusal> {
