@@ -3,14 +3,13 @@
 use crate::{Failure, Status};
 use std::io::Read;
 use std::path::Path;
-use wattlerugby::{read, read_layer, Refusal, Sides, MISSING};
+use wattlerugby::{read, read_layer, Refusal, Sides, LONGEST_FILE, MISSING};
 
 /// Bytes of the header, and of a layer record before its values.
 pub const HEADER: usize = 7;
 pub const LAYER_HEAD: usize = 3;
-const MOST_SIDE: usize = 64;
-/// The longest grid file. Of a longer one the bytes up to the first that is too many decide.
-const MOST_BYTES: usize = HEADER + MOST_SIDE * (LAYER_HEAD + 2 * MOST_SIDE * MOST_SIDE);
+/// Of a file that is longer than any grid's, the bytes up to the first that is too many decide.
+const MOST_BYTES: u64 = LONGEST_FILE as u64 + 1;
 
 /// A file's bytes, with the name that answers call it by.
 pub struct Source {
@@ -33,11 +32,11 @@ impl Source {
         let cannot = |e: std::io::Error| Failure::unusable(format!("{} cannot be read: {e}", path.display()));
         let mut bytes = Vec::new();
         if path == Path::new("-") {
-            std::io::stdin().take(MOST_BYTES as u64 + 1).read_to_end(&mut bytes).map_err(cannot)?;
+            std::io::stdin().take(MOST_BYTES).read_to_end(&mut bytes).map_err(cannot)?;
             return Ok(Source { name: "the standard input".to_string(), bytes });
         }
         let file = std::fs::File::open(path).map_err(cannot)?;
-        file.take(MOST_BYTES as u64 + 1).read_to_end(&mut bytes).map_err(cannot)?;
+        file.take(MOST_BYTES).read_to_end(&mut bytes).map_err(cannot)?;
         let name = path.file_name().unwrap_or(path.as_os_str()).to_string_lossy();
         // a line feed in a name would break the headers that it goes into
         Ok(Source { name: name.replace(char::is_control, "?"), bytes })

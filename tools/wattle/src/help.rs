@@ -88,6 +88,16 @@ One HTML page that opens in any browser without a network: layers to scroll thro
 ",
     },
     Command {
+        name: "rewrite",
+        files: 1,
+        options: &[],
+        help: "wattle rewrite FILE [-o OUT]
+
+The same grid as a file in its written form: layers in rising z. Sides, T and values stay as they are. A grid has one written form, so
+files of the same grid become the same bytes. What carving makes of the grid is not asked.
+",
+    },
+    Command {
         name: "carve",
         files: 1,
         options: &["--large"],
@@ -112,11 +122,13 @@ pub fn overview() -> String {
   wattle volume FILE     values, distances, status: VTK, NRRD
   wattle compare A B     which voxels differ
   wattle page FILE       a page to look at it in a browser, offline
+  wattle rewrite FILE    the same grid in its written form: layers in rising z
   wattle carve FILE      the program's line, with an exit status
   wattle help COMMAND    more about a command
 
-FILE may be -, the standard input. With -o OUT the answer goes to a file, which is not overwritten unless --force is given;
-otherwise, or with -o -, it goes to the standard output. Sides may be 3 to 64 voxels. What takes long shows its progress on a terminal.
+FILE may be -, the standard input. With -o OUT the answer goes to a file, which is not overwritten unless --force is given, and is
+never left half written; otherwise, or with -o -, it goes to the standard output. Sides may be 3 to 64 voxels. What takes long shows
+its progress on a terminal.
 
 Exit status: 0 done; 1 the grid is refused (compare: the two differ); 2 usage, or a file cannot be read or written.
 ",

@@ -1,4 +1,4 @@
-//! wattle: looks at grid files and at the bodies that carving leaves of them, for surveyors and for support.
+//! wattle: looks at grid files and at the bodies that carving leaves of them, and rewrites grid files, for surveyors and for support.
 //!
 //! Everything about carving comes from the proved library, by way of the wrapper; what is here reads files, words and draws.
 
@@ -17,6 +17,7 @@ mod picture;
 mod png;
 mod points;
 mod progress;
+mod rewrite;
 mod volume;
 
 use args::Args;
@@ -86,6 +87,7 @@ fn run(words: &[std::ffi::OsString]) -> Result<Status, Failure> {
         "volume" => volume::volume(&args),
         "compare" => compare::compare(&args),
         "page" => page::page(&args),
+        "rewrite" => rewrite::rewrite(&args),
         _ => carve::carve(&args),
     }?;
     output::deliver(answer, args.output.as_deref(), args.has("--force"))

@@ -197,7 +197,7 @@ fn wrong_words_get_one_line() {
     one_line(&["look", "/no/such.grid"], 2, "/no/such.grid cannot be read");
     one_line(&["look", path(&root())], 2, "cannot be read");
     one_line(&["compare", good, path(&root().join("README.md"))], 2, "refused 22");
-    for command in ["look", "points", "volume", "page"] {
+    for command in ["look", "points", "volume", "page", "rewrite"] {
         one_line(&[command, path(&root().join("README.md"))], 1, "refused 22");
     }
     one_line(&["points", refused], 1, "refused 3");
@@ -209,7 +209,7 @@ fn nothing_is_overwritten_unasked() {
     let folder = common::folder("overwrite");
     let (grid, out) = (folder.join("sphere.grid"), folder.join("out"));
     std::fs::copy(sample("sphere.grid"), &grid).unwrap();
-    for command in ["look", "explain", "points", "volume", "page", "carve"] {
+    for command in ["look", "explain", "points", "volume", "page", "rewrite", "carve"] {
         std::fs::write(&out, "mine").unwrap();
         one_line(&[command, path(&grid), "-o", path(&out)], 2, "--force overwrites it");
         assert_eq!(std::fs::read(&out).unwrap(), b"mine");
@@ -255,7 +255,7 @@ fn the_standard_output_may_end_early() {
 #[test]
 fn help_names_every_command_and_option() {
     let overview = text(&wattle(&["help"]).stdout);
-    for command in ["look", "explain", "points", "volume", "compare", "page", "carve"] {
+    for command in ["look", "explain", "points", "volume", "compare", "page", "rewrite", "carve"] {
         assert!(overview.contains(&format!("  wattle {command} ")), "{overview}");
         let help = text(&wattle(&["help", command]).stdout);
         assert!(help.starts_with(&format!("wattle {command} ")), "{help}");

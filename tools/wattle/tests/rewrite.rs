@@ -1,0 +1,147 @@
+//! Grid files in their written form, and files that are whole or not there, whatever befalls the writing.
+
+mod common;
+
+use common::{answer, folder, path, sample, samples, status, text, wattle, wattle_on};
+use std::os::unix::fs::{symlink, PermissionsExt};
+use std::os::unix::process::ExitStatusExt;
+use std::path::Path;
+use std::process::{Command, Output, Stdio};
+
+/// The records of a file in another order, by their places in it.
+fn reordered(file: &[u8], order: &[usize]) -> Vec<u8> {
+    let records: Vec<&[u8]> = file[7..].chunks(3 + 2 * usize::from(file[2]) * usize::from(file[3])).collect();
+    assert_eq!(records.len(), order.len());
+    [&file[..7], &order.iter().map(|&i| records[i]).collect::<Vec<_>>().concat()].concat()
+}
+
+/// A grid file of the tests' own: values over all of 16 bits, the first of them missing.
+fn rising(sides: [usize; 3], allowed: u16) -> Vec<u8> {
+    let [a, b, _] = sides;
+    common::grid_file(sides, allowed, |x, y, z| i16::MIN.wrapping_add((257 * (x + a * (y + b * z))) as i16))
+}
+
+#[test]
+fn samples_stay_as_they_are() {
+    for grid in samples() {
+        assert!(answer(&["rewrite", path(&grid)]) == std::fs::read(&grid).unwrap(), "{}", grid.display());
+    }
+}
+
+#[test]
+fn any_order_becomes_rising() {
+    let folder = folder("rewrite");
+    for (sides, order) in [([4, 3, 5], &[4, 3, 2, 1, 0][..]), ([3, 5, 4], &[1, 3, 0, 2]), ([64, 3, 3], &[0, 2, 1])] {
+        let wanted = rising(sides, 0xABCD);
+        let (given, out) = (folder.join("given.grid"), folder.join("out.grid"));
+        let file = reordered(&wanted, order);
+        assert_ne!(file, wanted);
+        std::fs::write(&given, &file).unwrap();
+        assert_eq!(answer(&["rewrite", path(&given), "--force", "-o", path(&out)]), b"");
+        assert_eq!(std::fs::read(&out).unwrap(), wanted);
+        assert_eq!(std::fs::read(&given).unwrap(), file, "the file that was read stays as it is");
+        assert_eq!(wattle_on(&["rewrite", "-"], &file).stdout, wanted);
+        assert!(text(&answer(&["compare", path(&given), path(&out)])).starts_with("the same"));
+    }
+}
+
+#[test]
+fn the_largest_grid() {
+    let wanted = rising([64, 64, 64], 0);
+    let order: Vec<usize> = (0..64).rev().collect();
+    let output = wattle_on(&["rewrite", "-"], &reordered(&wanted, &order));
+    assert!((status(&output), output.stderr.len()) == (0, 0) && output.stdout == wanted);
+}
+
+#[test]
+fn a_file_that_is_refused_leaves_nothing() {
+    let folder = folder("rewrite-refused");
+    let (given, out) = (folder.join("given.grid"), folder.join("out.grid"));
+    let good = rising([4, 3, 5], 0);
+    let second = 7 + 3 + 2 * 12;
+    let wrong = [
+        (21, good[..good.len() - 1].to_vec()),
+        (22, [&good[..second], &[0x57], &good[second + 1..]].concat()),
+        (24, [&good[..second + 2], &[0], &good[second + 3..]].concat()),
+        (25, [&good[..], &[0]].concat()),
+    ];
+    for (number, file) in wrong {
+        std::fs::write(&given, &file).unwrap();
+        let output = wattle(&["rewrite", path(&given), "-o", path(&out)]);
+        let line = text(&output.stderr);
+        assert_eq!((status(&output), output.stdout.len(), line.lines().count()), (1, 0, 1), "{line}");
+        assert!(line.starts_with(&format!("wattle: given.grid: refused {number}: ")), "{line}");
+        assert_eq!((entries(&folder), std::fs::read(&given).unwrap()), (vec!["given.grid".to_string()], file));
+    }
+}
+
+// ---- writing that fails
+
+fn entries(folder: &Path) -> Vec<String> {
+    let listed = std::fs::read_dir(folder).unwrap().map(|e| e.unwrap().file_name().into_string().unwrap());
+    let mut names: Vec<String> = listed.collect();
+    names.sort();
+    names
+}
+
+/// Runs the tool where no file may grow beyond some kilobytes: what is written beyond fails, or the program is killed by it.
+fn confined(words: &[&str], killed: bool) -> Output {
+    let line = format!("ulimit -c 0; ulimit -f 8; {}exec \"$0\" \"$@\"", if killed { "" } else { "trap '' XFSZ; " });
+    let mut command = Command::new("sh");
+    command.args(["-c", &line, env!("CARGO_BIN_EXE_wattle")]).args(words).stdin(Stdio::null()).output().expect("sh runs")
+}
+
+#[test]
+fn a_file_is_whole_or_not_there() {
+    let folder = folder("rewrite-fails");
+    let (grid, out) = (folder.join("grid"), folder.join("out"));
+    let file = rising([64, 64, 3], 0);
+    std::fs::write(&grid, &file).unwrap();
+    let rewrite = ["rewrite", path(&grid), "-o", path(&out)];
+    let forced = ["rewrite", path(&grid), "--force", "-o", path(&out)];
+
+    let failed = |words: &[&str]| {
+        let output = confined(words, false);
+        let line = text(&output.stderr);
+        assert_eq!((status(&output), output.stdout.len(), line.lines().count()), (2, 0, 1), "{line}");
+        assert!(line.starts_with("wattle: ") && line.contains("out cannot be written: "), "{line}");
+    };
+    failed(&rewrite);
+    assert_eq!(entries(&folder), ["grid"]);
+    std::fs::write(&out, "mine").unwrap();
+    failed(&forced);
+    assert_eq!((entries(&folder), std::fs::read(&out).unwrap()), (vec!["grid".to_string(), "out".to_string()], b"mine".to_vec()));
+
+    // killed in the middle of writing: what was there is there, and nothing bears the name where nothing did
+    assert!(confined(&forced, true).status.signal().is_some(), "the program was killed");
+    assert_eq!(std::fs::read(&out).unwrap(), b"mine");
+    std::fs::remove_file(&out).unwrap();
+    assert!(confined(&rewrite, true).status.signal().is_some(), "the program was killed");
+    assert!(!out.exists());
+    // what a killed one left behind is in nobody's way
+    assert_eq!(answer(&rewrite), b"");
+    assert!(std::fs::read(&out).unwrap() == file && std::fs::read(&grid).unwrap() == file);
+}
+
+#[test]
+fn what_is_replaced_keeps_its_place() {
+    let folder = folder("rewrite-replaces");
+    let (out, link) = (folder.join("out"), folder.join("link"));
+    let grid = sample("sphere.grid");
+    std::fs::write(&out, "mine").unwrap();
+    std::fs::set_permissions(&out, PermissionsExt::from_mode(0o640)).unwrap();
+    symlink("out", &link).unwrap();
+    answer(&["rewrite", path(&grid), "--force", "-o", path(&link)]);
+    assert!(link.is_symlink() && std::fs::read(&out).unwrap() == std::fs::read(&grid).unwrap());
+    assert_eq!(out.metadata().unwrap().permissions().mode() & 0o777, 0o640);
+    assert_eq!(entries(&folder), ["link", "out"]);
+    // where the output is another name of the grid file, only that name gets the new one
+    let (falling, other) = (folder.join("falling"), folder.join("other"));
+    let file = reordered(&rising([3, 3, 3], 0), &[2, 1, 0]);
+    std::fs::write(&falling, &file).unwrap();
+    std::fs::hard_link(&falling, &other).unwrap();
+    answer(&["rewrite", path(&falling), "--force", "-o", path(&other)]);
+    assert_eq!((std::fs::read(&falling).unwrap(), std::fs::read(&other).unwrap()), (file, rising([3, 3, 3], 0)));
+    // a pipe is written to, and stays a pipe
+    assert!(answer(&["rewrite", path(&grid), "--force", "-o", "/dev/stdout"]) == std::fs::read(&grid).unwrap());
+}
