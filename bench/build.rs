@@ -6,7 +6,7 @@ use std::process::Command;
 
 fn main() {
     println!("cargo:rerun-if-env-changed=WATTLERUGBY_BEFORE");
-    println!("cargo:rustc-check-cfg=cfg(before, before_points)");
+    println!("cargo:rustc-check-cfg=cfg(before, before_points, before_write)");
     let Ok(folder) = std::env::var("WATTLERUGBY_BEFORE") else { return };
     let archive = Path::new(&folder).join("libcapi.a");
     println!("cargo:rerun-if-changed={}", archive.display());
@@ -19,8 +19,11 @@ fn main() {
     println!("cargo:rustc-link-search=native={}", out.display());
     println!("cargo:rustc-link-lib=static=before");
     println!("cargo:rustc-cfg=before");
-    if names.iter().any(|name| name == "wattlerugby_points") {
-        println!("cargo:rustc-cfg=before_points");
+    // the calls that an older archive has not
+    for call in ["points", "write"] {
+        if names.contains(&format!("wattlerugby_{call}")) {
+            println!("cargo:rustc-cfg=before_{call}");
+        }
     }
 }
 

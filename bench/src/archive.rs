@@ -2,7 +2,7 @@
 //! given one.
 
 use crate::types::{Carved, Local, Machine, Opened, Record, Refused, Sides, Taken};
-use wattlerugby::raw::{CrossingAnswer, PointsAnswer, ReadAnswer, ReadLayerAnswer};
+use wattlerugby::raw::{CrossingAnswer, PointsAnswer, ReadAnswer, ReadLayerAnswer, WriteAnswer};
 
 fn answered<T>(refusal: u8, answer: T) -> Result<T, Refused> {
     match refusal {
@@ -11,22 +11,23 @@ fn answered<T>(refusal: u8, answer: T) -> Result<T, Refused> {
     }
 }
 
-type Points = fn(Record, &[i32], &[u8], usize, &mut [f64]) -> PointsAnswer;
+pub type Points = fn(Record, &[i32], &[u8], usize, &mut [f64]) -> PointsAnswer;
+pub type Write = fn(Sides, u16, &[i16], &mut [u8]) -> WriteAnswer;
 
-/// The calls of an archive that the two Rust programs have not.
+/// The calls of an archive beside the machine's. Older archives have not all of them.
 #[derive(Clone, Copy)]
 pub struct Others {
     pub crossing: fn(Record, &[i32], &[u8], usize, u32) -> CrossingAnswer,
-    /// Older archives have no such call.
     pub points: Option<Points>,
     pub read: fn(&[u8], &mut [i16]) -> ReadAnswer,
     pub read_layer: fn(Sides, &[u8], usize) -> ReadLayerAnswer,
+    pub write: Option<Write>,
 }
 
 /// An archive's calls by slices, from a module that declares them.
 // SAFETY, of each call: the pointers and lengths are those of slices that are borrowed for the call.
 macro_rules! archive {
-    ($module:ident, $type:ident, $name:literal, $points:expr, $($raw:tt)+) => {
+    ($module:ident, $type:ident, $name:literal, $points:expr, $write:expr, $($raw:tt)+) => {
         pub mod $module {
             use super::*;
             use $($raw)+ as raw;
@@ -50,7 +51,7 @@ macro_rules! archive {
                 unsafe { raw::wattlerugby_read_layer(sides, file.as_ptr(), file.len(), start) }
             }
 
-            pub const OTHERS: Others = Others { crossing, points: $points, read, read_layer };
+            pub const OTHERS: Others = Others { crossing, points: $points, read, read_layer, write: $write };
 
             impl Machine for $type {
                 const NAME: &'static str = $name;
@@ -93,7 +94,12 @@ fn points_now(given: Record, dist: &[i32], status: &[u8], position: usize, out: 
     unsafe { wattlerugby::raw::wattlerugby_points(given.into(), d, dist.len(), s, status.len(), position, o, out.len()) }
 }
 
-archive!(now, Ours, "ours", Some(points_now), wattlerugby::raw);
+fn write_now(sides: Sides, allowed: u16, values: &[i16], file: &mut [u8]) -> WriteAnswer {
+    // SAFETY: as in the macro.
+    unsafe { wattlerugby::raw::wattlerugby_write(sides, allowed, values.as_ptr(), values.len(), file.as_mut_ptr(), file.len()) }
+}
+
+archive!(now, Ours, "ours", Some(points_now), Some(write_now), wattlerugby::raw);
 
 /// The same calls under the names that build.rs gave those of the other archive.
 #[cfg(before)]
@@ -150,6 +156,16 @@ mod prefixed {
         pub fn wattlerugby_read(file: *const u8, file_len: usize, values: *mut i16, values_len: usize) -> ReadAnswer;
         #[link_name = "before_wattlerugby_read_layer"]
         pub fn wattlerugby_read_layer(sides: Sides, file: *const u8, file_len: usize, start: usize) -> ReadLayerAnswer;
+        #[cfg(before_write)]
+        #[link_name = "before_wattlerugby_write"]
+        pub fn wattlerugby_write(
+            sides: Sides,
+            allowed: u16,
+            values: *const i16,
+            vl: usize,
+            file: *mut u8,
+            fl: usize,
+        ) -> wattlerugby::raw::WriteAnswer;
         #[link_name = "before_wattlerugby_local_test"]
         pub fn wattlerugby_local_test(kept: u32) -> Local;
     }
@@ -162,7 +178,20 @@ fn points_before(given: Record, dist: &[i32], status: &[u8], position: usize, ou
     unsafe { prefixed::wattlerugby_points(given.into(), d, dist.len(), s, status.len(), position, o, out.len()) }
 }
 
+#[cfg(before_write)]
+fn write_before(sides: Sides, allowed: u16, values: &[i16], file: &mut [u8]) -> WriteAnswer {
+    // SAFETY: as in the macro.
+    unsafe { prefixed::wattlerugby_write(sides, allowed, values.as_ptr(), values.len(), file.as_mut_ptr(), file.len()) }
+}
+
 #[cfg(before_points)]
-archive!(before, Before, "before", Some(points_before), super::prefixed);
+const POINTS_BEFORE: Option<Points> = Some(points_before);
 #[cfg(all(before, not(before_points)))]
-archive!(before, Before, "before", None, super::prefixed);
+const POINTS_BEFORE: Option<Points> = None;
+#[cfg(before_write)]
+const WRITE_BEFORE: Option<Write> = Some(write_before);
+#[cfg(all(before, not(before_write)))]
+const WRITE_BEFORE: Option<Write> = None;
+
+#[cfg(before)]
+archive!(before, Before, "before", POINTS_BEFORE, WRITE_BEFORE, super::prefixed);

@@ -5,6 +5,7 @@
 mod locals;
 mod singles;
 mod stacks;
+mod writes;
 
 use bench::archive;
 use bench::contest::{begin, carve, contest, turns, whole, Calls, Case, Log, Race, Run, State, ROUNDS};
@@ -280,6 +281,12 @@ fn main() {
         let points = took.iter().filter(|t| t.word == "points" && t.sides == LARGEST);
         let each = points.map(|t| 1e3 * t.times[0] / (3 * size(LARGEST)) as f64).fold(0.0, f64::max);
         demands.push(Demand(format!("all points, {}, ns per position", named(LARGEST)), each, 15.0));
+    }
+    if wanted("write") {
+        for (sides, [idiomatic, same_body]) in writes::measure(case) {
+            demands.push(Demand(format!("write, {}, ours/(a)", named(sides)), idiomatic, 1.3));
+            demands.push(Demand(format!("write, {}, ours/the same body in Rust", named(sides)), same_body, 1.3));
+        }
     }
     if wanted("crafted") {
         demands.extend(worst_case().map(|ratio| Demand("carve, every inner voxel pending, ours/before".into(), ratio, 1.3)));

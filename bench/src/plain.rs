@@ -195,6 +195,44 @@ fn remove(sides: Sides, dist: &[i32], status: &mut [u8], i: usize, mut woken: im
     });
 }
 
+/// A layer's values, two bytes each. The compiler sees through it: what runs is the C library's memcpy, which is not held to plain x86-64.
+pub fn zipped(values: &[i16], bytes: &mut [u8]) {
+    for (bytes, value) in bytes.chunks_exact_mut(2).zip(values) {
+        bytes.copy_from_slice(&value.to_le_bytes());
+    }
+}
+
+/// The same with the product's own body: a byte at a time, by index.
+pub fn indexed(values: &[i16], bytes: &mut [u8]) {
+    let mut i = 0;
+    while i < values.len() {
+        let [low, high] = values[i].to_le_bytes();
+        bytes[2 * i] = low;
+        bytes[2 * i + 1] = high;
+        i += 1;
+    }
+}
+
+/// A grid's file into a lent buffer, and its length; `put` writes a layer's values.
+#[inline(never)]
+pub fn write(sides: Sides, allowed: u16, values: &[i16], file: &mut [u8], put: impl Fn(&[i16], &mut [u8])) -> Result<usize, Refused> {
+    let Sides { a, b, c } = sides;
+    let Some(n) = sides.voxels() else { return Err(1) };
+    if values.len() != n {
+        return Err(2);
+    }
+    let record = 3 + 2 * a * b;
+    let Some(file) = file.get_mut(..7 + c * record) else { return Err(26) };
+    let (header, records) = file.split_at_mut(7);
+    header[..5].copy_from_slice(&[0x56, 0x48, a as u8, b as u8, c as u8]);
+    header[5..].copy_from_slice(&allowed.to_le_bytes());
+    for (z, (record, layer)) in records.chunks_exact_mut(record).zip(values.chunks_exact(a * b)).enumerate() {
+        record[..3].copy_from_slice(&[0x56, 0x4C, z as u8]);
+        put(layer, &mut record[3..]);
+    }
+    Ok(file.len())
+}
+
 impl Machine for Plain {
     const NAME: &'static str = "(a) idiomatic Rust";
 

@@ -6,6 +6,7 @@ use bench::contest::{begin, carve, Calls, Case, Log, State, ROUNDS};
 use bench::grids::Shape;
 use bench::types::{size, Sides};
 use bench::{archive, clock};
+use wattlerugby::written;
 
 /// An archive: the calls that change a grid, and the others.
 pub struct Archive {
@@ -46,7 +47,7 @@ impl Scene {
         }
         finished.record.finished = true;
         let at: Vec<usize> = (0..3 * size(case.sides)).filter(|&p| crosses(case.sides, &finished.dist, p)).collect();
-        let file = file(&case);
+        let file = written(case.sides, case.allowed, &case.values).expect("fit sides");
         Scene { begun, carved, finished, file, crossing: at[at.len() / 2], crossings: at.len(), case }
     }
 }
@@ -57,23 +58,13 @@ fn crosses(sides: Sides, dist: &[i32], position: usize) -> bool {
     index / step % side + 1 < side && (dist[index] < 0) != (dist[index + step] < 0)
 }
 
-fn file(case: &Case) -> Vec<u8> {
-    let Sides { a, b, c } = case.sides;
-    let mut bytes = vec![0x56, 0x48, a as u8, b as u8, c as u8];
-    bytes.extend(case.allowed.to_le_bytes());
-    for (z, layer) in case.values.chunks(a * b).enumerate() {
-        bytes.extend([0x56, 0x4C, z as u8]);
-        bytes.extend(layer.iter().flat_map(|v| v.to_le_bytes()));
-    }
-    bytes
-}
-
 /// Buffers that a call may write to.
 #[derive(Clone, PartialEq)]
 pub struct Desk {
     pub state: State,
     pub values: Vec<i16>,
     pub out: Vec<f64>,
+    pub file: Vec<u8>,
 }
 
 /// A call: from which state, whether it leaves that as it was, and numbers of its answer, nothing where the archive has no such call.
@@ -91,7 +82,7 @@ fn carve_some(archive: &Archive, desk: &mut Desk, limit: u32) -> Option<[u64; 3]
     Some([r.examined.into(), r.removed.into(), r.pending.into()])
 }
 
-pub const SINGLES: [Single; 9] = [
+pub const SINGLES: [Single; 10] = [
     Single {
         word: "check",
         title: "check 7: take, refused after it with 5",
@@ -182,12 +173,25 @@ pub const SINGLES: [Single; 9] = [
             Some([r.allowed.into(), 0, 0])
         },
     },
+    Single {
+        word: "write",
+        title: "write, a file",
+        from: |scene| &scene.begun,
+        only_reads: true,
+        run: |archive, scene, desk| {
+            let Case { sides, allowed, values } = &scene.case;
+            let r = (archive.others.write?)(*sides, *allowed, values, &mut desk.file);
+            assert_eq!((r.refusal, r.length), (0, desk.file.len()), "the grid is written");
+            Some([r.length as u64, 0, 0])
+        },
+    },
 ];
 
 impl Single {
     pub fn desk(&self, scene: &Scene) -> Desk {
         let state = (self.from)(scene).clone();
-        Desk { values: vec![0; state.status.len()], out: vec![0.0; 3 * (scene.crossings + 1)], state }
+        let (values, out, file) = (vec![0; state.status.len()], vec![0.0; 3 * (scene.crossings + 1)], vec![0; scene.file.len()]);
+        Desk { state, values, out, file }
     }
 
     /// The least time of each archive in microseconds; all must answer and leave the same.

@@ -8,7 +8,7 @@ use bench::grids::Shape;
 use bench::stack::{used, LEAST};
 use std::hint::black_box;
 
-const CALLS: [&str; 10] = ["begin", "carve", "take", "open", "finish", "crossing", "points", "read", "read_layer", "local test"];
+const CALLS: [&str; 11] = ["begin", "carve", "take", "open", "finish", "crossing", "points", "read", "read_layer", "write", "local test"];
 
 /// Prints the table; the answer is the most that any call takes, in bytes.
 pub fn measure() -> f64 {
@@ -24,7 +24,7 @@ pub fn measure() -> f64 {
 }
 
 /// In the order of `CALLS`.
-fn on(scene: &Scene) -> [usize; 10] {
+fn on(scene: &Scene) -> [usize; 11] {
     let ours = &archives()[0];
     let (calls, others, case) = (&ours.calls, &ours.others, &scene.case);
     let (mut blank, done) = (State::blank(case), &scene.finished);
@@ -33,7 +33,8 @@ fn on(scene: &Scene) -> [usize; 10] {
     let pending = begun.status.iter().position(|&s| s == 3).expect("a pending voxel");
     let (mut values, mut out) = (case.values.clone(), vec![0.0; 3 * scene.crossings]);
     let (index, axis) = (scene.crossing / 3, (scene.crossing % 3) as u32);
-    let points = others.points.expect("ours has it");
+    let (points, write) = (others.points.expect("ours has it"), others.write.expect("ours has it"));
+    let mut file = scene.file.clone();
     [
         used(|| _ = (calls.begin)(case.sides, case.allowed, &case.values, &mut blank.dist, &mut blank.status).expect("begin")),
         used(|| _ = (calls.carve)(begun.record, &begun.dist, &mut begun.status, u32::MAX).expect("carve")),
@@ -44,6 +45,7 @@ fn on(scene: &Scene) -> [usize; 10] {
         used(|| assert_eq!(points(done.record, &done.dist, &done.status, 0, &mut out).count, scene.crossings)),
         used(|| assert_eq!((others.read)(&scene.file, &mut values).refusal, 0)),
         used(|| assert_eq!((others.read_layer)(case.sides, &scene.file, 7).refusal, 0)),
+        used(|| assert_eq!(write(case.sides, case.allowed, &case.values, &mut file).length, scene.file.len())),
         used(|| _ = black_box(local_test(black_box(0x07BE_8BEF)))),
     ]
 }

@@ -3,10 +3,10 @@
 use crate::contest::Calls;
 use crate::grids::{blocks, Random};
 use crate::local::{joined, ranked, searched, Whole};
-use crate::plain::Plain;
+use crate::plain::{indexed, write, zipped, Plain};
 use crate::tuned::Tuned;
 use crate::types::{begun, size, Record, Sides, MISSING};
-use reference::{grid, local, machine};
+use reference::{file, grid, local, machine};
 
 fn theirs(r: Record) -> grid::Record {
     let side = |s: usize| s as u64;
@@ -126,6 +126,33 @@ fn plain_as_the_reference() {
 #[test]
 fn tuned_as_the_reference() {
     (0..3000).for_each(|seed| play(&Calls::of::<Tuned>(), seed));
+}
+
+/// The reference reads what is written, its layers stand in rising z, and the rest of the buffer stays.
+fn written_as_read(put: fn(&[i16], &mut [u8])) {
+    let mut random = Random(1);
+    for _ in 0..300 {
+        let mut side = || 3 + random.below(5) as usize;
+        let sides = Sides { a: side(), b: side(), c: side() };
+        let (n, record) = (size(sides), 3 + 2 * sides.a * sides.b);
+        let (length, allowed) = (7 + sides.c * record, random.word() as u16);
+        let values: Vec<i16> = (0..n).map(|_| random.word() as i16).collect();
+        let (mut lent, mut back) = (vec![0xA5; length + 3], vec![0; n]);
+        assert_eq!(write(Sides { c: 2, ..sides }, allowed, &values[1..], &mut lent[..0], put), Err(1));
+        assert_eq!(write(sides, allowed, &values[1..], &mut lent[..0], put), Err(2));
+        assert_eq!(write(sides, allowed, &values, &mut lent[..length - 1], put), Err(26));
+        assert_eq!(lent, vec![0xA5; length + 3]);
+        assert_eq!(write(sides, allowed, &values, &mut lent, put), Ok(length));
+        assert_eq!(file::read(&lent[..length], &mut back, 64), Ok((theirs(begun(sides, 0)).sides, allowed)));
+        assert!((0..sides.c).all(|z| usize::from(lent[7 + z * record + 2]) == z));
+        assert_eq!((back, &lent[length..]), (values, &[0xA5; 3][..]));
+    }
+}
+
+#[test]
+fn files_as_the_reference_reads_them() {
+    written_as_read(zipped);
+    written_as_read(indexed);
 }
 
 #[test]
