@@ -1,4 +1,4 @@
-//! Grid files and the line of the program carve (document 01, "The grid file").
+//! Grid files and the line of the program carve (document 01, "The grid file"); the writer of such files (document 02, CR 1).
 
 use crate::grid::{begin, Refused, Sides};
 use crate::machine::{carve, finish, open};
@@ -64,6 +64,29 @@ pub fn read(file: &[u8], lent: &mut [i16], greatest_side: u64) -> Result<(Sides,
     }
     lent.copy_from_slice(&values);
     Ok((sides, u16::from_le_bytes([file[5], file[6]])))
+}
+
+/// The length of the written form, which the lent buffer's first bytes are then; they are written only where nothing is refused.
+pub fn write(sides: &Sides, t: u16, values: &[i16], lent: &mut [u8]) -> Result<usize, Refused> {
+    if !sides.fit() {
+        return Err(1);
+    }
+    if values.len() != sides.n() {
+        return Err(2);
+    }
+    let layer = (sides.a * sides.b) as usize;
+    let length = 7 + sides.c as usize * (3 + 2 * layer);
+    if lent.len() < length {
+        return Err(26);
+    }
+    let mut file = vec![0x56, 0x48, sides.a as u8, sides.b as u8, sides.c as u8];
+    file.extend(t.to_le_bytes());
+    for (z, layer) in values.chunks(layer).enumerate() {
+        file.extend([0x56, 0x4C, z as u8]);
+        file.extend(layer.iter().flat_map(|value| value.to_le_bytes()));
+    }
+    lent[..length].copy_from_slice(&file);
+    Ok(length)
 }
 
 /// The line that the program prints for a file.

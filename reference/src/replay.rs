@@ -1,6 +1,6 @@
 //! Call scripts (docs/CALL-SCRIPTS.md): one command a line in, one answer a line out for each call.
 
-use crate::file::{layer, program_line, read};
+use crate::file::{layer, program_line, read, write};
 use crate::grid::{begin, Record, Refused, Sides};
 use crate::local::local_test;
 use crate::machine::{carve, crossing, finish, open, points, take};
@@ -19,8 +19,15 @@ pub struct Replay {
     hash_after_each: bool,
 }
 
-/// The longest buffer that `len` makes, and that `points` lends.
+/// The longest buffer that `len` makes, and that `points` and `write` lend.
 const LONGEST: usize = 1 << 20;
+
+fn length(words: &mut Words) -> Result<usize, Mistake> {
+    match words.number()? {
+        len if len <= LONGEST => Ok(len),
+        len => Err(format!("out of range: {len}")),
+    }
+}
 
 fn fnv(bytes: impl Iterator<Item = u8>) -> String {
     let mut h: u64 = 0xcbf2_9ce4_8422_2325;
@@ -43,13 +50,7 @@ fn edit<T: Copy + Default + TryFrom<i128>>(buffer: &mut Vec<T>, words: &mut Word
             *buffer.get_mut(i).ok_or(format!("set past the end: {i}"))? = v;
         }
         "list" => *buffer = words.numbers()?,
-        "len" => {
-            let len: usize = words.number()?;
-            if len > LONGEST {
-                return Err(format!("out of range: {len}"));
-            }
-            buffer.resize(len, T::default());
-        }
+        "len" => buffer.resize(length(words)?, T::default()),
         other => return Err(format!("unknown buffer command: {other}")),
     }
     Ok(())
@@ -160,10 +161,12 @@ impl Replay {
             "autohash" => self.hash_after_each = flag(words)?,
             "hash" => return Ok(Some(self.hashes())),
             "dump" => return self.dump(words.word()?).map(Some),
+            "showfile" => return Ok(Some(self.file.iter().map(|b| format!("{b:02X}")).collect())),
             "program" => return Ok(Some(program_line(&self.file))),
             _ => {
                 let answer = match command {
                     "points" => self.points(words)?,
+                    "write" => self.write(words)?,
                     _ => match self.call(command, words)? {
                         Ok(values) => format!("{command} ok {values}"),
                         Err(number) => format!("{command} refused {number}"),
@@ -196,16 +199,26 @@ impl Replay {
 
     /// Lends a buffer that is told by its bytes, whatever the answer.
     fn points(&self, words: &mut Words) -> Result<String, Mistake> {
-        let (position, capacity): (u64, usize) = (words.number()?, words.number()?);
-        if capacity > LONGEST {
-            return Err(format!("out of range: {capacity}"));
-        }
+        let (position, capacity): (u64, usize) = (words.number()?, length(words)?);
         let mut out = vec![f64::from_bits(0x5A5A_5A5A_5A5A_5A5A); capacity];
         let answer = match points(&self.record, &self.dist, &self.status, position, &mut out) {
             Ok(all) => format!("ok count {} next {}", all.count, all.next),
             Err(number) => format!("refused {number}"),
         };
         Ok(format!("points {answer} bytes {}", fnv(out.iter().flat_map(|d| d.to_bits().to_le_bytes()))))
+    }
+
+    /// Lends a buffer likewise; its first bytes are the file from then on, unless the call is refused.
+    fn write(&mut self, words: &mut Words) -> Result<String, Mistake> {
+        let mut lent = vec![0xA5; length(words)?];
+        let answer = match write(&self.sides, self.t, &self.values, &mut lent) {
+            Ok(length) => {
+                self.file = lent[..length].to_vec();
+                format!("ok length {length}")
+            }
+            Err(number) => format!("refused {number}"),
+        };
+        Ok(format!("write {answer} buffer {}", fnv(lent.into_iter())))
     }
 
     fn call(&mut self, name: &str, words: &mut Words) -> Result<Result<String, Refused>, Mistake> {

@@ -1,6 +1,7 @@
 //! Document 01's worked cases A, C and D.
 
-use reference::file::program_line;
+use reference::file::{program_line, write};
+use reference::grid::Sides;
 use reference::replay::Replay;
 
 fn run(script: &str) -> Vec<String> {
@@ -50,6 +51,15 @@ fn case_d() {
     let gone = |s: &str, i: usize| s.trim_matches(['[', ']']).split(", ").nth(i) == Some("0");
     assert!(gone(&said[2], 22) && !gone(&said[2], 25));
     assert!(gone(&said[4], 22) && gone(&said[4], 25));
+}
+
+#[test]
+fn case_d_is_written_as_the_paper_has_it() {
+    let values: Vec<i16> = (0..48).map(|i| if i == 21 || i == 26 { -6 } else { 6 }).collect();
+    let file = file_d();
+    let mut lent = vec![0xA5; file.len() + 2];
+    assert_eq!(write(&Sides { a: 4, b: 4, c: 3 }, 0, &values, &mut lent), Ok(file.len()));
+    assert_eq!(lent, [file, vec![0xA5, 0xA5]].concat());
 }
 
 #[test]
