@@ -6,7 +6,7 @@ use reference::replay::Replay;
 use std::collections::BTreeMap;
 
 /// The calls that can be refused.
-const CALLS: [&str; 10] = ["begin", "carve", "take", "open", "finish", "crossing", "points", "readlayer", "read", "program"];
+const CALLS: [&str; 11] = ["begin", "carve", "take", "open", "finish", "crossing", "points", "readlayer", "read", "program", "write"];
 
 /// Pairs of faults that no input has together, and why.
 const IMPOSSIBLE: &[(&str, Check, Check, &str)] = &[
@@ -75,7 +75,7 @@ fn causes(call: &str, check: Check) -> &'static [&'static str] {
         ("program", "1") => FILE_SIDES,
         (_, "1") => SIDES,
         ("begin", "2") => &["values short", "values long", "dist short", "dist long", "status short", "status long"],
-        ("read", "2") => &["values short", "values long"],
+        ("read" | "write", "2") => &["values short", "values long"],
         (_, "2") => LENGTHS,
         (_, "3") => BORDER,
         (_, "4") => &["none below 0", "missing ones alone"],
@@ -86,6 +86,7 @@ fn causes(call: &str, check: Check) -> &'static [&'static str] {
         (_, "21") => &["nothing left", "cut off"],
         (_, "22" | "header 22") => MARK,
         (_, "23") => Z,
+        (_, "26") => &["nothing lent", "a byte short", "more than a byte short"],
         _ => &[],
     }
 }
@@ -159,6 +160,7 @@ const ALSO: &[(&str, usize)] = &[
     ("finish on 64 64 64", 1),
     ("crossing on 64 64 64", 1),
     ("points on 64 64 64", 1),
+    ("write on 64 64 64", 1),
     ("begin on three different sides", 20),
     ("carve on three different sides", 20),
     ("take on three different sides", 20),
@@ -166,6 +168,7 @@ const ALSO: &[(&str, usize)] = &[
     ("finish on three different sides", 10),
     ("crossing on three different sides", 20),
     ("points on three different sides", 20),
+    ("write on three different sides", 20),
     // files
     ("read: a side of 64", 3),
     ("read: three different sides", 5),
@@ -177,6 +180,29 @@ const ALSO: &[(&str, usize)] = &[
     ("program: an opening", 2),
     ("program: two openings", 1),
     ("program: a removal", 5),
+    // files written
+    ("write: lent exactly the length", 20),
+    ("write: lent a byte more", 5),
+    ("write: lent more than twice the length", 5),
+    ("write: a is 64", 1),
+    ("write: b is 64", 1),
+    ("write: c is 64", 1),
+    ("write: T of 0", 1),
+    ("write: T of 255", 1),
+    ("write: T of 256", 1),
+    ("write: T of 65535", 1),
+    ("write: a value of -32768", 5),
+    ("write: a value of -32767", 1),
+    ("write: a value of 32767", 1),
+    ("write: values of both signs", 20),
+    ("write: a negative border voxel", 5),
+    ("write: no negative voxel", 2),
+    ("write: the record has other sides", 5),
+    ("write: the record has another T", 5),
+    ("write: dist and status of other lengths", 2),
+    ("write: a longer file before", 2),
+    ("write: the file's own grid, its layers out of order", 5),
+    ("write: the file's own grid, its layers in order", 5),
     // the local test
     ("local", 2400),
     ("local: bits from 27 on", 1),

@@ -1,5 +1,5 @@
-//! Every fault that a call has, each by itself and whether or not another one is answered first. From document 01's numbers, and docs/RULES.md
-//! for `points`, which is ours, with the order of
+//! Every fault that a call has, each by itself and whether or not another one is answered first. From document 01's numbers, document 02's for
+//! `write`, and docs/RULES.md for `points`, which is ours, with the order of
 //! checks beside them, and not from the reference's code: so the kit can be asked for every pair of faults, and the reference is held to the order.
 
 use reference::grid::Sides;
@@ -25,7 +25,7 @@ impl Fault {
     }
 }
 
-/// A call's checks in their order (document 01, the last two sentences of "Numbers that come from the state").
+/// A call's checks in their order (document 01, the last two sentences of "Numbers that come from the state"; for `write` document 02, CR 1).
 pub fn order(call: &str) -> Option<&'static [Check]> {
     Some(match call {
         "begin" => &["1", "2", "3", "4"],
@@ -38,6 +38,7 @@ pub fn order(call: &str) -> Option<&'static [Check]> {
         "readlayer" => &["1", "21", "22", "23"],
         "read" => &["header 21", "header 22", "1", "2", "21", "22", "23", "24", "25"],
         "program" => &["header 21", "header 22", "1", "21", "22", "23", "24", "25", "3", "4"],
+        "write" => &["1", "2", "26"],
         _ => return None,
     })
 }
@@ -66,6 +67,11 @@ pub fn faults(state: &Replay, command: &str) -> Option<Vec<Fault>> {
             let (sides, values) = contents(&state.file);
             found.values(&sides, &values);
         }
+        "write" => {
+            found.sides(&state.sides, 64);
+            found.lengths(&state.sides, &[("values", state.values.len())]);
+            found.room(&state.sides, argument(1));
+        }
         "points" => {
             found.record(state);
             found.position(&state.record.sides, argument(1));
@@ -82,6 +88,12 @@ pub fn faults(state: &Replay, command: &str) -> Option<Vec<Fault>> {
 /// n, whatever the sides are.
 fn size(sides: &Sides) -> u128 {
     u128::from(sides.a).saturating_mul(sides.b.into()).saturating_mul(sides.c.into())
+}
+
+/// The length of a written file, whatever the sides are.
+pub fn written_length(sides: &Sides) -> u128 {
+    let layer = (2 * u128::from(sides.a)).saturating_mul(sides.b.into()).saturating_add(3);
+    layer.saturating_mul(sides.c.into()).saturating_add(7)
 }
 
 fn place(sides: &Sides, i: usize) -> [u128; 3] {
@@ -284,6 +296,14 @@ impl Found {
         let end = 3 * size(sides).min(1 << 70);
         self.if_so(u128::from(position) == end + 1, "5", "one over");
         self.if_so(u128::from(position) > end + 1, "5", "far over");
+    }
+
+    /// 26.
+    fn room(&mut self, sides: &Sides, lent: u64) {
+        let (lent, length) = (u128::from(lent), written_length(sides));
+        self.if_so(lent == 0, "26", "nothing lent");
+        self.if_so(lent > 0 && lent + 1 == length, "26", "a byte short");
+        self.if_so(lent > 0 && lent + 1 < length, "26", "more than a byte short");
     }
 
     // ---- files

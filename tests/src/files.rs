@@ -17,7 +17,12 @@ pub fn file_of(g: &Grid, order: &[usize]) -> Vec<u8> {
     file
 }
 
-fn shuffled(r: &mut Random, n: usize) -> Vec<usize> {
+/// Bytes as a script has them.
+pub fn hex(bytes: &[u8]) -> String {
+    bytes.iter().map(|b| format!("{b:02x}")).collect()
+}
+
+pub fn shuffled(r: &mut Random, n: usize) -> Vec<usize> {
     let mut order: Vec<usize> = (0..n).collect();
     for i in (1..n).rev() {
         order.swap(i, r.below(i as u64 + 1) as usize);

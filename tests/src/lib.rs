@@ -8,4 +8,5 @@ pub mod files;
 pub mod grids;
 pub mod mutants;
 pub mod random;
+pub mod round_trip;
 pub mod scripts;

@@ -1,6 +1,6 @@
-//! Call scripts (docs/CALL-SCRIPTS.md). Those from seeds: lists of calls from begin, crafted records, unfit ones, finished grids, files, blocks;
-//! each is made along with a run of the reference, so that it can choose voxels by what they are at that moment. And those written out, in the
-//! modules below: every fault, every worked case, and what chance leaves out.
+//! Call scripts (docs/CALL-SCRIPTS.md). Those from seeds: lists of calls from begin, crafted records, unfit ones, finished grids, files read and
+//! written, blocks; each is made along with a run of the reference, so that it can choose voxels by what they are at that moment. And those
+//! written out, in the modules below: every fault, every worked case, and what chance leaves out.
 
 pub mod cases;
 mod crafted;
@@ -9,8 +9,9 @@ pub mod language;
 mod points;
 mod refusals;
 mod shapes;
+mod writing;
 
-use crate::files::file;
+use crate::files::{file, hex};
 use crate::grids::{grid, Grid};
 use crate::random::Random;
 use reference::grid::{begin, Record, Sides};
@@ -18,10 +19,10 @@ use reference::machine::{carve, finish, open, take};
 use std::fmt::{Display, Write};
 
 /// The kinds of scripts from seeds.
-pub const SEEDED: [&str; 8] = ["lists", "takes", "openings", "crafted", "unfit", "crossings", "files", "blocks"];
+pub const SEEDED: [&str; 9] = ["lists", "takes", "openings", "crafted", "unfit", "crossings", "files", "writes", "blocks"];
 
 /// The kinds of scripts that are written out. What takes longest stands last.
-pub const WRITTEN: [&str; 6] = ["cases", "language", "refusals", "damage", "points", "shapes"];
+pub const WRITTEN: [&str; 7] = ["cases", "language", "refusals", "damage", "writing", "points", "shapes"];
 
 /// How many scripts of each seeded kind a second supplier is given.
 const GIVEN: u64 = 40;
@@ -38,6 +39,7 @@ pub fn conformance(kind: &str) -> Vec<String> {
         "language" => language::scripts(),
         "refusals" => refusals::scripts(),
         "damage" => damage::scripts(),
+        "writing" => writing::scripts(),
         "points" => points::scripts(),
         "shapes" => shapes::scripts(),
         _ => Vec::new(),
@@ -58,6 +60,7 @@ pub fn script(kind: &str, seed: u64, greatest: i64) -> String {
         "unfit" => m.unfit(greatest),
         "crossings" => m.crossings(greatest),
         "files" => m.file(seed, greatest),
+        "writes" => m.writes(greatest),
         "large" => m.large(),
         _ => m.blocks(),
     }
@@ -288,14 +291,14 @@ impl Maker {
         let count = self.r.between(3, 12);
         self.calls(count, [50, 20, 28, 0]);
         self.and_finish();
+        self.write(&sides);
     }
 
     // ---- files
 
     fn file(&mut self, seed: u64, greatest: i64) {
         let bytes = file(seed, greatest);
-        let hex: String = bytes.iter().map(|b| format!("{b:02x}")).collect();
-        self.say(format!("autohash 1\nsides 3 3 3\nT 0\nfile {hex}\nprogram"));
+        self.say(format!("autohash 1\nsides 3 3 3\nT 0\nfile {}\nprogram", hex(&bytes)));
         self.show_record();
         let side = |i: usize| bytes.get(i).map_or(3, |&s| u64::from(s));
         let [a, b, c] = [side(2), side(3), side(4)];

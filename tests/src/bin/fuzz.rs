@@ -3,6 +3,8 @@
 //! usage: fuzz check REPLAY FOLDER                 the conformance scripts against their answers, and the lines that a tool must refuse
 //!        fuzz show FOLDER KIND NUMBER             prints one conformance script
 //!        fuzz program PROGRAM FOLDER              the program's line for each file of the conformance scripts
+//!        fuzz rewrite REPLAY FOLDER SAMPLES       every good file of these folders, and of a thousand seeds, read, written and read again
+//!        fuzz rewriting FOLDER SAMPLES NUMBER     prints one of its scripts
 //!        fuzz write FOLDER                        makes the conformance files; fails where one of the list's entries is missing
 //!        fuzz list                                that list, with how many calls meet each entry
 //!        fuzz run REPLAY COUNT [FIRST SEED]       COUNT random scripts
@@ -13,11 +15,13 @@ use reference::replay::Replay;
 use std::collections::BTreeMap;
 use std::path::Path;
 use std::process::ExitCode;
-use tests::compare::{line_of, prints, read_kind, reference_lines, Differences, Script, Tool};
+use tests::compare::{bears_on_the_file, line_of, prints, read_kind, reference_lines, Differences, Script, Tool};
 use tests::conformance::{kinds, Made, MISTAKES_FILE};
+use tests::round_trip;
 use tests::scripts::{script, SEEDED};
 
-const USAGE: &str = "usage: fuzz check REPLAY FOLDER | show FOLDER KIND NUMBER | program PROGRAM FOLDER | write FOLDER | list | \
+const USAGE: &str = "usage: fuzz check REPLAY FOLDER | show FOLDER KIND NUMBER | program PROGRAM FOLDER | \
+                     rewrite REPLAY FOLDER SAMPLES | rewriting FOLDER SAMPLES NUMBER | write FOLDER | list | \
                      run REPLAY COUNT [FIRST SEED] | script KIND SEED GREATEST | blocks REPLAY [FIRST COUNT]";
 
 /// Whether all is the same; an error where that could not be found out.
@@ -42,6 +46,8 @@ fn command(words: &[&str]) -> Same {
         ["check", replay, folder] => check(&Tool::named(replay), Path::new(folder)),
         ["show", folder, kind, which] => show(Path::new(folder), kind, which),
         ["program", program, folder] => program_lines(program, Path::new(folder)),
+        ["rewrite", replay, folder, samples] => rewrite(&Tool::named(replay), folder, samples),
+        ["rewriting", folder, samples, which] => rewriting(folder, samples, which),
         ["write", folder] => Made::new()?.write(Path::new(folder)).map(|()| true),
         ["list"] => list(),
         ["run", replay, count] => run(&Tool::named(replay), number(count)?, 1),
@@ -129,7 +135,7 @@ fn program_lines(program: &str, folder: &Path) -> Same {
                         differ += 1;
                         println!("{}, program: wanted {wanted:?}, {program} said {said:?}", script.name);
                     }
-                } else if command.starts_with("file") || command.starts_with("append") {
+                } else if bears_on_the_file(command) {
                     state.line(command)?;
                 }
             }
@@ -137,6 +143,24 @@ fn program_lines(program: &str, folder: &Path) -> Same {
     }
     println!("{files} files of the conformance scripts, {differ} lines of the program differ");
     Ok(differ == 0)
+}
+
+// ---- files read and written
+
+fn rewrite(replay: &Tool, folder: &str, samples: &str) -> Same {
+    let scripts = round_trip::scripts(Path::new(folder), Path::new(samples))?;
+    let mut found = Differences::default();
+    let number = |script: &Script| script.name.trim_start_matches("rewrite ").to_string();
+    found.of(replay, &scripts, |script| format!("{} rewriting {folder} {samples} {}", this(), number(script)))?;
+    println!("{} files read, written and read again: {} lines differ in {} of them", scripts.len(), found.lines, found.scripts);
+    Ok(found.lines == 0)
+}
+
+fn rewriting(folder: &str, samples: &str, which: &str) -> Same {
+    let scripts = round_trip::scripts(Path::new(folder), Path::new(samples))?;
+    let found = scripts.iter().find(|script| script.name == format!("rewrite {which}")).ok_or(format!("no script rewrite {which}"))?;
+    print!("{}", found.text);
+    Ok(true)
 }
 
 // ---- scripts from seeds

@@ -1,5 +1,7 @@
 //! What a call is about, besides its faults: the entries of `ALSO` that it meets if it is done.
 
+use crate::faults::written_length;
+use reference::file::read;
 use reference::grid::Sides;
 use reference::replay::Replay;
 
@@ -15,6 +17,7 @@ pub fn of(state: &Replay, call: &str, words: &[&str]) -> Vec<String> {
         "points" => points(state, number(1), number(2)),
         "read" | "program" => file(call, &state.file),
         "readlayer" => vec![(number(1) > 7).then_some("readlayer: not the first record".to_string())].into_iter().flatten().collect(),
+        "write" => write(state, number(1)),
         "local" => local(words),
         _ => Vec::new(),
     };
@@ -25,8 +28,8 @@ pub fn of(state: &Replay, call: &str, words: &[&str]) -> Vec<String> {
         "crossing" | "points" => seen.push(format!("{call}: finished {byte}")),
         _ => {}
     }
-    if ["begin", "carve", "take", "open", "finish", "crossing", "points"].contains(&call) {
-        let sides = if call == "begin" { state.sides } else { state.record.sides };
+    if ["begin", "carve", "take", "open", "finish", "crossing", "points", "write"].contains(&call) {
+        let sides = if ["begin", "write"].contains(&call) { state.sides } else { state.record.sides };
         seen.extend(chosen(&[
             (sides == Sides { a: 64, b: 64, c: 64 }, format!("{call} on 64 64 64")),
             (different(&sides), format!("{call} on three different sides")),
@@ -192,18 +195,59 @@ fn crosses(state: &Replay, position: u64) -> bool {
     sides.index(there).is_some_and(|next| (state.dist[index] < 0) != (state.dist[next] < 0))
 }
 
+/// Whether the z of a file's layers rise; its header is whole.
+fn layers_rise(bytes: &[u8]) -> bool {
+    let layer = 3 + 2 * usize::from(bytes[2]) * usize::from(bytes[3]);
+    bytes[7..].chunks_exact(layer).map(|record| record[2]).is_sorted()
+}
+
 fn file(call: &str, bytes: &[u8]) -> Vec<String> {
     let [_, _, a, b, c, low, high, ..] = bytes else { return Vec::new() };
     let sides = Sides { a: u64::from(*a), b: u64::from(*b), c: u64::from(*c) };
-    let layer = 3 + 2 * (sides.a * sides.b) as usize;
-    let order: Vec<u8> = bytes[7..].chunks_exact(layer).map(|record| record[2]).collect();
     let greatest = sides.a.max(sides.b).max(sides.c);
     chosen(&[
         (greatest == 64, format!("{call}: a side of 64")),
         (greatest == 24, format!("{call}: a side of 24")),
         (different(&sides), format!("{call}: three different sides")),
-        (!order.is_sorted(), format!("{call}: layers out of order")),
+        (!layers_rise(bytes), format!("{call}: layers out of order")),
         (u16::from_le_bytes([*low, *high]) > 255, format!("{call}: T over 255")),
+    ])
+}
+
+/// Whether the file is of these sides, T and values.
+fn is_of_the_state(state: &Replay) -> bool {
+    let mut values = vec![0; state.values.len()];
+    read(&state.file, &mut values, 64) == Ok((state.sides, state.t)) && values == state.values
+}
+
+fn write(state: &Replay, lent: u64) -> Vec<String> {
+    let (sides, values) = (&state.sides, &state.values);
+    if !sides.fit() || values.len() != sides.n() {
+        return Vec::new();
+    }
+    let length = written_length(sides) as u64;
+    let own = is_of_the_state(state);
+    let negatives = values.iter().filter(|&&v| negative(v)).count();
+    chosen(&[
+        (lent == length, "write: lent exactly the length"),
+        (lent == length + 1, "write: lent a byte more"),
+        (lent > 2 * length, "write: lent more than twice the length"),
+        (sides.a == 64, "write: a is 64"),
+        (sides.b == 64, "write: b is 64"),
+        (sides.c == 64, "write: c is 64"),
+        (true, &format!("write: T of {}", state.t)[..]),
+        (values.contains(&i16::MIN), "write: a value of -32768"),
+        (values.contains(&-32767), "write: a value of -32767"),
+        (values.contains(&32767), "write: a value of 32767"),
+        (negatives > 0 && values.iter().any(|&v| v > 0), "write: values of both signs"),
+        ((0..values.len()).any(|i| negative(values[i]) && sides.border(i)), "write: a negative border voxel"),
+        (negatives == 0, "write: no negative voxel"),
+        (state.record.sides != *sides, "write: the record has other sides"),
+        (state.record.t != state.t, "write: the record has another T"),
+        (state.dist.len() != sides.n() && state.status.len() != sides.n(), "write: dist and status of other lengths"),
+        (state.file.len() as u64 > length, "write: a longer file before"),
+        (own && !layers_rise(&state.file), "write: the file's own grid, its layers out of order"),
+        (own && layers_rise(&state.file), "write: the file's own grid, its layers in order"),
     ])
 }
 

@@ -1,7 +1,7 @@
 //! Grid files with each fault alone, by every clause, and with every two of them; and whole files at the ends of the sides.
 //! Each file goes through read, the program and, record by record, readlayer.
 
-use crate::files::file_of;
+use crate::files::{file_of, hex};
 use crate::grids::{Grid, MISSING};
 
 #[derive(Clone, Copy)]
@@ -75,10 +75,6 @@ fn damaged(damages: &[Damage]) -> (Vec<u8>, i64) {
     file.truncate(end);
     let lent = file.get(2..5).map_or(VOXELS as i64, |s| s.iter().map(|&side| i64::from(side)).product::<i64>());
     (file, (if lent > 1 << 20 { VOXELS as i64 } else { lent }) + more)
-}
-
-fn hex(bytes: &[u8]) -> String {
-    bytes.iter().map(|b| format!("{b:02x}")).collect()
 }
 
 /// Lines that give a file to every call that reads one.

@@ -19,6 +19,10 @@ const SCRIPTS: &[&str] = &[
      values fill 5\nbegin\nrec show 0\ncarve 1\n",
     "# autohash is for calls alone\nautohash 0\nvalues set 13 -5\nbegin\nlocal 0\nautohash 1\ncarve 1\nlocal 0\nread\nreadlayer 0\nrec show 0\nhash\n\
      dump status\nprogram\nautohash 0\ncarve 1\nautohash 1\n",
+    "# write at the ends of its range, and showfile in upper case, of no file too, and without a hash\nshowfile\nwrite 0\nwrite 1048576\nshowfile\n\
+     write 0070\nwrite 69\nautohash 0\nwrite 70\nwrite 69\nshowfile\nautohash 1\nfile aBcDeF0123456789\nshowfile\nappend 00fe\nshowfile\n\
+     write 2\nshowfile\nsides 65 3 3\nwrite 1048576\nrawsides 18446744073709551615 18446744073709551615 18446744073709551615\nT 65535\nwrite 0\n\
+     write 1048576\nshowfile\nfile\nshowfile\nrec show 0\n",
 ];
 
 /// Lines that a tool must refuse, each a script by itself: it prints nothing, and its status is 2.
@@ -62,6 +66,16 @@ pub const MISTAKES: &[&str] = &[
     "readlayer -1",
     "readlayer 18446744073709551616",
     "readlayer 7 7",
+    "write",
+    "write -1",
+    "write 1048577",
+    "write 4294967366",
+    "write 18446744073709551616",
+    "write 70 70",
+    "write all",
+    "write 70.0",
+    "showfile 0",
+    "showfile 5648",
     "local",
     "local g",
     "local +1",

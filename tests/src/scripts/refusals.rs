@@ -4,7 +4,7 @@ use crate::faults::order;
 
 /// A fault of a call: what brings it about, and the argument that it needs.
 #[derive(Clone, Copy)]
-struct Fault<'a> {
+pub(super) struct Fault<'a> {
     check: &'a str,
     lines: &'a str,
     index: Option<&'a str>,
@@ -12,19 +12,19 @@ struct Fault<'a> {
 }
 
 /// A state in which a call is done, and what spoils it. The first fault of a number is the one that stands in pairs.
-struct Subject<'a> {
-    call: &'a str,
-    index: &'a str,
-    axis: &'a str,
-    state: String,
-    faults: Vec<Fault<'a>>,
+pub(super) struct Subject<'a> {
+    pub call: &'a str,
+    pub index: &'a str,
+    pub axis: &'a str,
+    pub state: String,
+    pub faults: Vec<Fault<'a>>,
 }
 
-const fn state(check: &'static str, lines: &'static str) -> Fault<'static> {
+pub(super) const fn state(check: &'static str, lines: &'static str) -> Fault<'static> {
     Fault { check, lines, index: None, axis: None }
 }
 
-const fn at(check: &'static str, lines: &'static str, index: &'static str) -> Fault<'static> {
+pub(super) const fn at(check: &'static str, lines: &'static str, index: &'static str) -> Fault<'static> {
     Fault { check, lines, index: Some(index), axis: None }
 }
 
@@ -206,7 +206,7 @@ impl Subject<'_> {
         format!("{}{}{one}{}{}", self.state, first.lines, second.lines, self.line(&[first, second]))
     }
 
-    fn scripts(&self) -> Vec<String> {
+    pub fn scripts(&self) -> Vec<String> {
         let mut scripts = vec![format!("# {}: done, and each fault alone\n{}{}", self.call, self.state, self.line(&[]))];
         self.faults.iter().for_each(|fault| scripts[0] += &self.with_fault(fault));
         let checks = order(self.call).unwrap_or(&[]);

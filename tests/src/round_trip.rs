@@ -1,0 +1,137 @@
+//! Every good file at hand is read, written and read again: sides, T and values are the same both times, and what is written is the file with its
+//! layers in rising z, so the same bytes where they rise in it.
+
+use crate::compare::{bears_on_the_file, read_kind, reference_lines, Script};
+use crate::conformance::kinds;
+use crate::files::{file, hex};
+use reference::file::read;
+use reference::replay::Replay;
+use std::collections::BTreeSet;
+use std::path::Path;
+
+/// How many seeds name a file each.
+const SEEDS: u64 = 1000;
+
+/// A file and where it comes from.
+type Named = (String, Vec<u8>);
+
+/// The files that the conformance scripts have at any time.
+fn of_scripts(folder: &Path) -> Result<Vec<Named>, String> {
+    let mut found = Vec::new();
+    for kind in kinds() {
+        for script in read_kind(folder, kind)? {
+            let mut state = Replay::new();
+            for command in script.text.lines().filter(|command| bears_on_the_file(command)) {
+                state.line(command)?;
+                found.push((script.name.clone(), state.file.clone()));
+            }
+        }
+    }
+    Ok(found)
+}
+
+fn of_samples(folder: &Path) -> Result<Vec<Named>, String> {
+    let told = |wrong: std::io::Error| format!("{} cannot be read: {wrong}", folder.display());
+    let mut found = Vec::new();
+    for entry in std::fs::read_dir(folder).map_err(told)? {
+        let path = entry.map_err(told)?.path();
+        if path.extension().is_some_and(|end| end == "grid") {
+            found.push((path.display().to_string(), std::fs::read(&path).map_err(told)?));
+        }
+    }
+    found.sort();
+    Ok(found)
+}
+
+fn of_seeds() -> impl Iterator<Item = Named> {
+    (1..=SEEDS).map(|seed| (format!("seed {seed}"), file(seed, if seed.is_multiple_of(8) { 24 } else { 10 })))
+}
+
+/// How many values a file has; nothing where it is refused.
+fn values_in(file: &[u8]) -> Option<usize> {
+    let n = file.get(2..5)?.iter().map(|&side| usize::from(side)).product();
+    read(file, &mut vec![0; n], 64).ok().map(|_| n)
+}
+
+/// A good file with its layers in rising z.
+fn rising(file: &[u8]) -> Vec<u8> {
+    let (header, layers) = file.split_at(7);
+    let mut layers: Vec<&[u8]> = layers.chunks(3 + 2 * usize::from(file[2]) * usize::from(file[3])).collect();
+    layers.sort_by_key(|layer| layer[2]);
+    [header, &layers.concat()].concat()
+}
+
+/// Reads the file, writes what was read, and reads that where nothing is as the file has it.
+fn commands(file: &[u8], n: usize) -> String {
+    let other_t = u16::from_le_bytes([file[5], file[6]]) ^ 1;
+    let written = format!("write {}\nshowfile\nrawsides 65 65 65\nT {other_t}\nvalues list\nvalues len {n}", file.len());
+    format!("autohash 0\nfile {}\nvalues len {n}\nread\ndump values\n{written}\nread\ndump values\n", hex(file))
+}
+
+/// Holds the lines of these commands to what the file has.
+fn held(file: &[u8], lines: &[String]) -> Result<(), String> {
+    let [sides, values, written, shown, sides_again, values_again] = lines else { return Err("other lines than wanted".to_string()) };
+    if !written.starts_with(&format!("write ok length {} ", file.len())) {
+        return Err(format!("it is not written: {written}"));
+    }
+    if shown.to_lowercase() != hex(&rising(file)) {
+        return Err("what is written is not the file with its layers in rising z".to_string());
+    }
+    if (sides, values) != (sides_again, values_again) {
+        return Err(format!("{sides} at first, then {sides_again}, and the values are the same: {}", values == values_again));
+    }
+    Ok(())
+}
+
+/// A script for each good file, no two of them the same, with the reference's lines: those are held to the file.
+pub fn scripts(conformance: &Path, samples: &Path) -> Result<Vec<Script>, String> {
+    let mut seen = BTreeSet::new();
+    let mut scripts = Vec::new();
+    for (origin, file) in of_samples(samples)?.into_iter().chain(of_scripts(conformance)?).chain(of_seeds()) {
+        let Some(n) = values_in(&file).filter(|_| seen.insert(file.clone())) else { continue };
+        let name = format!("rewrite {}", scripts.len() + 1);
+        let text = format!("# {name}: {origin}\n{}", commands(&file, n));
+        let answers = reference_lines(&text)?;
+        held(&file, &answers).map_err(|wrong| format!("{origin}: {wrong}"))?;
+        scripts.push(Script { name, first_line: 1, text, answers });
+    }
+    Ok(scripts)
+}
+
+#[cfg(test)]
+mod tests {
+    use super::*;
+
+    #[test]
+    fn every_good_file_comes_back() {
+        let root = Path::new(env!("CARGO_MANIFEST_DIR")).join("..");
+        let scripts = scripts(&root.join("conformance"), &root.join("samples")).expect("each file is written as it should be");
+        let from = |what: &str| scripts.iter().filter(|script| script.text.lines().next().is_some_and(|line| line.contains(what))).count();
+        assert_eq!(from(".grid"), std::fs::read_dir(root.join("samples")).expect("samples").filter(is_grid).count());
+        for (kind, least) in [("files", 20), ("damage", 20), ("writes", 40), ("writing", 40), ("seed", 600)] {
+            assert!(from(&format!(": {kind} ")) >= least, "{kind}: {}", from(&format!(": {kind} ")));
+        }
+    }
+
+    fn is_grid(entry: &std::io::Result<std::fs::DirEntry>) -> bool {
+        entry.as_ref().is_ok_and(|entry| entry.path().extension().is_some_and(|end| end == "grid"))
+    }
+
+    #[test]
+    fn what_does_not_come_back_is_told() {
+        let file =
+            (1..).map(|seed| file(seed, 5)).find(|file| values_in(file).is_some() && rising(file) != *file).expect("a shuffled file");
+        let lines = reference_lines(&commands(&file, values_in(&file).expect("it is good"))).expect("a script");
+        assert_eq!(held(&file, &lines), Ok(()));
+        let told = |line: usize, instead: String| {
+            let mut lines = lines.clone();
+            lines[line] = instead;
+            held(&file, &lines).is_err()
+        };
+        assert!(told(2, "write refused 26 buffer 0000000000000000".to_string()));
+        assert!(told(3, hex(&file).to_uppercase()));
+        assert!(told(4, lines[4].replace(" T ", " T 1")));
+        assert!(told(5, lines[5].replacen('[', "[0, ", 1)));
+        assert!(held(&file, &lines[..5]).is_err());
+    }
+}
