@@ -32,7 +32,7 @@ module _ {s : Sides} {T : ℕ} {values : List ℤ} (w : Writable s T values) whe
   abbrev own-values : (z : ℕ) → z < s .c → length (layerValues s values z) ≡ area s
   own-values = length-layerValues s values (w .long)
 
-  abbrev own-length : (z : ℕ) → z < s .c → length (recordForm s values z) ≡ layerLength s
+  abbrev pub own-length : (z : ℕ) → z < s .c → length (recordForm s values z) ≡ layerLength s
   own-length = length-recordForm s values (w .long)
 
   -- ---- the next record
@@ -44,7 +44,7 @@ module _ {s : Sides} {T : ℕ} {values : List ℤ} (w : Writable s T values) whe
     abbrev rest : List ℕ
     rest = recordsFrom s values (suc z) left
 
-    starts : drop start file ≡ recordForm s values z ++ rest
+    pub starts : drop start file ≡ recordForm s values z ++ rest
     unfolding flatMap range
     starts = r .holds
 

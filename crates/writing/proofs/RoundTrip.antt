@@ -1,8 +1,8 @@
 -- Reading what was written gives the grid back; so two grids with one form are one grid.
-use mathlib.Core.Path.{_≡_, refl, ap, ap₂, sym, _∙_}
+use mathlib.Core.Path.{_≡_, refl, ap, ap₂, sym, subst, _∙_}
 use mathlib.Core.Bool.{true, false, not, _||_}
 use mathlib.Core.List.{List, [], _∷_, flatMap}
-use Prim.Native.Nat.{ℕ, zero, suc, _+_, _*_, _≤_, _<_}
+use Prim.Native.Nat.{ℕ, zero, suc, _+_, _-_, _*_, _≤_, _<_}
 use native.Mathlib.Omega.{arith}
 use lib.ListN.{length, take, drop, length-drop}
 use lib.Seq.{take-all, take-at}
@@ -23,10 +23,10 @@ use Rattle.layers.specs.Layer.{area, layerLength, zAt, layerAt, withLayer}
 use Rattle.layers.proofs.Sizes.{length-withLayer}
 use Rattle.gridfile.specs.File.{headerLength, sidesIn, allowedIn, fitUpTo, headerChecks, recordChecks, layersChecks, layersFilled}
 use Rattle.gridfile.specs.File.{readChecks, accepted, readUpTo, read}
-use Rattle.writing.specs.Written.{layersForm, writtenForm, writtenLength, writeChecks, written, write}
+use Rattle.writing.specs.Written.{layerValues, layerForm, layersForm, writtenForm, writtenLength, writeChecks, written, write}
 use Rattle.writing.specs.RoundTrip.{Writable, grid, RoundTrip}
-use Rattle.writing.proofs.Forms.{length-layersForm}
-use Rattle.writing.proofs.Reading.{Ahead, z-below, z-ahead, ahead-next, record-holds, withLayer-ahead}
+use Rattle.writing.proofs.Forms.{recordForm, length-layersForm}
+use Rattle.writing.proofs.Reading.{Ahead, own-length, starts, z-below, z-ahead, ahead-next, record-holds, withLayer-ahead}
 
 -- no layer from z on came before
 abbrev Fresh : ℕ → List ℕ → Type 0
@@ -52,6 +52,20 @@ module _ {s : Sides} {T : ℕ} {values : List ℤ} (w : Writable s T values) whe
   records-ahead : Ahead s values form headerLength 0 (s .c)
   unfolding layersForm
   records-ahead = record { count = omega arith; holds = refl }
+
+  ahead-at : (z left : ℕ) → z + left ≡ s .c → Ahead s values form (headerLength + z * layerLength s) z left
+  ahead-at zero left e =
+      let start : headerLength ≡ headerLength + 0 * layerLength s = omega arith in
+      let all : s .c ≡ left = omega (arith, e) in
+      subst (λ (n : ℕ). Ahead s values form n 0 left) start (subst (Ahead s values form headerLength 0) all records-ahead)
+  ahead-at (suc z) left e =
+      let start : headerLength + z * layerLength s + layerLength s ≡ headerLength + suc z * layerLength s = omega arith in
+      subst (λ (n : ℕ). Ahead s values form n (suc z) left) start (ahead-next w (ahead-at z (suc left) (omega (arith, e))))
+
+  rising : (z : ℕ) → z < s .c → take (layerLength s) (drop (headerLength + z * layerLength s) form) ≡ layerForm z (layerValues s values z)
+  rising z h =
+      ap (take (layerLength s)) (starts w (ahead-at z (suc (s .c - 1 - z)) (omega arith)))
+      ∙ take-at (recordForm s values z) _ (layerLength s) (own-length w z h)
 
   layers-hold : (left start z : ℕ) (seen : List ℕ) → Ahead s values form start z left → Fresh z seen → AllHold (layersChecks s form left start seen)
   unfolding layersChecks flatMap range
@@ -128,6 +142,7 @@ pub round-trip : RoundTrip
 round-trip =
     record {
       form-length = λ s T values w. form-length w;
+      rising = λ s T values w z h. rising w z h;
       read-back = λ s T values lent w long. read-back w lent long;
       output-back = λ s T values lent file w long room. rw (output-is w file room) (read-back w lent long);
       one-grid = λ s t T U values others w v e. one-grid w v e;

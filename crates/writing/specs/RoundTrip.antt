@@ -3,15 +3,16 @@
 use mathlib.Core.Path.{_≡_}
 use mathlib.Core.Bool.{true}
 use mathlib.Core.List.{List}
-use Prim.Native.Nat.{ℕ, _≤_, _<_, _^_}
-use lib.ListN.{length, getD, take}
+use Prim.Native.Nat.{ℕ, _+_, _*_, _≤_, _<_, _^_}
+use lib.ListN.{length, getD, take, drop}
 use lib.IntN.{ℤ, pos}
 use lib.Signed.{mag}
 use Rattle.rules.specs.declared.Sides.{Sides}
 use Rattle.rules.specs.Grid.{fitSides, size}
 use Rattle.rules.specs.Answer.{Outcome, outcome, done}
-use Rattle.gridfile.specs.File.{Header, read}
-use Rattle.writing.specs.Written.{writtenForm, writtenLength, write}
+use Rattle.layers.specs.Layer.{layerLength}
+use Rattle.gridfile.specs.File.{headerLength, Header, read}
+use Rattle.writing.specs.Written.{layerValues, layerForm, writtenForm, writtenLength, write}
 
 -- a grid that write takes: the last two are what the types of T and of a value say
 pub record Writable (s : Sides) (T : ℕ) (values : List ℤ) : Type 0 where
@@ -27,6 +28,10 @@ grid s T values = outcome (done (record { sides = s; allowed = T })) values
 pub record RoundTrip : Type 0 where
   -- the answer is the form's length
   pub form-length : (s : Sides) (T : ℕ) (values : List ℤ) → Writable s T values → length (writtenForm s T values) ≡ writtenLength s
+  -- layers go out in rising z: the record of z begins at byte 7 + z times (3 + 2 times a times b)
+  pub rising :
+      (s : Sides) (T : ℕ) (values : List ℤ) → Writable s T values → (z : ℕ) → z < s .c
+      → take (layerLength s) (drop (headerLength + z * layerLength s) (writtenForm s T values)) ≡ layerForm z (layerValues s values z)
   -- into any lent buffer of n values
   pub read-back :
       (s : Sides) (T : ℕ) (values lent : List ℤ) → Writable s T values → length lent ≡ size s
