@@ -283,9 +283,8 @@ fn main() {
         demands.push(Demand(format!("all points, {}, ns per position", named(LARGEST)), each, 15.0));
     }
     if wanted("write") {
-        for (sides, [idiomatic, same_body]) in writes::measure(case) {
-            demands.push(Demand(format!("write, {}, ours/(a)", named(sides)), idiomatic, 1.3));
-            demands.push(Demand(format!("write, {}, ours/the same body in Rust", named(sides)), same_body, 1.3));
+        for (sides, by_index) in writes::measure(case) {
+            demands.push(Demand(format!("write, {}, ours/a loop by index", named(sides)), by_index, 1.3));
         }
     }
     if wanted("crafted") {

@@ -68,14 +68,14 @@ module _ (s : Sides) (values : List ℤ) (lent : List ℕ) where
         omega (arith, p .at, e, written-small s (p .ready .fits))
 
     pub laid-next :
-        (new : List ℕ) (count total : ℕ)
+        (new : List ℕ) (from count total : ℕ)
         → z < s .c
+        → from ≡ z * area s
         → count ≡ area s
         → total ≡ layerLength s
-        → let from = z * count in
-        new ≡ layerForm z (take (from + count - from) (drop from values))
+        → new ≡ layerForm z (take (from + count - from) (drop from values))
         → Laid (take start file ++ (new ++ drop (start + total - start) (drop start file))) (start + total) (z + 1)
-    laid-next new count total h ec et e =
+    laid-next new from count total h ef ec et e =
         record {
           ready = p .ready;
           within = omega arith;
@@ -91,10 +91,10 @@ module _ (s : Sides) (values : List ℤ) (lent : List ℕ) where
 
         one-more : laid z ++ new ≡ laid (z + 1)
         one-more =
-            let k : z * count + count - z * count ≡ area s = omega (arith, ec) in
+            let k : from + count - from ≡ area s = omega (arith, ec) in
             let m : z + 1 ≡ suc z = omega arith in
             append-assoc (take headerLength lent) (layersForm s values z) new
-            ∙ ap (λ (l : List ℕ). take headerLength lent ++ (layersForm s values z ++ l)) (e ∙ ap₂ (λ (n f : ℕ). layerForm z (take n (drop f values))) k (ap (λ (n : ℕ). z * n) ec))
+            ∙ ap (λ (l : List ℕ). take headerLength lent ++ (layersForm s values z ++ l)) (e ∙ ap₂ (λ (n f : ℕ). layerForm z (take n (drop f values))) k ef)
             ∙ ap (λ (l : List ℕ). take headerLength lent ++ l) (sym (layersForm-next s values z) ∙ ap (layersForm s values) (sym m))
 
   pub laid-done : (file : List ℕ) (start z : ℕ) → Laid file start z → s .c ≤ z → file ≡ laid (s .c) ++ drop (writtenLength s) lent

@@ -99,7 +99,8 @@ loop-again : tie.Need-loop-again Inv-loop μ-loop
 loop-again c =
     let t = c .before .before .before .before .before in
     let l = t .before .before in
-    laid-next _ _ _ _ _ _ (l .loop .inv) _ _ _ (t .if1 .taken) (l .before .before .area .ensures .0) (l .before .layer-length .ensures)
+    let area = l .before .before .area .ensures .0 in
+    laid-next _ _ _ _ _ _ (l .loop .inv) _ _ _ _ (t .if1 .taken) (rw area (omega arith)) area (l .before .layer-length .ensures)
     (c .before .before .write-layer .ensures)
 
 same-length : tie.Need-same-length Inv-loop μ-loop
