@@ -2,12 +2,12 @@
 // they are looked for.
 ghost use Prim.Native.Nat.{_<_, _≤_};
 
-// Prints the line of the first n bytes of a file, one of which is changed. The file has three layers of 21 bytes, each value 0 but for a -1
-// in the middle, and one byte more.
+// Prints the line of the first n bytes of a file, one of which is changed. It has a header, three layers of 21 bytes, each value 0 but for a -1
+// in the middle, and a patch that shoots the middle again.
 fn print_changed(at: usize, byte: u8, n: usize)
-    requires { ⌜ (at < 71) × (n ≤ 71) ⌝ }
+    requires { ⌜ (at < 78) × (n ≤ 78) ⌝ }
 {
-    let mut file = [0u8; 71];
+    let mut file = [0u8; 78];
     file[0] = 0x56;
     file[1] = 0x48;
     file[2] = 3;
@@ -23,12 +23,25 @@ fn print_changed(at: usize, byte: u8, n: usize)
     file[49] = 0x56;
     file[50] = 0x4C;
     file[51] = 2;
+    file[70] = 0x56;
+    file[71] = 0x50;
+    file[72] = 13;
+    file[76] = 0xFE;
+    file[77] = 0xFF;
     file[at] = byte;
     printing::print_line(&file[..n]);
 }
 
+// 25, whatever the input holds.
+fn print_too_long() {
+    let input = [0u8; 65537];
+    printing::print_line(&input);
+}
+
 fn main() {
     print_changed(0, 0x56, 70);
+    print_changed(0, 0x56, 78);
+    print_too_long();
     // 21, 22 and 1: the header
     print_changed(0, 0x56, 6);
     print_changed(1, 0x4C, 70);
@@ -38,9 +51,12 @@ fn main() {
     print_changed(29, 0x48, 70);
     print_changed(30, 3, 70);
     print_changed(30, 0, 70);
-    // 25: the byte more
-    print_changed(0, 0x56, 71);
-    // 3 and 4: a negative value on the border, and none at all
+    // 21, 22 and 5: a patch
+    print_changed(0, 0x56, 77);
+    print_changed(71, 0x4C, 78);
+    print_changed(72, 27, 78);
+    // 3 and 4: a negative value on the border, by a layer and by a patch, and none at all
     print_changed(11, 0xFF, 70);
+    print_changed(72, 0, 78);
     print_changed(40, 0, 70);
 }

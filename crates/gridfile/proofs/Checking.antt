@@ -6,7 +6,7 @@ use Prim.Native.Nat.{ℕ, zero, suc, _+_, _-_, _≤_, _<_}
 use native.Mathlib.Omega.{arith}
 use native.Mathlib.Decide.{ℕ-discrete}
 use borrow.Author.Tests.{eq-eqb, ne-eqb}
-use lib.Dec.{ltb, eqb}
+use lib.Dec.{eqb}
 use lib.ListN.{length, getD, set, replicate, length-set, getD-replicate}
 use lib.Seq.{getD-set-same, getD-set-other}
 use Rattle.cells.specs.Groups.{any}
@@ -103,8 +103,7 @@ module _ (s : Sides) (file : List ℕ) where
             same = held-first own rest 0 (last false g) refl refl _ refl ∙ next;
           }
 
-  pub checking-done :
-      (flags : List Bool) (start left : ℕ) → Checking flags start left → left ≤ 0 → (t : Bool) → ltb start (length file) ≡ t → cond t 25 0 ≡ failing
+  pub checking-done : (flags : List Bool) (start left : ℕ) → Checking flags start left → left ≤ 0 → 0 ≡ failing
   unfolding layersChecks firstFailing
-  checking-done flags start zero i h t e = ap (λ (u : Bool). cond u 25 0) (sym e) ∙ i .same
-  checking-done flags start (suc left) i h t e = let z : ⊥ = omega arith in absurd z
+  checking-done flags start zero i h = i .same
+  checking-done flags start (suc left) i h = let z : ⊥ = omega arith in absurd z

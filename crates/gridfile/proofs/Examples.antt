@@ -6,11 +6,12 @@ use Rattle.rules.specs.Checks.{unless}
 use Rattle.rules.specs.Begin.{isIn}
 use Rattle.words.specs.Words.{signed, valueOf, valuesOf}
 use Rattle.layers.specs.Layer.{withLayer}
-use Rattle.gridfile.specs.File.{fitUpTo, layersChecks, layersFilled, readUpTo, read}
+use Rattle.patches.specs.Patch.{checksOf, appliedOf}
+use Rattle.gridfile.specs.File.{fitUpTo, layersChecks, layersFilled, filled, readUpTo, read}
 use Rattle.gridfile.specs.Examples.{Examples}
 
 pub examples : Examples
-unfolding any range fitSides size unless isIn signed valueOf valuesOf withLayer fitUpTo layersChecks layersFilled readUpTo read
+unfolding any range fitSides size unless isIn signed valueOf valuesOf withLayer checksOf appliedOf fitUpTo layersChecks layersFilled filled readUpTo read
 examples =
     record {
       grid = refl;
@@ -26,7 +27,10 @@ examples =
       wrong-record = refl;
       no-such-layer = refl;
       came-before = refl;
+      patched = refl;
       bytes-after = refl;
+      wrong-patch = refl;
+      no-such-voxel = refl;
       over-in-a = refl;
       over-in-b = refl;
       over-in-c = refl;
@@ -38,5 +42,5 @@ examples =
       buffer-before-records = refl;
       layer-before-next = refl;
       repeat-before-next = refl;
-      repeat-before-end = refl;
+      repeat-before-patch = refl;
     }

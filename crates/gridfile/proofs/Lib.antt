@@ -1,4 +1,5 @@
 pub mod Headers
 pub mod Checking
 pub mod Filled
+pub mod WithoutPatches
 pub mod Examples

@@ -2,10 +2,11 @@
 use mathlib.Core.Path.{_≡_}
 use mathlib.Core.List.{List, [], _∷_, _++_}
 use Prim.Native.Nat.{ℕ}
-use lib.ListN.{replicate, take}
+use lib.ListN.{replicate, take, set}
 use lib.IntN.{ℤ, pos, negsuc}
 use Rattle.rules.specs.Answer.{refused, done, outcome}
 use Rattle.layers.specs.Examples.{sides, layerRecord}
+use Rattle.patches.specs.Examples.{patch}
 use Rattle.gridfile.specs.File.{readUpTo, read}
 
 abbrev pub header : ℕ → ℕ → ℕ → ℕ → List ℕ
@@ -54,7 +55,12 @@ pub record Examples : Type 0 where
   pub wrong-record : read (header 0x48 3 3 3 ++ layerRecord 0x56 0x48 0) lent ≡ outcome (refused 22) lent
   pub no-such-layer : read (file 0 1 3) lent ≡ outcome (refused 23) lent
   pub came-before : read (file 0 1 0) lent ≡ outcome (refused 24) lent
-  pub bytes-after : read (file 0 1 2 ++ (0 ∷ [])) lent ≡ outcome (refused 25) lent
+  -- patches: a later one stands; each number, and nothing is written before the last is looked at
+  pub patched : read (file 0 1 2 ++ (patch 26 0 5 ++ (patch 0 0 8 ++ patch 26 0 6))) lent
+      ≡ outcome (done (record { sides = sides 3 3 3; allowed = 0x0102 })) (set (set (layer ++ layer ++ layer) 0 (pos 8)) 26 (pos 6))
+  pub bytes-after : read (file 0 1 2 ++ (0x56 ∷ [])) lent ≡ outcome (refused 21) lent
+  pub wrong-patch : read (file 0 1 2 ++ (patch 0 0 8 ++ layerRecord 0x56 0x4C 0)) lent ≡ outcome (refused 22) lent
+  pub no-such-voxel : read (file 0 1 2 ++ (patch 0 0 8 ++ patch 27 0 8)) lent ≡ outcome (refused 5) lent
   -- sides up to the greatest that is taken
   pub over-in-a : readUpTo 24 (header 0x48 25 3 3) lent ≡ outcome (refused 1) lent
   pub over-in-b : readUpTo 24 (header 0x48 3 25 3) lent ≡ outcome (refused 1) lent
@@ -69,4 +75,4 @@ pub record Examples : Type 0 where
   -- and among records: each has its own checks before the next is looked at
   pub layer-before-next : read (header 0x48 3 3 3 ++ (layerRecord 0x56 0x4C 3 ++ layerRecord 0x56 0x48 0)) lent ≡ outcome (refused 23) lent
   pub repeat-before-next : read (header 0x48 3 3 3 ++ (layerRecord 0x56 0x4C 1 ++ layerRecord 0x56 0x4C 1)) lent ≡ outcome (refused 24) lent
-  pub repeat-before-end : read (file 0 2 2 ++ (0 ∷ [])) lent ≡ outcome (refused 24) lent
+  pub repeat-before-patch : read (file 0 2 2 ++ (0 ∷ [])) lent ≡ outcome (refused 24) lent

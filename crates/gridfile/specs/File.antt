@@ -1,8 +1,8 @@
--- Document 01, "The grid file": the header, the layer records one after the other, and read.
+-- Document 01, "The grid file", with document 02's CR 2: the header, the layer records one after the other, the patches behind them, and read.
 use mathlib.Core.Path.{_≡_}
 use mathlib.Core.Bool.{Bool, true, not, _&&_}
 use mathlib.Core.List.{List, [], _∷_, _++_}
-use Prim.Native.Nat.{ℕ, zero, suc, _+_, _≤_}
+use Prim.Native.Nat.{ℕ, zero, suc, _+_, _*_, _≤_}
 use lib.Dec.{leb, ltb, eqb}
 use lib.ListN.{length}
 use lib.IntN.{ℤ}
@@ -13,6 +13,7 @@ use Rattle.rules.specs.Answer.{Reply, refused, done, Outcome, outcome, untouche
 use Rattle.rules.specs.Begin.{isIn}
 use Rattle.words.specs.Words.{byteAt, word, tagged}
 use Rattle.layers.specs.Layer.{layerLength, zAt, layerChecks, layerAt, withLayer}
+use Rattle.patches.specs.Patch.{patchesChecks, patched}
 use Rattle.gridfile.specs.declared.ReadAnswer.{ReadAnswer}
 
 -- ---- the header: hex 56 48, three side bytes, T in two bytes
@@ -48,13 +49,9 @@ orderChecks file start seen = 24 when isIn seen (zAt file start) ∷ []
 abbrev pub recordChecks : Sides → List ℕ → ℕ → List ℕ → List Check
 recordChecks s file start seen = layerChecks s file start ++ orderChecks file start seen
 
--- what follows the last record
-abbrev pub endChecks : List ℕ → ℕ → List Check
-endChecks file start = 25 when ltb start (length file) ∷ []
-
 -- as many records as are left, from a byte of the file on
 unfoldable pub layersChecks : Sides → List ℕ → ℕ → ℕ → List ℕ → List Check
-layersChecks s file zero start seen = endChecks file start
+layersChecks s file zero start seen = []
 layersChecks s file (suc left) start seen =
     recordChecks s file start seen ++ layersChecks s file left (start + layerLength s) (zAt file start ∷ seen)
 
@@ -64,11 +61,18 @@ layersFilled s file zero start values = values
 layersFilled s file (suc left) start values =
     layersFilled s file left (start + layerLength s) (withLayer s file values (layerAt s file start))
 
+-- ---- the patches: every byte behind the layers belongs to one
+
+abbrev pub layersEnd : Sides → ℕ
+layersEnd s = headerLength + s .c * layerLength s
+
 -- ---- read
 
+abbrev pub recordsChecks : Sides → List ℕ → List Check
+recordsChecks s file = layersChecks s file (s .c) headerLength [] ++ patchesChecks (size s) file (layersEnd s)
+
 abbrev pub readChecks : ℕ → List ℕ → ℕ → List Check
-readChecks greatest file lent =
-    let s = sidesIn file in headerChecks greatest file lent ++ layersChecks s file (s .c) headerLength []
+readChecks greatest file lent = headerChecks greatest file lent ++ recordsChecks (sidesIn file) file
 
 -- what holds where none of them fails
 pub record Accepted (s : Sides) (file : List ℕ) (lent : ℕ) : Type 0 where
@@ -76,6 +80,11 @@ pub record Accepted (s : Sides) (file : List ℕ) (lent : ℕ) : Type 0 where
   pub fits : fitSides s ≡ true
   pub long : lent ≡ size s
   pub layers : AllHold (layersChecks s file (s .c) headerLength [])
+  pub patches : AllHold (patchesChecks (size s) file (layersEnd s))
+
+-- the layers with the patches applied in file order
+unfoldable pub filled : Sides → List ℕ → List ℤ → List ℤ
+filled s file lent = patched file (layersEnd s) (layersFilled s file (s .c) headerLength lent)
 
 -- read answers sides and T, and fills the value buffer
 pub record Header : Type 0 where
@@ -89,7 +98,7 @@ readAnswer (ReadAnswer.Refused n) = refused n
 abbrev pub accepted : List ℕ → List ℤ → Outcome (List ℤ) Header
 accepted file lent =
     let s = sidesIn file in
-    outcome (done (record { sides = s; allowed = allowedIn file })) (layersFilled s file (s .c) headerLength lent)
+    outcome (done (record { sides = s; allowed = allowedIn file })) (filled s file lent)
 
 -- read, for sides up to the greatest that the reader takes
 unfoldable pub readUpTo : ℕ → List ℕ → List ℤ → Outcome (List ℤ) Header

@@ -1,4 +1,4 @@
-// Read, of document 01's grid file: the header, then the layer records. A refusal is known before the first value is written.
+// Read, of documents 01 and 02: the header, the layer records, then the patches. A refusal is known before the first value is written.
 ghost use mathlib.Core.Path.{_≡_};
 ghost use mathlib.Core.List.{[]};
 ghost use mathlib.Core.Bool.{true};
@@ -8,7 +8,7 @@ ghost use Rattle.rules.specs.Grid.{fitSides};
 ghost use Rattle.rules.specs.Checks.{firstFailing};
 ghost use Rattle.rules.specs.Answer.{outcome};
 ghost use Rattle.gridfile.specs.File as spec;
-ghost use Rattle.gridfile.specs.File.{headerLength, sidesIn, fitUpTo, headerChecks, layersChecks, layersFilled, readChecks};
+ghost use Rattle.gridfile.specs.File.{headerLength, sidesIn, fitUpTo, headerChecks, layersChecks, layersFilled, layersEnd, filled, readChecks};
 ghost use Rattle.gridfile.specs.File.{Accepted, readAnswer, readUpTo};
 use rules::Sides;
 
@@ -82,13 +82,18 @@ fn layers_refusal(sides: Sides, file: &[u8]) -> u8
         start += layers::layer_length(sides);
         left -= 1;
     }
-    if start < file.len() {
-        return 25;
-    }
     0
 }
 
-// The values of all records, which were checked.
+// Where the patches begin.
+pub fn layers_end(sides: Sides) -> usize
+    requires { ⌜ fitSides sides ≡ true ⌝ }
+    ensures { λ r. ⌜ r ≡ layersEnd sides ⌝ }
+{
+    7 + sides.c * layers::layer_length(sides)
+}
+
+// The values of all layer records, which were checked.
 fn fill_records(sides: Sides, file: &[u8], values: &mut [i16])
     requires { ⌜ Accepted sides (now file) (length (now values)) ⌝ }
     ensures { λ _. ⌜ now (values .exit) ≡ layersFilled sides (now (file .entry)) (sides .c) headerLength (now (values .entry)) ⌝ }
@@ -102,6 +107,14 @@ fn fill_records(sides: Sides, file: &[u8], values: &mut [i16])
     }
 }
 
+fn fill(sides: Sides, file: &[u8], values: &mut [i16])
+    requires { ⌜ Accepted sides (now file) (length (now values)) ⌝ }
+    ensures { λ _. ⌜ now (values .exit) ≡ filled sides (now (file .entry)) (now (values .entry)) ⌝ }
+{
+    fill_records(sides, file, values);
+    patches::apply_patches(file, layers_end(sides), values);
+}
+
 // ---- read
 
 // The number that a file is refused with, for a value buffer of that length, or 0.
@@ -112,7 +125,12 @@ fn refusal(file: &[u8], lent: usize, greatest: usize) -> u8
     if n != 0 {
         return n;
     }
-    layers_refusal(sides_in(file), file)
+    let sides = sides_in(file);
+    let n = layers_refusal(sides, file);
+    if n != 0 {
+        return n;
+    }
+    patches::patches_refusal(lent, file, layers_end(sides))
 }
 
 // Read, for sides up to the greatest that the caller takes.
@@ -124,7 +142,7 @@ pub fn read_up_to(file: &[u8], values: &mut [i16], greatest: usize) -> ReadAnswe
         return ReadAnswer::Refused(n);
     }
     let sides = sides_in(file);
-    fill_records(sides, file, values);
+    fill(sides, file, values);
     ReadAnswer::Grid {
         sides,
         allowed: words::word(file, 5),

@@ -1,20 +1,31 @@
 -- The worked files, by computation.
-use mathlib.Core.Path.{refl}
+use mathlib.Core.Path.{_≡_, refl, ap}
+use mathlib.Core.Bool.{Bool, cond}
+use mathlib.Core.List.{List}
+use Prim.Native.Nat.{ℕ, _<_}
+use lib.ListN.{length}
+use borrow.Author.Tests.{lt-ltb}
 use Rattle.rules.proofs.Cases.{all-rules}
 use Rattle.words.specs.Words.{signed, valueOf, valuesOf}
 use Rattle.layers.specs.Layer.{withLayer}
-use Rattle.gridfile.specs.File.{fitUpTo, layersChecks, layersFilled, readUpTo}
-use Rattle.line.specs.Program.{afterCarve, afterOpen, opens, afterFinish, carveAndOpen, lineOf, carvedToEnd, lineFrom, lineAfterRead, programLine}
+use Rattle.patches.specs.Patch.{checksOf, appliedOf}
+use Rattle.gridfile.specs.File.{fitUpTo, layersChecks, layersFilled, filled, readUpTo}
+use Rattle.text.specs.Line.{refusedLine}
+use Rattle.line.specs.Program.{afterCarve, afterOpen, opens, afterFinish, carveAndOpen, lineOf, carvedToEnd, lineFrom, lineAfterRead, fileLine, longestInput, programLine}
 use Rattle.line.specs.Examples.{Examples}
 
 -- all that the program computes with
 unfoldable reading-rules : Unit {0}
-unfolding signed valueOf valuesOf withLayer fitUpTo layersChecks layersFilled readUpTo
+unfolding signed valueOf valuesOf withLayer checksOf appliedOf fitUpTo layersChecks layersFilled filled readUpTo
 reading-rules = tt
 
 unfoldable whole-program : Unit {0}
-unfolding all-rules reading-rules afterCarve afterOpen opens afterFinish carveAndOpen lineOf carvedToEnd lineFrom lineAfterRead programLine
+unfolding all-rules reading-rules afterCarve afterOpen opens afterFinish carveAndOpen lineOf carvedToEnd lineFrom lineAfterRead fileLine programLine
 whole-program = tt
+
+too-long : (input : List ℕ) → longestInput < length input → programLine input ≡ refusedLine 25
+unfolding programLine
+too-long input h = ap (λ (t : Bool). cond t (refusedLine 25) (fileLine input)) (lt-ltb longestInput (length input) h)
 
 pub examples : Examples
 unfolding whole-program
@@ -28,4 +39,6 @@ examples =
       side-24 = refl;
       layer-repeated = refl;
       border = refl;
+      mended = refl;
+      too-long = too-long;
     }

@@ -27,13 +27,13 @@ use Rattle.rules.proofs.Checks.{by-checks}
 use Rattle.rules.proofs.Demand.{by-begin}
 use Rattle.words.specs.Words.{tagged}
 use Rattle.gridfile.specs.declared.ReadAnswer.{ReadAnswer}
-use Rattle.gridfile.specs.File.{headerLength, sidesIn, fitUpTo, layersChecks, readChecks, Header, readAnswer, accepted, readUpTo}
+use Rattle.gridfile.specs.File.{headerLength, sidesIn, fitUpTo, recordsChecks, readChecks, Header, readAnswer, accepted, readUpTo}
 use Rattle.gridfile.proofs.Headers.{is-accepted}
 use Rattle.text.specs.declared.Text.{Text}
 use Rattle.text.specs.Line.{refusedLine, carvedLine}
 use Rattle.text.specs.Written.{printed}
 use Rattle.line.specs.Program.{afterFinish, roundsLeft, allRounds, lineOf, carvedToEnd, lineFrom, zeros, lineAfterRead}
-use Rattle.line.specs.Program.{greatestSide, programLine, lentFor}
+use Rattle.line.specs.Program.{greatestSide, fileLine, lentFor}
 use Rattle.line.proofs.Rounds.{finish-unmoved, rounds-sides}
 
 -- a refusal is no answer
@@ -122,7 +122,7 @@ module _ (file : List ℕ) where
   abbrev byTests : Bool → Bool → Bool → List ℤ → Outcome (List ℤ) Header
   byTests short tag fit lent =
       cond short (untouched lent 21) (cond (not tag) (untouched lent 22) (cond (not fit) (untouched lent 1) (
-      unless (2 when not (eqb (length lent) (size s)) ∷ layersChecks s file (s .c) headerLength []) (untouched lent) (accepted file lent))))
+      unless (2 when not (eqb (length lent) (size s)) ∷ recordsChecks s file) (untouched lent) (accepted file lent))))
 
   read-tests : (lent : List ℤ) → readUpTo greatestSide file lent ≡ byTests (ltb (length file) 7) (tagged 0x48 file 0) (fitUpTo greatestSide s) lent
   unfolding readUpTo unless
@@ -142,8 +142,8 @@ module _ (file : List ℕ) where
   unfolding lentFor
   lentFor-size h e = rw (h, e)
 
-  pub line-lent : programLine file ≡ lineAfterRead (readUpTo greatestSide file (zeros (lentFor file)))
-  unfolding programLine
+  pub line-lent : fileLine file ≡ lineAfterRead (readUpTo greatestSide file (zeros (lentFor file)))
+  unfolding fileLine
   line-lent =
       ap lineAfterRead (read-tests (zeros (size s)))
       ∙ same (ltb (length file) 7) (tagged 0x48 file 0) (fitUpTo greatestSide s) (zeros (size s)) (zeros (lentFor file)) (λ h e. ap zeros (lentFor-size h e))
@@ -167,10 +167,10 @@ module _ (file : List ℕ) where
 
   module _ (answer : ReadAnswer) (values lent : List ℤ) (r : outcome (readAnswer answer) values ≡ readUpTo greatestSide file lent)
       (z : lent ≡ zeros (lentFor file)) where
-    by-answer : lineAfterRead (outcome (readAnswer answer) values) ≡ programLine file
+    by-answer : lineAfterRead (outcome (readAnswer answer) values) ≡ fileLine file
     by-answer = ap lineAfterRead (r ∙ ap (readUpTo greatestSide file) z) ∙ sym line-lent
 
-    pub line-refused : (n : ℕ) → answer ≡ ReadAnswer.Refused n → refusedLine n ≡ programLine file
+    pub line-refused : (n : ℕ) → answer ≡ ReadAnswer.Refused n → refusedLine n ≡ fileLine file
     unfolding lineAfterRead
     line-refused n e = sym (ap (λ (a : ReadAnswer). lineAfterRead (outcome (readAnswer a) values)) e) ∙ by-answer
 
@@ -179,7 +179,7 @@ module _ (file : List ℕ) where
         → answer ≡ ReadAnswer.Grid s T
         → dist ≡ zeros (lentFor file)
         → status ≡ replicate (lentFor file) 0
-        → lineFrom (begin s T values dist status) ≡ programLine file
+        → lineFrom (begin s T values dist status) ≡ fileLine file
     unfolding lineAfterRead
     line-grid s T dist status e d b =
         let h : Header = record { sides = s; allowed = T } in
@@ -192,5 +192,5 @@ module _ (file : List ℕ) where
 
     -- and as it is printed
     pub printed-grid : (text : Text) (s : Sides) (T : ℕ) (dist : List ℤ) (status : List ℕ) → text ≡ printed (lineFrom (begin s T values dist status))
-        → answer ≡ ReadAnswer.Grid s T → dist ≡ zeros (lentFor file) → status ≡ replicate (lentFor file) 0 → text ≡ printed (programLine file)
+        → answer ≡ ReadAnswer.Grid s T → dist ≡ zeros (lentFor file) → status ≡ replicate (lentFor file) 0 → text ≡ printed (fileLine file)
     printed-grid text s T dist status p e d b = p ∙ ap printed (line-grid s T dist status e d b)

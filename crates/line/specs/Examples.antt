@@ -1,11 +1,12 @@
 -- Worked files of the program, as theorems by computation (proofs/Examples.antt): cases C and D, and refusals of read and of begin.
 use mathlib.Core.Path.{_≡_}
 use mathlib.Core.List.{List, [], _∷_, _++_}
-use Prim.Native.Nat.{ℕ}
+use Prim.Native.Nat.{ℕ, _<_}
+use lib.ListN.{length}
 use lib.IntN.{pos}
 use Rattle.gridfile.specs.Examples.{header, file, fileD}
 use Rattle.text.specs.Line.{refusedLine, carvedLine}
-use Rattle.line.specs.Program.{programLine}
+use Rattle.line.specs.Program.{longestInput, programLine}
 
 -- case C: 5, 5, 3, all 4; at z = 1 the eight voxels touching (2, 2) are -4
 abbrev pub flat : List ℕ
@@ -40,3 +41,7 @@ pub record Examples : Type 0 where
   pub layer-repeated : programLine (file 0 1 1) ≡ refusedLine 24
   -- begin's: a border voxel is negative
   pub border : programLine (file 0 1 2) ≡ refusedLine 3
+  -- a patch gives case C its middle: no hole, and nothing to carve
+  pub mended : programLine (fileC 0 ++ (0x56 ∷ 0x50 ∷ 37 ∷ 0 ∷ 0 ∷ 0 ∷ 0xFC ∷ 0xFF ∷ [])) ≡ carvedLine 9 0 0 0 (pos 1)
+  -- input over 65,536 bytes, whatever it holds
+  pub too-long : (input : List ℕ) → longestInput < length input → programLine input ≡ refusedLine 25

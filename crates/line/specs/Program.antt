@@ -1,4 +1,4 @@
--- Document 01, "The grid file": the program carve, from the bytes of a file to its line.
+-- Document 01, "The grid file", with document 02's CR 2: the program carve, from the bytes of a file to its line.
 use mathlib.Core.Path.{_≡_}
 use mathlib.Core.Bool.{Bool, true, false, not, cond}
 use mathlib.Core.List.{List}
@@ -79,8 +79,15 @@ lineAfterRead o =
 abbrev pub greatestSide : ℕ
 greatestSide = 24
 
+unfoldable pub fileLine : List ℕ → Line
+fileLine file = lineAfterRead (readUpTo greatestSide file (zeros (size (sidesIn file))))
+
+-- document 02, CR 2: 25 for input over 65,536 bytes, before any other check
+abbrev pub longestInput : ℕ
+longestInput = 65536
+
 unfoldable pub programLine : List ℕ → Line
-programLine file = lineAfterRead (readUpTo greatestSide file (zeros (size (sidesIn file))))
+programLine file = cond (ltb longestInput (length file)) (refusedLine 25) (fileLine file)
 
 -- ---- how many voxels' buffers the program lends for a file: none where the header is refused before it says how many
 

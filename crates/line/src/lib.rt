@@ -9,7 +9,7 @@ ghost use Rattle.rules.specs.Machine.{state};
 ghost use Rattle.rules.specs.Begin.{begin};
 ghost use Rattle.text.specs.Written.{printed};
 ghost use Rattle.line.specs.Program.{afterCarve, afterOpen, afterFinish, opens, allRounds, carvedToEnd};
-ghost use Rattle.line.specs.Program.{lineFrom, programLine, lentFor, Lent};
+ghost use Rattle.line.specs.Program.{lineFrom, fileLine, programLine, lentFor, Lent};
 use gridfile::ReadAnswer;
 use rules::Begun;
 use rules::Carved;
@@ -133,7 +133,7 @@ fn begun_line(
 // The line of a file, with buffers of zeros that are long enough where the header is right.
 fn line_in(file: &[u8], values: &mut [i16], dist: &mut [i32], status: &mut [u8]) -> Text
     requires { ⌜ Lent (lentFor (now file)) (now values) (now dist) (now status) ⌝ }
-    ensures { λ r. ⌜ r ≡ printed (programLine (now (file .entry))) ⌝ }
+    ensures { λ r. ⌜ r ≡ printed (fileLine (now (file .entry))) ⌝ }
 {
     match gridfile::read_up_to(file, values, 24) {
         ReadAnswer::Grid { sides, allowed } => begun_line(sides, allowed, values, dist, status),
@@ -155,13 +155,23 @@ fn voxels_in(file: &[u8]) -> usize
     0
 }
 
-// The line that the program prints for a file.
-pub fn line(file: &[u8]) -> Text
-    ensures { λ r. ⌜ r ≡ printed (programLine (now (file .entry))) ⌝ }
+// The line of a file of any length, with buffers of its own.
+fn file_line(file: &[u8]) -> Text
+    ensures { λ r. ⌜ r ≡ printed (fileLine (now (file .entry))) ⌝ }
 {
     let n = voxels_in(file);
     let mut values = [0i16; 13824];
     let mut dist = [0i32; 13824];
     let mut status = [0u8; 13824];
     line_in(file, &mut values[..n], &mut dist[..n], &mut status[..n])
+}
+
+// The line that the program prints for its input.
+pub fn line(input: &[u8]) -> Text
+    ensures { λ r. ⌜ r ≡ printed (programLine (now (input .entry))) ⌝ }
+{
+    if 65536 < input.len() {
+        return text::refused_line(25);
+    }
+    file_line(input)
 }

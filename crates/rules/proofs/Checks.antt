@@ -5,7 +5,7 @@ use mathlib.Core.List.{List, [], _∷_, _++_}
 use Prim.Native.Nat.{ℕ, zero, suc}
 use native.Mathlib.Omega.{arith}
 use lib.Dec.{eqb}
-use Rattle.prelude.proofs.Bools.{and-true}
+use Rattle.prelude.proofs.Bools.{and-true, true-and}
 use Rattle.rules.specs.Checks.{Check, _when_, firstFailing, unless, numbered, AllHold}
 
 -- ---- the first check
@@ -89,6 +89,12 @@ module _ {R : Type 0} (refuse : ℕ → R) (work : R) where
 pub hold-append : (cs ds : List Check) → AllHold (cs ++ ds) → (AllHold cs) × (AllHold ds)
 hold-append [] ds h = (tt, h)
 hold-append (c ∷ cs) ds h = let r = hold-append cs ds (h .1) in ((h .0, r .0), r .1)
+
+pub numbered-append : (cs ds : List Check) → numbered cs ≡ true → numbered ds ≡ true → numbered (cs ++ ds) ≡ true
+numbered-append [] ds e f = f
+numbered-append (c ∷ cs) ds e f =
+    let p = and-true (not (eqb (c .number) 0)) (numbered cs) e in
+    true-and (not (eqb (c .number) 0)) (numbered (cs ++ ds)) (p .0) (numbered-append cs ds (p .1) f)
 
 pub append-hold : (cs ds : List Check) → AllHold cs → AllHold ds → AllHold (cs ++ ds)
 append-hold [] ds h k = k

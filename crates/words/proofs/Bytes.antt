@@ -41,6 +41,15 @@ pub valueOf-drop : (width k : ℕ) (bytes : List ℕ) (at : ℕ) → valueOf wid
 unfolding valueOf
 valueOf-drop width k bytes at = ap (signed (half width)) (word-drop width k bytes at)
 
+-- ---- four bytes are two and two more
+
+pub word-four : (bytes : List ℕ) (at : ℕ) → word 2 bytes at + 65536 * word 2 bytes (at + 2) ≡ word 4 bytes at
+word-four bytes at =
+    let e : at + 2 ≡ at + 1 + 1 = omega arith in
+    let third = ap (λ (k : ℕ). getD bytes k 0) e in
+    let fourth = ap (λ (k : ℕ). getD bytes (k + 1) 0) e in
+    omega arith
+
 -- ---- a number is read back
 
 pub word-wordBytes : (width n : ℕ) (rest : List ℕ) → n < 256 ^ width → word width (wordBytes width n ++ rest) 0 ≡ n

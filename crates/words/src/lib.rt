@@ -21,6 +21,14 @@ pub fn word(bytes: &[u8], at: usize) -> u16
     wide(bytes[at]) + 256 * wide(bytes[at + 1])
 }
 
+// A number of four bytes.
+pub fn long_word(bytes: &[u8], at: usize) -> u32
+    requires { ⌜ at + 4 ≤ length (now bytes) ⌝ }
+    ensures { λ r. ⌜ r ≡ spec.word 4 (now (bytes .entry)) at ⌝ }
+{
+    (word(bytes, at) as u32) + 65536 * (word(bytes, at + 2) as u32)
+}
+
 // Two's complement.
 fn signed(n: u16) -> i16
     ensures { λ r. ⌜ r ≡ spec.signed (half 2) n ⌝ }

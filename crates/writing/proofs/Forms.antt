@@ -1,9 +1,7 @@
 -- The written form by its parts: how long each is, and one more at the end.
 use mathlib.Core.Path.{_≡_, refl, ap, ap₂, _∙_}
-use mathlib.Core.Bool.{true}
 use mathlib.Core.List.{List, [], _∷_, _++_, flatMap}
 use Prim.Native.Nat.{ℕ, zero, suc, _+_, _*_, _≤_, _<_}
-use native.Mathlib.Nat.{mul-le-mul}
 use native.Mathlib.Omega.{arith}
 use lib.ListN.{length, take, drop, getD, length-append, length-drop}
 use lib.Seq.{length-take-le, take-suc}
@@ -11,13 +9,12 @@ use lib.IntN.{ℤ, pos}
 use Rattle.prelude.specs.Lists.{range}
 use Rattle.prelude.proofs.Ranges.{range-suc}
 use Rattle.rules.specs.declared.Sides.{Sides}
-use Rattle.rules.specs.Grid.{fitSides, size}
-use Rattle.rules.proofs.Places.{fit}
+use Rattle.rules.specs.Grid.{size}
 use Rattle.words.specs.Words.{valueBytes}
 use Rattle.words.proofs.Bytes.{length-valuesBytes}
 use Rattle.layers.specs.Layer.{width, area, layerLength}
-use Rattle.layers.proofs.Sizes.{area-small, layer-room}
-use Rattle.writing.specs.Written.{layerValues, valuesForm, layerForm, layersForm, writtenLength}
+use Rattle.layers.proofs.Sizes.{layer-room}
+use Rattle.writing.specs.Written.{layerValues, valuesForm, layerForm, layersForm}
 use Rattle.writing.proofs.Laying.{flatMap-snoc}
 
 -- ---- values
@@ -66,12 +63,3 @@ module _ (s : Sides) (values : List ℤ) where
     pub length-layersForm : (count : ℕ) → count ≤ s .c → length (layersForm s values count) ≡ count * layerLength s
     unfolding layersForm
     length-layersForm count h = length-recordsFrom 0 count (omega arith)
-
--- ---- the file
-
-pub written-small : (s : Sides) → fitSides s ≡ true → writtenLength s ≤ 524487
-written-small s e =
-    let f = fit s e in
-    let l : layerLength s ≤ 8195 = omega (arith, area-small s e) in
-    let m : s .c * layerLength s ≤ 64 * 8195 = mul-le-mul (f .c-high) l in
-    omega arith

@@ -11,9 +11,10 @@ use Rattle.prelude.specs.Lists.{range}
 use Rattle.rules.specs.declared.Sides.{Sides}
 use Rattle.layers.specs.Layer.{area, layerLength}
 use Rattle.gridfile.specs.File.{headerLength}
+use Rattle.gridfile.proofs.Headers.{layers-end-small}
 use Rattle.writing.specs.Written.{layerForm, layersForm, writtenLength, Room}
 use Rattle.writing.proofs.Laying.{lay}
-use Rattle.writing.proofs.Forms.{length-layersForm, layersForm-next, written-small}
+use Rattle.writing.proofs.Forms.{length-layersForm, layersForm-next}
 
 module _ (s : Sides) (values : List ℤ) (lent : List ℕ) where
   -- the first layers behind the header
@@ -65,7 +66,7 @@ module _ (s : Sides) (values : List ℤ) (lent : List ℕ) where
     pub laid-end : (total : ℕ) → z < s .c → total ≡ layerLength s → start + total ≤ 524487
     laid-end total h e =
         let m : suc z * layerLength s ≤ s .c * layerLength s = mul-le-mul-right (layerLength s) h in
-        omega (arith, p .at, e, written-small s (p .ready .fits))
+        omega (arith, p .at, e, layers-end-small s (p .ready .fits))
 
     pub laid-next :
         (new : List ℕ) (from count total : ℕ)

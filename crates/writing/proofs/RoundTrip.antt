@@ -22,7 +22,9 @@ use Rattle.layers.specs.declared.LayerSpan.{LayerSpan}
 use Rattle.layers.specs.Layer.{area, layerLength, zAt, layerAt, withLayer}
 use Rattle.layers.proofs.Sizes.{length-withLayer}
 use Rattle.gridfile.specs.File.{headerLength, sidesIn, allowedIn, fitUpTo, headerChecks, recordChecks, layersChecks, layersFilled}
-use Rattle.gridfile.specs.File.{readChecks, accepted, readUpTo, read}
+use Rattle.gridfile.specs.File.{layersEnd, recordsChecks, readChecks, filled, accepted, readUpTo, read}
+use Rattle.patches.specs.Patch.{patchesChecks}
+use Rattle.patches.proofs.Patching.{checks-none, patched-none}
 use Rattle.writing.specs.Written.{layerValues, layerForm, layersForm, writtenForm, writtenLength, writeChecks, written, write}
 use Rattle.writing.specs.RoundTrip.{Writable, grid, RoundTrip}
 use Rattle.writing.proofs.Forms.{recordForm, length-layersForm}
@@ -47,6 +49,10 @@ module _ {s : Sides} {T : ℕ} {values : List ℤ} (w : Writable s T values) whe
   form-length : length form ≡ writtenLength s
   form-length = omega (arith, length-layersForm s values (w .long) (s .c) (omega arith))
 
+  -- no byte is left for a patch
+  form-ends : length form ≤ layersEnd s
+  form-ends = omega (arith, form-length)
+
   -- ---- reading the records that are left
 
   records-ahead : Ahead s values form headerLength 0 (s .c)
@@ -69,9 +75,7 @@ module _ {s : Sides} {T : ℕ} {values : List ℤ} (w : Writable s T values) whe
 
   layers-hold : (left start z : ℕ) (seen : List ℕ) → Ahead s values form start z left → Fresh z seen → AllHold (layersChecks s form left start seen)
   unfolding layersChecks flatMap range
-  layers-hold zero start z seen r f =
-      let n : length form ≤ start = omega (arith, length-drop start form, ap length (r .holds)) in
-      (le-ltb start (length form) n, tt)
+  layers-hold zero start z seen r f = tt
   layers-hold (suc left) start z seen r f =
       let next : ℕ = start + layerLength s in
       let seen' : List ℕ = zAt form start ∷ seen in
@@ -110,15 +114,18 @@ module _ {s : Sides} {T : ℕ} {values : List ℤ} (w : Writable s T values) whe
 
     read-holds : AllHold (readChecks 64 form (length lent))
     read-holds =
-        append-hold (headerChecks 64 form (length lent)) (layersChecks s form (s .c) headerLength []) header-holds
+        append-hold (headerChecks 64 form (length lent)) (recordsChecks s form) header-holds
+        (append-hold (layersChecks s form (s .c) headerLength []) (patchesChecks (size s) form (layersEnd s))
         (layers-hold (s .c) headerLength 0 [] records-ahead fresh-start)
+        (subst AllHold (sym (checks-none (size s) form (layersEnd s) form-ends)) tt))
 
     read-back : read form lent ≡ grid s T values
-    unfolding read readUpTo
+    unfolding read readUpTo filled
     read-back =
         let n : 0 * area s ≡ 0 = omega arith in
         unless-held (untouched lent) (accepted form lent) (readChecks 64 form (length lent)) read-holds
-        ∙ ap₂ (grid s) allowed-read (layers-filled (s .c) headerLength 0 lent records-ahead long (rw n))
+        ∙ ap₂ (grid s) allowed-read
+        (patched-none form (layersEnd s) _ form-ends ∙ layers-filled (s .c) headerLength 0 lent records-ahead long (rw n))
 
   -- ---- the bytes that write leaves, up to what it answers
 

@@ -2,7 +2,7 @@
 use mathlib.Core.Path.{_≡_}
 use mathlib.Core.Bool.{not, true}
 use mathlib.Core.List.{List, [], _∷_, _++_, flatMap}
-use Prim.Native.Nat.{ℕ, _+_, _*_, _≤_}
+use Prim.Native.Nat.{ℕ, _*_, _≤_}
 use lib.Dec.{ltb, eqb}
 use lib.ListN.{length, take, drop}
 use lib.IntN.{ℤ}
@@ -12,8 +12,8 @@ use Rattle.rules.specs.Grid.{fitSides, size}
 use Rattle.rules.specs.Checks.{Check, _when_, unless}
 use Rattle.rules.specs.Answer.{Reply, refused, done, Outcome, outcome, untouched}
 use Rattle.words.specs.Words.{wordBytes, valueBytes}
-use Rattle.layers.specs.Layer.{width, area, layerLength}
-use Rattle.gridfile.specs.File.{headerLength}
+use Rattle.layers.specs.Layer.{width, area}
+use Rattle.gridfile.specs.File.{layersEnd}
 use Rattle.writing.specs.declared.WriteAnswer.{WriteAnswer}
 
 -- ---- the written form of a grid
@@ -41,9 +41,9 @@ layersForm s values count = flatMap (λ z. layerForm z (layerValues s values z))
 abbrev pub writtenForm : Sides → ℕ → List ℤ → List ℕ
 writtenForm s T values = headerForm s T ++ layersForm s values (s .c)
 
--- 7 + c times (3 + 2 times a times b)
+-- 7 + c times (3 + 2 times a times b): the writer writes layers only
 abbrev pub writtenLength : Sides → ℕ
-writtenLength s = headerLength + s .c * layerLength s
+writtenLength s = layersEnd s
 
 -- ---- write: it answers that length, and bytes past it stay untouched
 

@@ -89,13 +89,6 @@ fn write_file(sides: Sides, allowed: u16, values: &[i16], file: &mut [u8])
 
 // ---- write
 
-fn written_length(sides: Sides) -> usize
-    requires { ⌜ fitSides sides ≡ true ⌝ }
-    ensures { λ r. ⌜ r ≡ writtenLength sides ⌝ }
-{
-    7 + sides.c * layers::layer_length(sides)
-}
-
 // The number that a grid is refused with, for a buffer of that length, or 0.
 fn refusal(sides: Sides, values: &[i16], lent: usize) -> u8
     ensures { λ r. ⌜ r ≡ firstFailing (writeChecks sides (now (values .entry)) lent) ⌝ }
@@ -106,7 +99,7 @@ fn refusal(sides: Sides, values: &[i16], lent: usize) -> u8
     if values.len() != sizes::voxel_count(sides) {
         return 2;
     }
-    if lent < written_length(sides) {
+    if lent < gridfile::layers_end(sides) {
         return 26;
     }
     0
@@ -120,5 +113,5 @@ pub fn write(sides: Sides, allowed: u16, values: &[i16], file: &mut [u8]) -> Wri
         return WriteAnswer::Refused(n);
     }
     write_file(sides, allowed, values, file);
-    WriteAnswer::Written(written_length(sides))
+    WriteAnswer::Written(gridfile::layers_end(sides))
 }

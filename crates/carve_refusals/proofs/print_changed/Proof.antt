@@ -54,6 +54,21 @@ array-write-file-15 c = search needs
 array-write-file-16 : tie.Need-array-write-file-16
 array-write-file-16 c = search needs
 
+array-write-file-17 : tie.Need-array-write-file-17
+array-write-file-17 c = search needs
+
+array-write-file-18 : tie.Need-array-write-file-18
+array-write-file-18 c = search needs
+
+array-write-file-19 : tie.Need-array-write-file-19
+array-write-file-19 c = search needs
+
+array-write-file-20 : tie.Need-array-write-file-20
+array-write-file-20 c = search needs
+
+array-write-file-21 : tie.Need-array-write-file-21
+array-write-file-21 c = search needs
+
 array-share-prefix-file : tie.Need-array-share-prefix-file
 array-share-prefix-file c = simp length-set (c .pre .1)
 
@@ -86,6 +101,11 @@ print-changed-spec =
     array-write-file-14
     array-write-file-15
     array-write-file-16
+    array-write-file-17
+    array-write-file-18
+    array-write-file-19
+    array-write-file-20
+    array-write-file-21
     array-share-prefix-file
     slice-aggregate-print-line
     print-line-requires

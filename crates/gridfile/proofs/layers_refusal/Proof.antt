@@ -1,9 +1,7 @@
 -- `gridfile::layers_refusal` meets its contract.
 use mathlib.Core.Path.{_≡_, refl, sym, _∙_}
-use mathlib.Core.Bool.{true, false}
 use Prim.Native.Nat.{_+_, _<_}
 use native.Mathlib.Omega.{arith}
-use borrow.Author.Tests.{lt-ltb, le-ltb}
 use Rattle.rules.specs.Checks.{firstFailing}
 use Rattle.rules.proofs.Places.{fit}
 use Rattle.rules.proofs.Checks.{all-hold}
@@ -87,10 +85,7 @@ loop-again c =
     )
 
 returns-3 : tie.Need-returns-3 Inv-loop μ-loop
-returns-3 c = checking-done _ _ _ _ _ (c .before .before .loop .inv) (c .before .loop-test .left) true (lt-ltb _ _ (c .if3 .taken))
-
-returns-4 : tie.Need-returns-4 Inv-loop μ-loop
-returns-4 c = checking-done _ _ _ _ _ (c .before .before .loop .inv) (c .before .loop-test .left) false (le-ltb _ _ (c .if3 .left))
+returns-3 c = checking-done _ _ _ _ _ (c .before .loop .inv) (c .loop-test .left)
 
 pub layers-refusal-spec : {M : Type 1} → statement M
 layers-refusal-spec =
@@ -112,5 +107,4 @@ layers-refusal-spec =
     sub-left
     loop-less
     loop-again
-    returns-3
-    returns-4)
+    returns-3)

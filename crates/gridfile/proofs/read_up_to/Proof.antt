@@ -33,8 +33,8 @@ returns c =
 sides-in-requires : tie.Need-sides-in-requires
 sides-in-requires c κs = right c .whole
 
-fill-records-requires : tie.Need-fill-records-requires
-fill-records-requires c κs = rw (c .before .sides-in .ensures) (right (c .before .before))
+fill-requires : tie.Need-fill-requires
+fill-requires c κs = rw (c .before .sides-in .ensures) (right (c .before .before))
 
 word-requires : tie.Need-word-requires
 word-requires c κs = omega (arith, right (c .before .before .before .before) .whole)
@@ -51,7 +51,7 @@ returns-2 c =
     let a = r .before .before .args in
     call-done (untouched (a .values .now)) (accepted (a .file .now) (a .values .now)) (readChecks (a .greatest) (a .file .now) (length (a .values .now))) _
     (r .refusal .ensures) (read-numbered (a .greatest) (a .file .now) (length (a .values .now))) (none (s .before)) _
-    (simp (c .word .ensures, f .fill-records .ensures, s .sides-in .ensures))
+    (simp (c .word .ensures, f .fill .ensures, s .sides-in .ensures))
 
 pub read-up-to-spec : {M : Type 1} → statement M
 read-up-to-spec =
@@ -60,7 +60,7 @@ read-up-to-spec =
     refusal-requires
     returns
     sides-in-requires
-    fill-records-requires
+    fill-requires
     word-requires
     same-length
     returns-2)

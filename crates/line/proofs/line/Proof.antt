@@ -1,58 +1,33 @@
 -- `line::line` meets its contract.
-use mathlib.Core.Path.{ap, _∙_}
+use mathlib.Core.Path.{_≡_, ap, sym, _∙_}
+use mathlib.Core.Bool.{Bool, true, false, cond}
+use mathlib.Core.List.{List}
 use Prim.Native.Nat.{ℕ}
-use lib.ListN.{replicate}
-use lib.IntN.{pos}
-use Rattle.prelude.proofs.Replicate.{take-replicate}
-use Rattle.line.proofs.Reading.{lent-length}
-use Rattle.line.specs.Program.{zeros}
+use lib.Dec.{ltb}
+use lib.ListN.{length}
 use borrow.Author.Needs.{needs}
+use borrow.Author.Tests.{lt-ltb, le-ltb}
+use Rattle.text.specs.Line.{refusedLine}
+use Rattle.text.specs.Written.{printed}
+use Rattle.line.specs.Program.{fileLine, longestInput, programLine}
 use Rattle.line.proofs.line.Statement.{statement}
 use Rattle.line.proofs.line.Tie as tie
 
-voxels-in-requires : tie.Need-voxels-in-requires
-voxels-in-requires c κs = search needs
+by-length : (input : List ℕ) (t : Bool) → ltb longestInput (length input) ≡ t → printed (cond t (refusedLine 25) (fileLine input)) ≡ printed (programLine input)
+unfolding programLine
+by-length input t e = ap (λ (u : Bool). printed (cond u (refusedLine 25) (fileLine input))) (sym e)
 
-array-borrow-prefix-values : tie.Need-array-borrow-prefix-values
-array-borrow-prefix-values c = search needs
-
-slice-aggregate-line-in : tie.Need-slice-aggregate-line-in
-slice-aggregate-line-in c = lent-length _ 13824 (pos 0) (c .before .voxels-in .ensures .1)
-
-array-borrow-prefix-dist : tie.Need-array-borrow-prefix-dist
-array-borrow-prefix-dist c = search needs
-
-slice-aggregate-line-in-2 : tie.Need-slice-aggregate-line-in-2
-slice-aggregate-line-in-2 c = lent-length _ 13824 (pos 0) (c .before .before .voxels-in .ensures .1)
-
-array-borrow-prefix-status : tie.Need-array-borrow-prefix-status
-array-borrow-prefix-status c = search needs
-
-slice-aggregate-line-in-3 : tie.Need-slice-aggregate-line-in-3
-slice-aggregate-line-in-3 c = lent-length _ 13824 0 (c .before .before .before .voxels-in .ensures .1)
-
-line-in-requires : tie.Need-line-in-requires
-line-in-requires c κs =
-    let v = c .before .before .before .voxels-in .ensures in
-    record {
-      values = take-replicate _ 13824 (pos 0) (v .1) ∙ ap zeros (v .0);
-      distances = take-replicate _ 13824 (pos 0) (v .1) ∙ ap zeros (v .0);
-      statuses = take-replicate _ 13824 0 (v .1) ∙ ap (λ (n : ℕ). replicate n 0) (v .0);
-    }
+refused-line-requires : tie.Need-refused-line-requires
+refused-line-requires c κs = search needs
 
 returns : tie.Need-returns
-returns c = search needs
+returns c = c .refused-line .ensures ∙ by-length _ true (lt-ltb _ _ (c .before .if1 .taken))
+
+file-line-requires : tie.Need-file-line-requires
+file-line-requires c κs = search needs
+
+returns-2 : tie.Need-returns-2
+returns-2 c = c .file-line .ensures ∙ by-length _ false (le-ltb _ _ (c .before .if1 .left))
 
 pub line-spec : {M : Type 1} → statement M
-line-spec =
-    tie.close
-    (tie.spec
-    voxels-in-requires
-    array-borrow-prefix-values
-    slice-aggregate-line-in
-    array-borrow-prefix-dist
-    slice-aggregate-line-in-2
-    array-borrow-prefix-status
-    slice-aggregate-line-in-3
-    line-in-requires
-    returns)
+line-spec = tie.close (tie.spec refused-line-requires returns file-line-requires returns-2)

@@ -40,8 +40,8 @@ returns-2 c =
     let wrong : eqb (length (a .values .now)) (size (a .sides)) ≡ false = ne-eqb _ _ (λ e. c .if2 .taken (e ∙ sym (n .voxel-count .ensures .0))) in
     simp (fits (n .before), wrong)
 
-written-length-requires : tie.Need-written-length-requires
-written-length-requires c κs = fits (c .before .before)
+layers-end-requires : tie.Need-layers-end-requires
+layers-end-requires c κs = fits (c .before .before)
 
 returns-3 : tie.Need-returns-3
 unfolding firstFailing
@@ -49,7 +49,7 @@ returns-3 c =
     let l = c .before in
     let e = l .before in
     let a = e .before .before .before .before .args in
-    let short : ltb (a .lent) (writtenLength (a .sides)) ≡ true = lt-ltb (a .lent) (writtenLength (a .sides)) (omega (arith, c .if3 .taken, l .written-length .ensures)) in
+    let short : ltb (a .lent) (writtenLength (a .sides)) ≡ true = lt-ltb (a .lent) (writtenLength (a .sides)) (omega (arith, c .if3 .taken, l .layers-end .ensures)) in
     simp (fits (e .before .before), long e, short)
 
 returns-4 : tie.Need-returns-4
@@ -58,7 +58,7 @@ returns-4 c =
     let l = c .before in
     let e = l .before in
     let a = e .before .before .before .before .args in
-    let room : ltb (a .lent) (writtenLength (a .sides)) ≡ false = le-ltb (a .lent) (writtenLength (a .sides)) (omega (arith, c .if3 .left, l .written-length .ensures)) in
+    let room : ltb (a .lent) (writtenLength (a .sides)) ≡ false = le-ltb (a .lent) (writtenLength (a .sides)) (omega (arith, c .if3 .left, l .layers-end .ensures)) in
     simp (fits (e .before .before), long e, room)
 
 pub refusal-spec : {M : Type 1} → statement M
@@ -69,6 +69,6 @@ refusal-spec =
     returns
     voxel-count-requires
     returns-2
-    written-length-requires
+    layers-end-requires
     returns-3
     returns-4)

@@ -32,8 +32,8 @@ returns c =
 write-file-requires : tie.Need-write-file-requires
 write-file-requires c κs = right (c .before)
 
-written-length-requires : tie.Need-written-length-requires
-written-length-requires c κs = right (c .before .before .before .before) .fits
+layers-end-requires : tie.Need-layers-end-requires
+layers-end-requires c κs = right (c .before .before .before .before) .fits
 
 same-length : tie.Need-same-length
 same-length c = search needs
@@ -47,7 +47,7 @@ returns-2 c =
     let a = r .before .before .args in
     call-done (untouched (a .file .now)) (written (a .sides) (a .allowed) (a .values .now) (a .file .now)) (writeChecks (a .sides) (a .values .now) (length (a .file .now))) _
     (r .refusal .ensures) refl (none e) _
-    (simp (c .written-length .ensures, w .write-file .ensures))
+    (simp (c .layers-end .ensures, w .write-file .ensures))
 
 pub write-spec : {M : Type 1} → statement M
 write-spec =
@@ -56,6 +56,6 @@ write-spec =
     refusal-requires
     returns
     write-file-requires
-    written-length-requires
+    layers-end-requires
     same-length
     returns-2)

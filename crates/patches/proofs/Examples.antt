@@ -1,0 +1,25 @@
+-- The worked patches, by computation.
+use mathlib.Core.Path.{refl}
+use Rattle.rules.specs.Checks.{firstFailing}
+use Rattle.words.specs.Words.{signed, valueOf}
+use Rattle.patches.specs.Patch.{checksOf, appliedOf}
+use Rattle.patches.specs.Examples.{Examples}
+
+pub examples : Examples
+unfolding firstFailing signed valueOf checksOf appliedOf
+examples =
+    record {
+      later-stands = refl;
+      missing = refl;
+      without = refl;
+      taken = refl;
+      one-byte = refl;
+      seven-bytes = refl;
+      wrong-mark = refl;
+      no-such-voxel = refl;
+      high-byte = refl;
+      third-byte = refl;
+      short-before-mark = refl;
+      mark-before-index = refl;
+      own-before-next = refl;
+    }

@@ -1,0 +1,3 @@
+pub mod Patching
+pub mod LastStands
+pub mod Examples

@@ -1,0 +1,63 @@
+-- `patches::patches_refusal` meets its contract.
+use mathlib.Core.Path.{_≡_, refl, sym, _∙_}
+use Prim.Native.Nat.{_-_}
+use native.Mathlib.Omega.{arith}
+use lib.ListN.{length}
+use borrow.Author.Needs.{needs}
+use Rattle.rules.specs.Checks.{firstFailing}
+use Rattle.rules.proofs.Checks.{all-hold}
+use Rattle.patches.specs.Patch.{patchChecks}
+use Rattle.patches.proofs.Patching.{Deciding, deciding-refused, deciding-next, deciding-done, Fit, fit}
+use Rattle.patches.proofs.patches_refusal.Statement.{statement}
+use Rattle.patches.proofs.patches_refusal.Tie as tie
+
+abbrev Inv-loop : tie.InvT-loop
+Inv-loop n file start at₀ at = Deciding n file start at
+
+abbrev μ-loop : tie.MeasureT-loop
+μ-loop n file start at₀ at = length file - at
+
+-- behind the branch
+held : (c : tie.Else1 Inv-loop μ-loop) → let l = c .before .before .before in let a = l .before .before .args in
+    firstFailing (patchChecks (a .n) (a .file .now) (l .loop .at)) ≡ 0
+held c = sym (c .before .patch-refusal .ensures) ∙ c .if1 .left
+
+right : (c : tie.Else1 Inv-loop μ-loop) → let l = c .before .before .before in let a = l .before .before .args in Fit (a .n) (a .file .now) (l .loop .at)
+right c = fit _ _ _ (all-hold _ refl (held c))
+
+loop-holds : tie.Need-loop-holds Inv-loop μ-loop
+loop-holds c = refl
+
+patch-refusal-requires : tie.Need-patch-refusal-requires Inv-loop μ-loop
+patch-refusal-requires c κs = search needs
+
+returns : tie.Need-returns Inv-loop μ-loop
+returns c =
+    let t = c .before .before in
+    deciding-refused _ _ _ _ (t .before .loop .inv) (t .loop-test .taken) _ (c .before .patch-refusal .ensures) (c .if1 .taken)
+
+add-at : tie.Need-add-at Inv-loop μ-loop
+add-at c = omega (arith, right c .whole)
+
+loop-less : tie.Need-loop-less Inv-loop μ-loop
+loop-less c = omega (arith, c .before .before .loop-test .taken)
+
+loop-again : tie.Need-loop-again Inv-loop μ-loop
+loop-again c = let t = c .before .before in deciding-next _ _ _ _ (t .before .loop .inv) (t .loop-test .taken) (held c)
+
+returns-2 : tie.Need-returns-2 Inv-loop μ-loop
+returns-2 c = deciding-done _ _ _ _ (c .before .loop .inv) (c .loop-test .left)
+
+pub patches-refusal-spec : {M : Type 1} → statement M
+patches-refusal-spec =
+    tie.close
+    (tie.spec
+    Inv-loop
+    μ-loop
+    loop-holds
+    patch-refusal-requires
+    returns
+    add-at
+    loop-less
+    loop-again
+    returns-2)
