@@ -39,7 +39,8 @@ module _ (greatest : ℕ) (file : List ℕ) (lent : ℕ) where
   pub read-numbered : numbered (readChecks greatest file lent) ≡ true
   read-numbered =
       let s = sidesIn file in
-      numbered-append (layersChecks s file (s .c) headerLength []) _ (layers-numbered s file (s .c) headerLength []) (patches-numbered (size s) file _ (layersEnd s))
+      numbered-append (layersChecks s file (s .c) headerLength []) _ (layers-numbered s file (s .c) headerLength [])
+      (patches-numbered (size s) file _ (layersEnd s))
 
   pub header-fits : AllHold (headerChecks greatest file lent) → fitSides (sidesIn file) ≡ true
   header-fits h = fitUpTo-fits greatest (sidesIn file) (not-false _ (h .1 .1 .0))

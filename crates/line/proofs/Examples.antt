@@ -11,7 +11,8 @@ use Rattle.layers.specs.Layer.{withLayer}
 use Rattle.patches.specs.Patch.{checksOf, appliedOf}
 use Rattle.gridfile.specs.File.{fitUpTo, layersChecks, layersFilled, filled, readUpTo}
 use Rattle.text.specs.Line.{refusedLine}
-use Rattle.line.specs.Program.{afterCarve, afterOpen, opens, afterFinish, carveAndOpen, lineOf, carvedToEnd, lineFrom, lineAfterRead, fileLine, longestInput, programLine}
+use Rattle.line.specs.Program.{afterCarve, afterOpen, opens, afterFinish, carveAndOpen, lineOf, carvedToEnd, lineFrom, lineAfterRead}
+use Rattle.line.specs.Program.{fileLine, longestInput, programLine}
 use Rattle.line.specs.Examples.{Examples}
 
 -- all that the program computes with

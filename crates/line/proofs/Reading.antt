@@ -1,7 +1,7 @@
 -- The line of a file, by what read and begin answer; and the buffers that the program lends, which matter only where the header is right.
 use mathlib.Core.Path.{_≡_, refl, ap, sym, _∙_}
 use mathlib.Core.Bool.{Bool, true, false, not, cond}
-use mathlib.Core.List.{List, [], _∷_}
+use mathlib.Core.List.{List, _∷_}
 use Prim.Native.Nat.{ℕ, _*_, _≤_, _<_}
 use native.Mathlib.Nat.{mul-le-mul}
 use native.Mathlib.Omega.{arith}
@@ -27,7 +27,7 @@ use Rattle.rules.proofs.Checks.{by-checks}
 use Rattle.rules.proofs.Demand.{by-begin}
 use Rattle.words.specs.Words.{tagged}
 use Rattle.gridfile.specs.declared.ReadAnswer.{ReadAnswer}
-use Rattle.gridfile.specs.File.{headerLength, sidesIn, fitUpTo, recordsChecks, readChecks, Header, readAnswer, accepted, readUpTo}
+use Rattle.gridfile.specs.File.{sidesIn, fitUpTo, recordsChecks, readChecks, Header, readAnswer, accepted, readUpTo}
 use Rattle.gridfile.proofs.Headers.{is-accepted}
 use Rattle.text.specs.declared.Text.{Text}
 use Rattle.text.specs.Line.{refusedLine, carvedLine}

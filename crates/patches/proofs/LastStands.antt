@@ -1,7 +1,7 @@
 -- The last patch to a voxel stands.
 use mathlib.Core.Path.{_≡_, refl, ap, sym, _∙_}
 use mathlib.Core.List.{List}
-use Prim.Native.Nat.{ℕ, zero, suc, _+_, _*_, _<_}
+use Prim.Native.Nat.{ℕ, zero, suc, _+_, _<_}
 use native.Mathlib.Omega.{arith}
 use lib.ListN.{length, getD, set, length-set}
 use lib.Seq.{getD-set-same, getD-set-other}
@@ -22,7 +22,8 @@ module _ (file : List ℕ) where
   unfolding appliedOf
   none zero at i values f = refl
   none (suc left) at i values f =
-      none left (at + patchLength) i (set values (indexAt file at) (patchAt file at)) (λ j h e. f (suc j) (omega arith) (ap (indexAt file) (sym (place-next at j)) ∙ e))
+      none left (at + patchLength) i (set values (indexAt file at) (patchAt file at))
+      (λ j h e. f (suc j) (omega arith) (ap (indexAt file) (sym (place-next at j)) ∙ e))
       ∙ getD-set-other values (indexAt file at) i (patchAt file at) (pos 0) (λ e. f 0 (omega arith) (ap (indexAt file) (place-first at) ∙ sym e))
 
   last : (left at k i : ℕ) (values : List ℤ)

@@ -77,12 +77,6 @@ module _ (file : List ℕ) where
   unfolding appliedOf
   patched-none at values h = ap (λ (k : ℕ). appliedOf file k at values) (count-none file at h)
 
-  pub length-appliedOf : (left at : ℕ) (values : List ℤ) → length (appliedOf file left at values) ≡ length values
-  unfolding appliedOf
-  length-appliedOf zero at values = refl
-  length-appliedOf (suc left) at values =
-      length-appliedOf left (at + patchLength) (set values (indexAt file at) (patchAt file at)) ∙ length-set values (indexAt file at) (patchAt file at)
-
   -- what is left to apply, of records that were checked, gives what all of them give
   pub record Applying (lent : List ℤ) (start : ℕ) (values : List ℤ) (at : ℕ) : Type 0 where
     pub long : length values ≡ length lent

@@ -1,9 +1,9 @@
 -- A layer's values, written one after the other: the loop's invariant.
 use mathlib.Core.Path.{_≡_, refl, sym, ap, ap₂, _∙_}
-use mathlib.Core.List.{List, [], _∷_, _++_, flatMap, append-nil}
+use mathlib.Core.List.{List, _++_, flatMap, append-nil}
 use Prim.Native.Nat.{ℕ, suc, _+_, _*_, _≤_, _<_}
 use native.Mathlib.Omega.{arith}
-use lib.ListN.{length, take, drop, getD, length-append, length-drop}
+use lib.ListN.{length, take, drop, getD}
 use lib.Seq.{sets, length-sets, length-take-le, take-length, drop-length}
 use lib.IntN.{ℤ, pos}
 use Rattle.words.specs.Words.{valueBytes}

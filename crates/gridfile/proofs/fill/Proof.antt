@@ -1,11 +1,7 @@
 -- `gridfile::fill` meets its contract.
-use mathlib.Core.Path.{_≡_, ap, ap₂, subst₂, sym, _∙_}
-use mathlib.Core.List.{List}
+use mathlib.Core.Path.{ap₂, subst₂, sym, _∙_}
 use Prim.Native.Nat.{ℕ}
-use lib.ListN.{length}
-use lib.IntN.{ℤ}
 use borrow.Author.Needs.{needs}
-use Rattle.rules.specs.Grid.{size}
 use Rattle.rules.specs.Checks.{AllHold}
 use Rattle.patches.specs.Patch.{patchesChecks, patched}
 use Rattle.gridfile.specs.File.{filled}
@@ -23,7 +19,8 @@ apply-patches-requires c κs =
     let e = c .before in
     let v = e .before in
     let s = v .before .before .before .before in
-    subst₂ (λ (n start : ℕ). AllHold (patchesChecks n (s .args .file .now) start)) (sym (v .values .given ∙ s .pre .long)) (sym (e .layers-end .ensures)) (s .pre .patches)
+    subst₂ (λ (n start : ℕ). AllHold (patchesChecks n (s .args .file .now) start))
+    (sym (v .values .given ∙ s .pre .long)) (sym (e .layers-end .ensures)) (s .pre .patches)
 
 same-length : tie.Need-same-length
 same-length c = search needs

@@ -6,7 +6,7 @@ use Prim.Native.Nat.{ℕ}
 use borrow.Author.Needs.{needs}
 use borrow.Author.Tests.{ltb-false}
 use Rattle.rules.specs.declared.Sides.{Sides}
-use Rattle.rules.specs.Grid.{fitSides, size}
+use Rattle.rules.specs.Grid.{fitSides}
 use Rattle.rules.specs.Checks.{firstFailing, AllHold}
 use Rattle.rules.proofs.Checks.{all-hold, refused-first, held-first}
 use Rattle.patches.specs.Patch.{patchesChecks}

@@ -4,7 +4,7 @@ use Prim.Native.Nat.{_-_}
 use native.Mathlib.Omega.{arith}
 use lib.ListN.{length}
 use mir.Facts.{toZ-ofZ}
-use borrow.Author.Needs.{needs, sfits-of}
+use borrow.Author.Needs.{sfits-of}
 use Rattle.patches.proofs.Patching.{Fit, Applying, applying-start, applying-fit, applying-next, applying-done}
 use Rattle.patches.proofs.apply_patches.Statement.{statement}
 use Rattle.patches.proofs.apply_patches.Tie as tie
@@ -47,7 +47,8 @@ loop-less c = omega (arith, c .before .before .loop-test .taken)
 loop-again : tie.Need-loop-again Inv-loop μ-loop
 loop-again c =
     let t = c .before .before in
-    applying-next _ _ _ _ _ (t .before .loop .inv) (t .loop-test .taken) _ _ (c .before .index-at .ensures .0) (toZ-ofZ (sfits-of (c .value .ok)) ∙ c .value .ensures)
+    applying-next _ _ _ _ _ (t .before .loop .inv) (t .loop-test .taken) _ _ (c .before .index-at .ensures .0)
+    (toZ-ofZ (sfits-of (c .value .ok)) ∙ c .value .ensures)
 
 same-length : tie.Need-same-length Inv-loop μ-loop
 same-length c = c .before .loop .inv .long

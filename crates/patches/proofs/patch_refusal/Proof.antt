@@ -1,6 +1,6 @@
 -- `patches::patch_refusal` meets its contract.
-use mathlib.Core.Path.{_≡_, sym, _∙_}
-use mathlib.Core.Bool.{true, false}
+use mathlib.Core.Path.{_≡_, ap, sym, _∙_}
+use mathlib.Core.Bool.{Bool, true, false}
 use Prim.Native.Nat.{_+_, _≤_}
 use native.Mathlib.Omega.{arith}
 use lib.Dec.{leb, ltb}
@@ -44,23 +44,22 @@ returns-2 c =
 index-at-requires : tie.Need-index-at-requires
 index-at-requires c κs = whole (c .before .before)
 
+-- 5, by the index that the code found
+index : (c : tie.After-index-at) (t : Bool) → let a = c .before .before .before .before .before .before .args in
+    leb (a .n) (c .index-at .result) ≡ t → leb (a .n) (indexAt (a .file .now) (a .start)) ≡ t
+index c t e = sym (ap (leb _) (c .index-at .ensures .0)) ∙ e
+
 returns-3 : tie.Need-returns-3
 unfolding firstFailing
 returns-3 c =
-    let i = c .before in
-    let t = i .before in
-    let a = t .before .before .before .before .before .args in
-    let beyond : leb (a .n) (indexAt (a .file .now) (a .start)) ≡ true = le-leb (a .n) (indexAt (a .file .now) (a .start)) (omega (arith, c .if3 .taken, i .index-at .ensures .0)) in
-    simp (enough (t .before .before), right t, beyond)
+    let t = c .before .before in
+    simp (enough (t .before .before), right t, index (c .before) true (le-leb _ _ (c .if3 .taken)))
 
 returns-4 : tie.Need-returns-4
 unfolding firstFailing
 returns-4 c =
-    let i = c .before in
-    let t = i .before in
-    let a = t .before .before .before .before .before .args in
-    let within : leb (a .n) (indexAt (a .file .now) (a .start)) ≡ false = lt-leb (a .n) (indexAt (a .file .now) (a .start)) (omega (arith, c .if3 .left, i .index-at .ensures .0)) in
-    simp (enough (t .before .before), right t, within)
+    let t = c .before .before in
+    simp (enough (t .before .before), right t, index (c .before) false (lt-leb _ _ (c .if3 .left)))
 
 pub patch-refusal-spec : {M : Type 1} → statement M
 patch-refusal-spec =

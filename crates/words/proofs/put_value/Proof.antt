@@ -1,5 +1,5 @@
 -- `words::put_value` meets its contract.
-use mathlib.Core.Path.{_≡_, ap, _∙_}
+use mathlib.Core.Path.{ap, _∙_}
 use Prim.Native.Nat.{ℕ}
 use lib.Seq.{sets}
 use mir.Facts.{toZ-ofZ}

@@ -1,6 +1,6 @@
 -- `writing::refusal` meets its contract.
-use mathlib.Core.Path.{_≡_, sym, _∙_}
-use mathlib.Core.Bool.{true, false}
+use mathlib.Core.Path.{_≡_, ap, sym, _∙_}
+use mathlib.Core.Bool.{Bool, true, false}
 use lib.Dec.{ltb, eqb}
 use lib.ListN.{length}
 use native.Mathlib.Omega.{arith}
@@ -43,23 +43,22 @@ returns-2 c =
 layers-end-requires : tie.Need-layers-end-requires
 layers-end-requires c κs = fits (c .before .before)
 
+-- 26, by the length that the code found
+room : (c : tie.After-layers-end) (t : Bool) → let a = c .before .before .before .before .before .args in
+    ltb (a .lent) (c .layers-end .result) ≡ t → ltb (a .lent) (writtenLength (a .sides)) ≡ t
+room c t e = sym (ap (ltb _) (c .layers-end .ensures)) ∙ e
+
 returns-3 : tie.Need-returns-3
 unfolding firstFailing
 returns-3 c =
-    let l = c .before in
-    let e = l .before in
-    let a = e .before .before .before .before .args in
-    let short : ltb (a .lent) (writtenLength (a .sides)) ≡ true = lt-ltb (a .lent) (writtenLength (a .sides)) (omega (arith, c .if3 .taken, l .layers-end .ensures)) in
-    simp (fits (e .before .before), long e, short)
+    let e = c .before .before in
+    simp (fits (e .before .before), long e, room (c .before) true (lt-ltb _ _ (c .if3 .taken)))
 
 returns-4 : tie.Need-returns-4
 unfolding firstFailing
 returns-4 c =
-    let l = c .before in
-    let e = l .before in
-    let a = e .before .before .before .before .args in
-    let room : ltb (a .lent) (writtenLength (a .sides)) ≡ false = le-ltb (a .lent) (writtenLength (a .sides)) (omega (arith, c .if3 .left, l .layers-end .ensures)) in
-    simp (fits (e .before .before), long e, room)
+    let e = c .before .before in
+    simp (fits (e .before .before), long e, room (c .before) false (le-ltb _ _ (c .if3 .left)))
 
 pub refusal-spec : {M : Type 1} → statement M
 refusal-spec =

@@ -45,7 +45,8 @@ returns-2 c =
     let e = w .before .before in
     let r = e .before in
     let a = r .before .before .args in
-    call-done (untouched (a .file .now)) (written (a .sides) (a .allowed) (a .values .now) (a .file .now)) (writeChecks (a .sides) (a .values .now) (length (a .file .now))) _
+    call-done (untouched (a .file .now)) (written (a .sides) (a .allowed) (a .values .now) (a .file .now))
+    (writeChecks (a .sides) (a .values .now) (length (a .file .now))) _
     (r .refusal .ensures) refl (none e) _
     (simp (c .layers-end .ensures, w .write-file .ensures))
 

@@ -5,8 +5,6 @@ use Prim.Native.Nat.{ℕ, _≤_}
 use native.Mathlib.Omega.{arith}
 use lib.ListN.{length, length-set}
 use lib.Seq.{sets, sets-eq, length-sets}
-use mir.Syntax.{w8}
-use mir.Val.{Fits}
 use borrow.Author.Needs.{needs}
 use Rattle.rules.proofs.Places.{fit}
 use Rattle.writing.specs.Written.{headerForm}

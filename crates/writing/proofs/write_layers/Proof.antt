@@ -1,6 +1,5 @@
 -- `writing::write_layers` meets its contract.
-use mathlib.Core.Path.{_≡_, sym, ap, _∙_}
-use Prim.Native.Nat.{ℕ, _+_, _-_, _*_, _≤_, _<_}
+use Prim.Native.Nat.{ℕ, _+_, _-_, _*_, _≤_}
 use native.Mathlib.Omega.{arith}
 use lib.ListN.{length}
 use borrow.Author.Needs.{needs}
@@ -81,7 +80,8 @@ write-layer-requires c κs =
     let n : ℕ = l .before .before .area .result in
     let at : ℕ = l .loop .z * n in
     let bytes = length-part (l .loop .file) (l .loop .start) (l .loop .start + l .before .layer-length .result) (omega arith) (record-room t) in
-    let values = length-part (l .before .before .before .before .args .values .now) at (at + n) (omega arith) (omega (arith, room t, l .loop .inv .ready .long)) in
+    let all = l .before .before .before .before .args .values .now in
+    let values = length-part all at (at + n) (omega arith) (omega (arith, room t, l .loop .inv .ready .long)) in
     omega (arith, bytes, values, l .before .layer-length .ensures, l .before .before .area .ensures .0)
 
 add-start : tie.Need-add-start Inv-loop μ-loop
