@@ -19,8 +19,11 @@ enum { SLICE = 250 };
 /* Points in one call: each call checks the whole grid once, so not too few. */
 enum { MOST_POINTS = 500 };
 
-/* One byte more than any file has shows whether bytes are left after the last layer. */
-static uint8_t file[WATTLERUGBY_LONGEST_FILE + 1];
+/* Patches in a file that this program has room for: read itself takes any number. */
+enum { MOST_PATCHES = MOST };
+
+/* One byte more than there is room for shows whether a file is longer. */
+static uint8_t file[WATTLERUGBY_LONGEST_FILE + 8 * MOST_PATCHES + 1];
 static int16_t values[MOST];
 static int32_t dist[MOST];
 static uint8_t status[MOST];
@@ -129,8 +132,8 @@ int main(int argc, char **argv)
         return 2;
     }
     length = bytes_of(argv[1]);
-    if (length == 0) {
-        fprintf(stderr, "carve_grid: %s cannot be read\n", argv[1]);
+    if (length == 0 || length == sizeof file) {
+        fprintf(stderr, "carve_grid: %s %s\n", argv[1], length == 0 ? "cannot be read" : "is longer than there is room for");
         return 2;
     }
     n = values_in(length);

@@ -94,9 +94,9 @@
 /* ---- version */
 
 #define WATTLERUGBY_VERSION_MAJOR 0
-#define WATTLERUGBY_VERSION_MINOR 2
+#define WATTLERUGBY_VERSION_MINOR 3
 #define WATTLERUGBY_VERSION_PATCH 0
-#define WATTLERUGBY_VERSION "0.2.0"
+#define WATTLERUGBY_VERSION "0.3.0"
 
 #ifdef __cplusplus
 extern "C" {
@@ -119,7 +119,7 @@ enum {
     WATTLERUGBY_LENGTH = 2,            /* the length of a lent value, distance or status buffer is not n */
     WATTLERUGBY_BORDER_NEGATIVE = 3,   /* a border voxel is measured negative: the body reaches the edge of the grid */
     WATTLERUGBY_NO_NEGATIVE = 4,       /* no voxel is measured negative: there is no body */
-    WATTLERUGBY_INDEX = 5,             /* the index is n or more; points: the position is over 3 n */
+    WATTLERUGBY_INDEX = 5,             /* the index, or in read a patch's index, is n or more; points: the position is over 3 n */
     WATTLERUGBY_AXIS = 6,              /* the axis is over 2, or the next voxel lies beyond the grid */
 
     /* the state */
@@ -134,11 +134,11 @@ enum {
     WATTLERUGBY_NOTHING_TO_OPEN = 15,  /* open: no kept voxel outside the body lies bare */
 
     /* the grid file */
-    WATTLERUGBY_SHORT = 21,            /* fewer bytes are left than the header, or the layer record now due, is long */
+    WATTLERUGBY_SHORT = 21,            /* fewer bytes are left than the header, the layer record or the patch record now due is long */
     WATTLERUGBY_MARK = 22,             /* wrong mark */
     WATTLERUGBY_LAYER = 23,            /* a layer's z is c or more */
     WATTLERUGBY_LAYER_TWICE = 24,      /* a layer's z came before */
-    WATTLERUGBY_BYTES_LEFT = 25,       /* bytes after the last layer */
+    WATTLERUGBY_BYTES_LEFT = 25,       /* no call answers it any more: the program carve alone prints it, for input over 65,536 bytes */
     WATTLERUGBY_ROOM = 26              /* write: the buffer is shorter than the written file */
 };
 
@@ -151,7 +151,7 @@ static inline const char *wattlerugby_reason(uint8_t refusal)
     case WATTLERUGBY_LENGTH: return "a lent buffer's length is not the number of voxels";
     case WATTLERUGBY_BORDER_NEGATIVE: return "a border voxel is measured negative";
     case WATTLERUGBY_NO_NEGATIVE: return "no voxel is measured negative";
-    case WATTLERUGBY_INDEX: return "the index is beyond the grid";
+    case WATTLERUGBY_INDEX: return "the index, or a patch's index, is beyond the grid";
     case WATTLERUGBY_AXIS: return "the axis is over 2, or the next voxel lies beyond the grid";
     case WATTLERUGBY_UNFIT: return "the record does not fit its buffers";
     case WATTLERUGBY_FINISHED: return "the grid is finished";
@@ -162,11 +162,11 @@ static inline const char *wattlerugby_reason(uint8_t refusal)
     case WATTLERUGBY_STILL_PENDING: return "a voxel is pending";
     case WATTLERUGBY_NO_OPENING_LEFT: return "as many openings as were allowed have been made";
     case WATTLERUGBY_NOTHING_TO_OPEN: return "there is no voxel to open";
-    case WATTLERUGBY_SHORT: return "the file is too short";
+    case WATTLERUGBY_SHORT: return "the file ends where more bytes are due";
     case WATTLERUGBY_MARK: return "a mark in the file is wrong";
     case WATTLERUGBY_LAYER: return "a layer's z is beyond the grid";
     case WATTLERUGBY_LAYER_TWICE: return "a layer's z came before";
-    case WATTLERUGBY_BYTES_LEFT: return "bytes are left after the last layer";
+    case WATTLERUGBY_BYTES_LEFT: return "the input is over 65,536 bytes";
     case WATTLERUGBY_ROOM: return "the lent buffer is shorter than the file";
     default: return "no number of this library";
     }
@@ -381,7 +381,11 @@ wattlerugby_points_answer wattlerugby_points(
 /* ---- the grid file
  *
  * Low byte first. A header of 7 bytes: hex 56 48, a, b, c in a byte each, T in two bytes. Then c layer records in any order, each of
- * 3 + 2 a b bytes: hex 56 4C, z in a byte, and a * b values of 16 bits, in index order. */
+ * 3 + 2 a b bytes: hex 56 4C, z in a byte, and a * b values of 16 bits, in index order. Then any number of patch records, none at all
+ * included, each of 8 bytes: hex 56 50, a voxel's index in four bytes, and its value of 16 bits.
+ *
+ * A patch is a single voxel measured again. Its value stands in place of the layer's, and of two patches to a voxel the later one stands.
+ * So to correct a file, append to it. */
 
 typedef struct wattlerugby_read_answer {
     uint8_t refusal;
@@ -389,10 +393,15 @@ typedef struct wattlerugby_read_answer {
     uint16_t allowed;
 } wattlerugby_read_answer;
 
-/* Reads a whole file into n values, for begin. The header's bytes 2, 3 and 4 tell how many values to lend. Nothing is written where the
- * file is refused.
+/* Reads a whole file into n values, for begin: the layers, with the patches applied in the order of the file. The header's bytes 2, 3 and
+ * 4 tell how many values to lend. Every check is made before the first value is written: nothing is, where the file is refused, be it for
+ * its last patch.
  *
- * Checks: 21 (header), 22, 1, 2; for each layer record in turn 21, 22, 23, 24; at the end 25. */
+ * All bytes after the last layer are taken as patch records. There is no limit to their number, so none to the file's length, and the time
+ * is in proportion to that length. Any 16-bit value may be patched in, WATTLERUGBY_MISSING too.
+ *
+ * Checks: of the header 21 (fewer than 7 bytes), 22, 1, 2; of each layer record in turn 21, 22, 23, 24; of each patch record in turn 21
+ * (fewer than 8 bytes are left), 22, 5 (the index is n or more). */
 wattlerugby_read_answer wattlerugby_read(
     const uint8_t *file, size_t file_len,
     int16_t *values, size_t values_len);
@@ -405,7 +414,8 @@ typedef struct wattlerugby_read_layer_answer {
 } wattlerugby_read_layer_answer;
 
 /* Finds the values of the layer record that begins at byte `start`, without copying: they stay where they are in your file. The first
- * record begins at byte 7, and the next one where the one before it ends. `start` may be any number.
+ * record begins at byte 7, and the next one where the one before it ends. `start` may be any number. Patches are not looked at: who reads
+ * by layers applies them, from byte wattlerugby_written_length on.
  *
  * Checks: 1, 21, 22, 23. */
 wattlerugby_read_layer_answer wattlerugby_read_layer(
@@ -413,11 +423,11 @@ wattlerugby_read_layer_answer wattlerugby_read_layer(
     const uint8_t *file, size_t file_len,
     size_t start);
 
-/* The bytes of the longest grid file, that of 64 x 64 x 64 voxels: room for any. */
+/* The bytes of the longest file that write makes, that of 64 x 64 x 64 voxels: room for any of them. A file with patches may be longer. */
 #define WATTLERUGBY_LONGEST_FILE 524487
 
-/* How many bytes the file of a grid with these sides has. 0 where a side is outside 3 to 64: there is no such file, and write refuses
- * with 1. */
+/* How many bytes header and layers of a grid with these sides have: that is the whole file that write makes, and in any file the byte where
+ * patches begin. 0 where a side is outside 3 to 64: there is no such file, and write refuses with 1. */
 static inline size_t wattlerugby_written_length(wattlerugby_sides sides)
 {
     if (sides.a < 3 || sides.a > 64 || sides.b < 3 || sides.b > 64 || sides.c < 3 || sides.c > 64)
@@ -430,8 +440,9 @@ typedef struct wattlerugby_write_answer {
     size_t length;   /* bytes written: file[0] up to, and without, file[length] */
 } wattlerugby_write_answer;
 
-/* Writes n values with their sides and T as a grid file, the layers in rising z. Read takes these bytes and gives the same sides, T and
- * values. Nothing in them is left to choice: a grid has one written form, the same on every instrument.
+/* Writes n values with their sides and T as a grid file, the layers in rising z and no patches. Read takes these bytes and gives the same
+ * sides, T and values. Nothing in them is left to choice: a grid has one written form, the same on every instrument. What was read from a
+ * file with patches is written with their values in the layers.
  *
  * Any 16-bit value is written as it is, WATTLERUGBY_MISSING too, and so is a grid that begin would refuse. `file` may be longer than
  * wattlerugby_written_length; its bytes past that stay as they were.

@@ -19,7 +19,8 @@
 //! ```
 //!
 //! A grid file comes in by [`read`], or a layer at a time by [`read_layer`], and goes out by [`write()`]; [`written`] gives its bytes as a
-//! vector. Each grid has one written form, so two of them are the same exactly where their files are:
+//! vector. A [`patch`] behind them corrects a single voxel. Each grid has one written form, so two of them are the same exactly where their
+//! files are:
 //!
 //! ```
 //! use wattlerugby::{written, Grid, Sides};
@@ -52,7 +53,7 @@ pub use surface::Points;
 pub const MISSING: i16 = -32768;
 /// A limit that no carve reaches.
 pub const NO_LIMIT: u32 = u32::MAX;
-/// The bytes of the longest grid file, that of 64 x 64 x 64 voxels: room for any.
+/// The bytes of the longest file that [`write()`] makes, that of 64 x 64 x 64 voxels. A file with patches may be longer.
 pub const LONGEST_FILE: usize = 524_487;
 /// A status byte of a voxel that is not kept.
 pub const GONE: u8 = 0;
@@ -306,9 +307,14 @@ pub fn points(given: impl Into<raw::Record>, dist: &[i32], status: &[u8], positi
     done(r.refusal, Filled { count: r.count, next: r.next })
 }
 
-/// Reads a whole grid file into n values, and answers sides and T. Bytes 2, 3 and 4 of the file tell how many values to lend.
+/// Reads a whole grid file into n values, the layers with the patches applied in the order of the file, and answers sides and T. Bytes 2, 3
+/// and 4 of the file tell how many values to lend.
 ///
-/// Checks: 21 (header), 22, 1, 2; for each layer record in turn 21, 22, 23, 24; at the end 25.
+/// All bytes after the last layer are taken as patch records, which [`patch`] makes. There is no limit to their number, and the time is in
+/// proportion to the file's length. Every check is made before the first value is written.
+///
+/// Checks: of the header 21 (fewer than 7 bytes), 22, 1, 2; of each layer record in turn 21, 22, 23, 24; of each patch record in turn 21
+/// (fewer than 8 bytes are left), 22, 5 (the index is n or more).
 ///
 /// ```
 /// use wattlerugby::{read, Sides};
@@ -329,7 +335,7 @@ pub fn read(file: &[u8], values: &mut [i16]) -> Result<(Sides, u16), Refusal> {
     done(r.refusal, (r.sides, r.allowed))
 }
 
-/// The layer whose record begins at byte `start`, any number, as a part of the file.
+/// The layer whose record begins at byte `start`, any number, as a part of the file. Patches are not looked at.
 ///
 /// Checks: 1, 21, 22, 23.
 pub fn read_layer(sides: Sides, file: &[u8], start: usize) -> Result<Layer<'_>, Refusal> {
@@ -338,7 +344,29 @@ pub fn read_layer(sides: Sides, file: &[u8], start: usize) -> Result<Layer<'_>, 
     done(r.refusal, Layer { z: r.z, from: r.from, bytes: &file[r.from..r.to] })
 }
 
-/// How many bytes the file of a grid with these sides has; nothing where a side is outside 3 to 64, which [`write()`] refuses with 1.
+/// The patch record that gives the voxel of that index a new value: append it to a grid file. Of two patches to a voxel the later stands.
+///
+/// ```
+/// use wattlerugby::{patch, read, written, Refusal, Sides};
+///
+/// let mut file = written(Sides { a: 3, b: 3, c: 3 }, 0, &[5; 27])?;
+/// file.extend(patch(13, 40));
+/// file.extend(patch(13, -5));
+/// let mut values = [0; 27];
+/// read(&file, &mut values)?;
+/// assert_eq!((values[12], values[13], values[14]), (5, -5, 5));
+///
+/// file.extend(patch(27, -5)); // there is no such voxel
+/// assert_eq!(read(&file, &mut values), Err(Refusal::INDEX));
+/// # Ok::<(), Refusal>(())
+/// ```
+pub fn patch(index: u32, value: i16) -> [u8; 8] {
+    let ([i, j, k, l], [low, high]) = (index.to_le_bytes(), value.to_le_bytes());
+    [0x56, 0x50, i, j, k, l, low, high]
+}
+
+/// How many bytes header and layers of a grid with these sides have: that is the file that [`write()`] makes, and in any file the byte where
+/// patches begin. Nothing where a side is outside 3 to 64, which [`write()`] refuses with 1.
 ///
 /// ```
 /// use wattlerugby::{written_length, Sides, LONGEST_FILE};
@@ -351,8 +379,8 @@ pub fn written_length(sides: Sides) -> Option<usize> {
     sides.voxels().map(|n| 7 + 3 * sides.c + 2 * n)
 }
 
-/// Writes n values with their sides and T as a grid file, the layers in rising z, and answers its length. [`read`] takes these bytes and
-/// gives the same sides, T and values. Nothing in them is left to choice: a grid has one written form.
+/// Writes n values with their sides and T as a grid file, layers in rising z and no patches, and answers its length. [`read`] takes these
+/// bytes and gives the same sides, T and values. Nothing in them is left to choice: a grid has one written form.
 ///
 /// Any value is written as it is, [`MISSING`] too, and so is a grid that [`begin`] would refuse. `file` may be longer than
 /// [`written_length`]; its bytes past that stay as they were.

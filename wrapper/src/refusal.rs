@@ -18,14 +18,14 @@ pub struct Refusal(pub u8);
 
 /// The numbers with their names and reasons, in one table.
 macro_rules! numbers {
-    ($($number:literal $name:ident $reason:literal)+) => {
+    ($($(#[$more:meta])* $number:literal $name:ident $reason:literal)+) => {
         impl Refusal {
-            $(#[doc = concat!(stringify!($number), ": ", $reason, ".")] pub const $name: Refusal = Refusal($number);)+
+            $(#[doc = concat!(stringify!($number), ": ", $reason, ".")] $(#[$more])* pub const $name: Refusal = Refusal($number);)+
 
-            /// Every number that a call can refuse with, rising.
+            /// Every number of a refusal, rising.
             pub const ALL: &'static [Refusal] = &[$(Refusal::$name),+];
 
-            /// The number's name; nothing for a number that no call refuses with.
+            /// The number's name; nothing for one that is not in [`Refusal::ALL`].
             pub fn name(&self) -> Option<&'static str> {
                 match self.0 {
                     $($number => Some(stringify!($name)),)+
@@ -49,7 +49,7 @@ numbers! {
     2 LENGTH "a lent buffer's length is not the number of voxels"
     3 BORDER_NEGATIVE "a border voxel is measured negative"
     4 NO_NEGATIVE "no voxel is measured negative"
-    5 INDEX "the index is beyond the grid"
+    5 INDEX "the index, or a patch's index, is beyond the grid"
     6 AXIS "the axis is over 2, or the next voxel lies beyond the grid"
     7 UNFIT "the record does not fit its buffers"
     8 FINISHED "the grid is finished"
@@ -60,11 +60,12 @@ numbers! {
     13 STILL_PENDING "a voxel is pending"
     14 NO_OPENING_LEFT "as many openings as were allowed have been made"
     15 NOTHING_TO_OPEN "there is no voxel to open"
-    21 SHORT "the file is too short"
+    21 SHORT "the file ends where more bytes are due"
     22 MARK "a mark in the file is wrong"
     23 LAYER "a layer's z is beyond the grid"
     24 LAYER_TWICE "a layer's z came before"
-    25 BYTES_LEFT "bytes are left after the last layer"
+    /// No call refuses with it any more: the program `carve` alone prints it.
+    25 BYTES_LEFT "the input is over 65,536 bytes"
     26 ROOM "the lent buffer is shorter than the file"
 }
 

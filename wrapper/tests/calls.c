@@ -1,6 +1,6 @@
 /* Every call on a state from C, on document 01's case C, with each answer printed: a ring of eight voxels around an empty one, and one
- * opening allowed. Then a file out and in, and what the header says of null pointers, padding and numbers. The status is 0 where all of
- * that holds. */
+ * opening allowed. Then a file out and in, patches to it, and what the header says of null pointers, padding and numbers. The status is 0
+ * where all of that holds. */
 #include <stdio.h>
 #include <string.h>
 
@@ -172,6 +172,60 @@ static int files(void)
     wrong += back.refusal != 0 || back.allowed != 0xABCD || memcmp(&back.sides, &sides, sizeof sides) != 0;
     wrong += memcmp(values, again, sizeof values) != 0;
     printf(" ..\n  %s\n", wrong ? "WRONG" : "reads as what was written");
+    return wrong;
+}
+
+/* ---- patches: each read of the file is told by its answer and the value of voxel 21 */
+
+enum { LAYERS = 142, VOXELS = 60 };
+
+static int16_t read_patched(const uint8_t *file, size_t length, uint8_t due)
+{
+    int16_t values[VOXELS];
+    wattlerugby_read_answer r;
+    int i, wrong = 0;
+    for (i = 0; i < VOXELS; i++)
+        values[i] = 77;
+    r = wattlerugby_read(file, length, values, VOXELS);
+    for (i = 0; i < VOXELS; i++)
+        wrong += r.refusal == 0 ? i != 21 && values[i] != i : values[i] != 77;
+    wrong += r.refusal != due;
+    printf("read %u bytes: ", (unsigned)length);
+    if (r.refusal != 0)
+        printf("refused %u, %s\n", r.refusal, wattlerugby_reason(r.refusal));
+    else
+        printf("voxel 21 is %d\n", values[21]);
+    return (int16_t)(wrong ? 0 : values[21]);
+}
+
+static int patches(void)
+{
+    static const uint8_t behind[] = {
+        0x56, 0x50, 21, 0, 0, 0, 0xFE, 0xFF, /* voxel 21 is -2 */
+        0x56, 0x50, 21, 0, 0, 0, 0x00, 0x80, /* it is missing */
+        0x56, 0x50, 60, 0, 0, 0, 0x01, 0x00  /* there is no voxel 60 */
+    };
+    const wattlerugby_sides sides = {3, 4, 5};
+    int16_t values[VOXELS];
+    uint8_t file[LAYERS + sizeof behind], again[LAYERS];
+    int i, wrong = 0;
+    for (i = 0; i < VOXELS; i++)
+        values[i] = (int16_t)i;
+    wrong += wattlerugby_write(sides, 0, values, VOXELS, file, LAYERS).length != LAYERS;
+    memcpy(file + LAYERS, behind, sizeof behind);
+    wrong += read_patched(file, LAYERS, 0) != 21;
+    wrong += read_patched(file, LAYERS + 1, WATTLERUGBY_SHORT) != 77;
+    wrong += read_patched(file, LAYERS + 8, 0) != -2;
+    wrong += read_patched(file, LAYERS + 15, WATTLERUGBY_SHORT) != 77;
+    wrong += read_patched(file, LAYERS + 16, 0) != WATTLERUGBY_MISSING;
+    wrong += read_patched(file, LAYERS + 24, WATTLERUGBY_INDEX) != 77;
+    file[LAYERS + 17] = 0x4C;
+    wrong += read_patched(file, LAYERS + 24, WATTLERUGBY_MARK) != 77;
+    /* what was read is written without patches */
+    wrong += wattlerugby_read(file, LAYERS + 8, values, VOXELS).refusal != 0;
+    wrong += wattlerugby_write(sides, 0, values, VOXELS, again, LAYERS).length != LAYERS;
+    wrong += read_patched(again, LAYERS, 0) != -2;
+    printf("patches: %s\n", wrong ? "WRONG" : "the later stands, and a refused file writes nothing");
     return wrong;
 }
 
@@ -351,5 +405,5 @@ int main(int argc, char **argv)
         lengths();
         return 0;
     }
-    return ring() + files() + nulls() + padding() + finished_bytes();
+    return ring() + files() + patches() + nulls() + padding() + finished_bytes();
 }

@@ -1,4 +1,4 @@
-//! Document 01's worked cases, through the wrapper.
+//! Document 01's worked cases, through the wrapper, and document 02's patches on one of them.
 
 use wattlerugby::{local_test, written, Grid, Point, Refusal, Sides};
 
@@ -46,6 +46,25 @@ fn case_c() {
     assert_eq!((o.index, o.k, o.m, o.next.euler, o.next.openings), (37, 1, 2, 0, 1));
 }
 
+/// The file of case D as document 01 has it.
+fn file_of_d() -> Vec<u8> {
+    let bytes = |i: usize| if i == 21 || i == 26 { [0xFA, 0xFF] } else { [0x06, 0x00] };
+    let mut file = vec![0x56, 0x48, 0x04, 0x04, 0x03, 0x00, 0x00];
+    for z in 0..3usize {
+        file.extend([0x56, 0x4C, z as u8]);
+        file.extend((16 * z..16 * z + 16).flat_map(bytes));
+    }
+    file
+}
+
+/// Kept, removed and examined voxels of a file that is carved to its end.
+fn carved(file: &[u8]) -> (usize, u64, u64) {
+    let mut g = Grid::from_file(file).unwrap();
+    g.carve_to_the_end().unwrap();
+    let kept = g.status().iter().filter(|&&s| s != wattlerugby::GONE).count();
+    (kept, g.record().removals, g.record().examinations)
+}
+
 #[test]
 fn case_d() {
     let (sides, values) = grid([4, 4, 3], 6, &[21, 26]);
@@ -56,18 +75,23 @@ fn case_d() {
     assert_eq!((g.status()[22], g.status()[25]), (wattlerugby::GONE, wattlerugby::GONE));
     assert_eq!((g.record().removals, g.record().examinations, g.record().euler), (2, 2, 1));
 
-    // the file as document 01 has it
-    let bytes = |i: usize| if i == 21 || i == 26 { [0xFA, 0xFF] } else { [0x06, 0x00] };
-    let mut file = vec![0x56, 0x48, 0x04, 0x04, 0x03, 0x00, 0x00];
-    for z in 0..3usize {
-        file.extend([0x56, 0x4C, z as u8]);
-        file.extend((16 * z..16 * z + 16).flat_map(bytes));
-    }
+    let file = file_of_d();
     assert_eq!(written(sides, 0, &values).as_ref(), Ok(&file));
-    let mut read = Grid::from_file(&file).unwrap();
-    read.carve_to_the_end().unwrap();
-    assert_eq!(read.status().iter().filter(|&&s| s != wattlerugby::GONE).count(), 2);
+    assert_eq!(carved(&file), (2, 2, 2));
     assert_eq!(Grid::from_file(&file[..file.len() - 1]), Err(Refusal(21)));
+}
+
+/// Case D's file with patches behind it, byte by byte: voxel 26 is outside after all, and voxel 22 inside.
+#[test]
+fn case_d_patched() {
+    let patches = [0x56, 0x50, 0x1A, 0, 0, 0, 0x06, 0x00, 0x56, 0x50, 0x16, 0, 0, 0, 0xFA, 0xFF];
+    let after = |bytes: &[u8]| [&file_of_d()[..], bytes].concat();
+    assert_eq!(carved(&after(&patches[..8])), (1, 0, 0));
+    assert_eq!(carved(&after(&patches)), (2, 0, 0));
+    assert_eq!(carved(&after(&patches[8..])), (3, 1, 1));
+    assert_eq!(Grid::from_file(&after(&patches[..15])), Err(Refusal(21)));
+    assert_eq!(Grid::from_file(&after(&patches[1..9])), Err(Refusal(22)));
+    assert_eq!(Grid::from_file(&after(&[0x56, 0x50, 0x30, 0, 0, 0, 0, 0])), Err(Refusal(5)));
 }
 
 /// The places that run along so many axes: 0 for corners, 1 for edges, 2 for faces.
