@@ -218,11 +218,25 @@ fn shown(r: &Record) -> String {
     )
 }
 
-/// The line of the program `carve`, by calls of the library: a side over 24 is refused with 1 in its place.
-fn program(file: &[u8]) -> String {
+/// The longest input that the program `carve` takes.
+const LONGEST_INPUT: usize = 1 << 16;
+
+/// The program's own refusals: 25 for its input's length before all else, and 1 for a side over 24 in the place of that check.
+fn refused_by_program(file: &[u8]) -> Option<Refusal> {
     let fit = |i: usize| (3..=64).contains(&file[i]);
-    let large = file.len() >= 7 && file[..2] == [0x56, 0x48] && (2..5).all(fit) && file[2..5].iter().any(|&side| side > 24);
-    let carved = if large { Err(Refusal(1)) } else { Grid::from_file(file).and_then(|mut g| g.carve_to_the_end().map(|()| g)) };
+    let large = || file.len() >= 7 && file[..2] == [0x56, 0x48] && (2..5).all(fit) && file[2..5].iter().any(|&side| side > 24);
+    match file.len() > LONGEST_INPUT {
+        true => Some(Refusal::BYTES_LEFT),
+        false => large().then_some(Refusal::SIDE),
+    }
+}
+
+/// The line of the program `carve`, by calls of the library.
+fn program(file: &[u8]) -> String {
+    let carved = match refused_by_program(file) {
+        Some(refused) => Err(refused),
+        None => Grid::from_file(file).and_then(|mut g| g.carve_to_the_end().map(|()| g)),
+    };
     match carved {
         Ok(grid) => {
             let kept = grid.status().iter().filter(|&&s| s != wattlerugby::GONE).count();
