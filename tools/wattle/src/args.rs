@@ -78,6 +78,11 @@ impl Args {
         self.options.iter().rev().find(|(name, _)| *name == option).map(|(_, value)| value.as_str())
     }
 
+    /// All words given with an option, in their order.
+    pub fn values<'a>(&'a self, option: &'a str) -> impl Iterator<Item = &'a str> {
+        self.options.iter().filter(move |(name, _)| *name == option).map(|(_, value)| value.as_str())
+    }
+
     /// A number given with an option, within bounds.
     pub fn number(&self, option: &str, least: usize, most: usize) -> Result<Option<usize>, Failure> {
         let Some(word) = self.value(option) else { return Ok(None) };

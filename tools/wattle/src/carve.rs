@@ -6,8 +6,9 @@ use crate::file::{Source, HEADER};
 use crate::{Answer, Failure, Status};
 use wattlerugby::Refusal;
 
-/// The longest side that the program takes.
+/// The longest side and the longest input that the program takes.
 pub const PROGRAM_SIDE: usize = 24;
+pub const PROGRAM_BYTES: usize = 65_536;
 
 pub fn carve(args: &Args) -> Result<Answer, Failure> {
     let source = Source::open(&args.files[0])?;
@@ -19,16 +20,21 @@ pub fn carve(args: &Args) -> Result<Answer, Failure> {
 }
 
 fn line(source: Source, large: bool) -> Result<String, Refusal> {
-    if !large && too_large(&source) {
-        return Err(Refusal::SIDE);
+    match program_limit(&source) {
+        Some(refused) if !large => return Err(refused),
+        _ => {}
     }
     let scan = source.read().map_err(|(_, refused)| refused)?;
     Ok(Body::carve(&scan)?.line())
 }
 
-/// Whether the program would refuse a side that read takes. It checks this where read checks the sides: after the header's length and
-/// mark, and before the layers.
-fn too_large(source: &Source) -> bool {
-    let sides = source.sides();
-    source.bytes.len() >= HEADER && source.bytes.starts_with(b"VH") && [sides.a, sides.b, sides.c].iter().any(|&s| s > PROGRAM_SIDE)
+/// What the program refuses a file with for its own limits. The input's length comes before all else; a side is checked where read checks
+/// the sides: after the header's length and mark, and before the layers.
+pub fn program_limit(source: &Source) -> Option<Refusal> {
+    let (bytes, sides) = (&source.bytes, source.sides());
+    if bytes.len() > PROGRAM_BYTES {
+        return Some(Refusal::BYTES_LEFT);
+    }
+    let large = bytes.len() >= HEADER && bytes.starts_with(b"VH") && [sides.a, sides.b, sides.c].iter().any(|&s| s > PROGRAM_SIDE);
+    large.then_some(Refusal::SIDE)
 }

@@ -2,33 +2,45 @@
 
 use crate::args::Args;
 use crate::body::{Body, Kind};
-use crate::carve::PROGRAM_SIDE;
-use crate::file::{is_negative, Scan, Source, HEADER, LAYER_HEAD};
+use crate::carve::{program_limit, PROGRAM_BYTES, PROGRAM_SIDE};
+use crate::file::{index_of, is_negative, Records, Scan, Source, HEADER, LAYER_HEAD, PATCH, PATCH_HEAD};
 use crate::{Answer, Failure, Status};
+use std::collections::BTreeSet;
 use wattlerugby::{Refusal, Sides, MISSING};
 
 pub fn explain(args: &Args) -> Result<Answer, Failure> {
     let source = Source::open(&args.files[0])?;
-    let name = source.name.clone();
-    let (layers, _) = source.layers();
+    let (name, records, limit) = (source.name.clone(), source.records(), program_limit(&source));
     let refused = match source.read() {
-        Err((source, refused)) => (refused, unreadable(&source, refused)),
+        Err((source, refused)) => (refused, unreadable(&source, &records, refused)),
         Ok(scan) => match Body::carve(&scan) {
-            Ok(body) => return Ok(Answer::text(taken(&body), Status::Done)),
-            Err(refused) => (refused, unfit(&scan, &layers, refused)),
+            Ok(body) => return Ok(Answer::text(taken(&body, &records, limit), Status::Done)),
+            Err(refused) => (refused, unfit(&scan, &records, refused)),
         },
     };
     let (number, (place, advice)) = refused;
-    let text = format!("{name} is {number}.\nWhere: {place}\nWhat to do: {advice}\n");
+    let mut text = format!("{name} is {number}.\nWhere: {place}\nWhat to do: {advice}\n");
+    if let Some(limit) = limit.filter(|limit| *limit != number) {
+        text += &format!("{}\n", of_the_program(limit));
+    }
     Ok(Answer::text(text, Status::Refused))
+}
+
+/// What the program prints in place of what is told here.
+fn of_the_program(limit: Refusal) -> String {
+    let most = match limit {
+        Refusal::BYTES_LEFT => format!("input of {PROGRAM_BYTES} bytes at most; the library takes any length"),
+        _ => format!("{PROGRAM_SIDE} voxels a side at most; the library takes 64"),
+    };
+    format!("The program carve prints `refused {}` for it, since it takes {most}.", limit.0)
 }
 
 // ---- a file that read refuses
 
 /// Where it is wrong, and what to do.
-fn unreadable(source: &Source, refused: Refusal) -> (String, String) {
-    let (found, next) = source.layers();
-    let length = source.bytes.len();
+fn unreadable(source: &Source, records: &Records, refused: Refusal) -> (String, String) {
+    let Records { layers: found, patches, next } = records;
+    let (length, next) = (source.bytes.len(), *next);
     match refused {
         Refusal::SHORT if length < HEADER => {
             (format!("the file has {length} bytes, and the header alone has {HEADER}."), "write the file again.".to_string())
@@ -38,14 +50,11 @@ fn unreadable(source: &Source, refused: Refusal) -> (String, String) {
             "see that this is a grid file and not some other one.".to_string(),
         ),
         Refusal::SIDE => (wrong_sides(source.sides()), "cut the grid, or measure more voxels, and write it again.".to_string()),
-        Refusal::SHORT => short(source, found.len(), next),
-        Refusal::MARK => wrong_mark(source, &found, next),
         // read_layer takes a layer that came before, so it is looked for among those that it took
-        Refusal::LAYER_TWICE => twice(&found),
-        Refusal::BYTES_LEFT => (
-            format!("the last layer ends before byte {next}, and more bytes follow; {}.", due_length(source.sides())),
-            format!("cut the file after its first {next} bytes, or see whether the third side, byte 4, is right."),
-        ),
+        Refusal::LAYER_TWICE => twice(found),
+        _ if found.len() == source.sides().c => wrong_patch(source, patches.len(), next, refused),
+        Refusal::SHORT => short(source, found.len(), next),
+        Refusal::MARK => wrong_mark(source, found, next),
         // read is lent a buffer of the right length, so 23 is all that is left
         _ => wrong_layer(source, found.len(), next),
     }
@@ -61,7 +70,7 @@ fn record_length(sides: Sides) -> usize {
 
 fn due_length(sides: Sides) -> String {
     let Sides { a, b, c } = sides;
-    format!("with sides {a} x {b} x {c} a file has {} bytes", HEADER + c * record_length(sides))
+    format!("with sides {a} x {b} x {c} header and layers have {} bytes", HEADER + c * record_length(sides))
 }
 
 fn wrong_sides(sides: Sides) -> String {
@@ -110,25 +119,57 @@ fn twice(found: &[(usize, u8)]) -> (String, String) {
     (place, "number the layers 0 to c - 1, each once.".to_string())
 }
 
-// ---- a grid that begin refuses
-
-/// Where it is wrong, and what to do.
-pub fn unfit(scan: &Scan, layers: &[(usize, u8)], refused: Refusal) -> (String, String) {
+/// What follows the last layer is wrong after so many good patches.
+fn wrong_patch(source: &Source, found: usize, next: usize, refused: Refusal) -> (String, String) {
+    let (length, rest) = (source.bytes.len(), &source.bytes[next..]);
+    let begins = format!("patch record {} begins at byte {next}", found + 1);
     match refused {
-        Refusal::BORDER_NEGATIVE => on_the_edge(scan, layers),
-        _ => nothing_negative(scan, layers),
+        Refusal::SHORT => (
+            format!("{begins} and has {PATCH} bytes, but {} are left. The file has {length} bytes.", rest.len()),
+            format!("write that patch whole; or cut the file after its first {next} bytes, which leaves it out."),
+        ),
+        Refusal::MARK => (
+            format!("{begins} with {}, and 56 50 hex is due: only patches follow the last layer.", hex(&rest[..2])),
+            format!(
+                "cut the file after its first {next} bytes; or see that each patch has 8 bytes, and that the third side, byte 4, is right."
+            ),
+        ),
+        _ => wrong_index(source.sides(), &begins, next, index_of(rest)),
     }
 }
 
-/// The voxel with its value, and the byte of the file where that stands.
-fn value_at(scan: &Scan, layers: &[(usize, u8)], index: usize) -> String {
-    let [.., z] = scan.place(index);
-    let record = layers.iter().find(|(_, layer)| usize::from(*layer) == z).expect("read found every layer").0;
-    let byte = record + LAYER_HEAD + 2 * (index % (scan.sides.a * scan.sides.b));
-    format!("voxel {}, with {}: byte {byte}, in layer z = {z}", scan.voxel(index), scan.values[index])
+fn wrong_index(sides: Sides, begins: &str, next: usize, index: usize) -> (String, String) {
+    let Sides { a, b, c } = sides;
+    let (first, last) = (next + 2, next + PATCH_HEAD - 1);
+    let place = format!(
+        "{begins}: bytes {first} to {last} say index {index}, and a grid of {a} x {b} x {c} voxels has indices 0 to {}.",
+        a * b * c - 1
+    );
+    (place, format!("see that the patch is for this grid, where voxel (x, y, z) has index x + {a} (y + {b} z); or leave the patch out."))
 }
 
-fn on_the_edge(scan: &Scan, layers: &[(usize, u8)]) -> (String, String) {
+// ---- a grid that begin refuses
+
+/// Where it is wrong, and what to do.
+pub fn unfit(scan: &Scan, records: &Records, refused: Refusal) -> (String, String) {
+    match refused {
+        Refusal::BORDER_NEGATIVE => on_the_edge(scan, records),
+        _ => nothing_negative(scan, records),
+    }
+}
+
+/// The voxel with its value, and the byte of the file where that stands: in its last patch, or else in its layer.
+fn value_at(scan: &Scan, records: &Records, index: usize) -> String {
+    let told = format!("voxel {}, with {}", scan.voxel(index), scan.values[index]);
+    if let Some(last) = records.patches.iter().rposition(|(_, patched)| *patched == index) {
+        return format!("{told}: byte {}, in patch record {}", records.patches[last].0 + PATCH_HEAD, last + 1);
+    }
+    let [.., z] = scan.place(index);
+    let record = records.layers.iter().find(|(_, layer)| usize::from(*layer) == z).expect("read found every layer").0;
+    format!("{told}: byte {}, in layer z = {z}", record + LAYER_HEAD + 2 * (index % (scan.sides.a * scan.sides.b)))
+}
+
+fn on_the_edge(scan: &Scan, records: &Records) -> (String, String) {
     let on_edge = |&i: &usize| is_negative(scan.values[i]) && scan.on_border(i);
     let found: Vec<usize> = (0..scan.values.len()).filter(on_edge).collect();
     let Sides { a, b, c } = scan.sides;
@@ -141,16 +182,18 @@ fn on_the_edge(scan: &Scan, layers: &[(usize, u8)]) -> (String, String) {
         "{} on the grid's edge ({}). The first is {}.",
         if found.len() == 1 { "1 negative voxel lies".to_string() } else { format!("{} negative voxels lie", found.len()) },
         told.collect::<Vec<_>>().join(", "),
-        value_at(scan, layers, found[0])
+        value_at(scan, records, found[0])
     );
     (place, "leave a rim of one voxel or more around the body, measured outside or missing. `wattle look` marks these voxels.".to_string())
 }
 
-fn nothing_negative(scan: &Scan, layers: &[(usize, u8)]) -> (String, String) {
+fn nothing_negative(scan: &Scan, records: &Records) -> (String, String) {
     let missing = scan.values.iter().filter(|&&v| v == MISSING).count();
     let measured = (0..scan.values.len()).filter(|&i| scan.values[i] != MISSING);
     let place = match measured.min_by_key(|&i| scan.values[i]) {
-        Some(least) => format!("{missing} of {} values are missing; the least is at {}.", scan.values.len(), value_at(scan, layers, least)),
+        Some(least) => {
+            format!("{missing} of {} values are missing; the least is at {}.", scan.values.len(), value_at(scan, records, least))
+        }
         None => format!("all {missing} values are missing."),
     };
     (place, "look at the sign: negative is inside the body. Look also whether the body lies in the grid at all.".to_string())
@@ -158,19 +201,24 @@ fn nothing_negative(scan: &Scan, layers: &[(usize, u8)]) -> (String, String) {
 
 // ---- a grid that is taken
 
-fn taken(body: &Body) -> String {
+fn taken(body: &Body, records: &Records, limit: Option<Refusal>) -> String {
     let scan = body.scan;
-    let Sides { a, b, c } = scan.sides;
     let mut text = format!("{} is taken: {} voxels, T = {}.\n{}\n", scan.name, scan.size(), scan.allowed, body.line());
-    for sentence in meaning(body) {
+    for sentence in meaning(body).into_iter().chain(patched(records)).chain(limit.map(of_the_program)) {
         text += &format!("- {sentence}\n");
     }
-    if a.max(b).max(c) > PROGRAM_SIDE {
-        text += &format!(
-            "- The program carve prints `refused 1` for it, since it takes {PROGRAM_SIDE} voxels a side at most; the library takes 64.\n"
-        );
-    }
     text
+}
+
+/// How many patches the file has, and to how many voxels.
+fn patched(records: &Records) -> Option<String> {
+    let voxels: BTreeSet<usize> = records.patches.iter().map(|(_, index)| *index).collect();
+    let patches = match records.patches.len() {
+        0 => return None,
+        1 => "1 patch corrects".to_string(),
+        many => format!("{many} patches correct"),
+    };
+    Some(format!("{patches} {} of the layers.", some(voxels.len(), "value")))
 }
 
 /// `1 voxel`, `2 voxels`.

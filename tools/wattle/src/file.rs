@@ -5,11 +5,11 @@ use std::io::Read;
 use std::path::Path;
 use wattlerugby::{read, read_layer, Refusal, Sides, LONGEST_FILE, MISSING};
 
-/// Bytes of the header, and of a layer record before its values.
+/// Bytes of the header, of a layer record before its values, and of a patch record: in all, and before its value.
 pub const HEADER: usize = 7;
 pub const LAYER_HEAD: usize = 3;
-/// Of a file that is longer than any grid's, the bytes up to the first that is too many decide.
-const MOST_BYTES: u64 = LONGEST_FILE as u64 + 1;
+pub const PATCH: usize = 8;
+pub const PATCH_HEAD: usize = 6;
 
 /// A file's bytes, with the name that answers call it by.
 pub struct Source {
@@ -17,7 +17,17 @@ pub struct Source {
     pub bytes: Vec<u8>,
 }
 
-/// A grid as it was scanned.
+/// Where a file's records begin, up to the first that is refused.
+pub struct Records {
+    /// Each layer's first byte, and its z.
+    pub layers: Vec<(usize, u8)>,
+    /// Each patch's first byte, and its voxel's index.
+    pub patches: Vec<(usize, usize)>,
+    /// The byte after the last of them.
+    pub next: usize,
+}
+
+/// A grid as it was scanned, with what was patched.
 #[derive(Debug)]
 pub struct Scan {
     pub name: String,
@@ -30,13 +40,11 @@ pub struct Scan {
 impl Source {
     pub fn open(path: &Path) -> Result<Source, Failure> {
         let cannot = |e: std::io::Error| Failure::unusable(format!("{} cannot be read: {e}", path.display()));
-        let mut bytes = Vec::new();
         if path == Path::new("-") {
-            std::io::stdin().take(MOST_BYTES).read_to_end(&mut bytes).map_err(cannot)?;
+            let bytes = bytes_that_decide(std::io::stdin()).map_err(cannot)?;
             return Ok(Source { name: "the standard input".to_string(), bytes });
         }
-        let file = std::fs::File::open(path).map_err(cannot)?;
-        file.take(MOST_BYTES).read_to_end(&mut bytes).map_err(cannot)?;
+        let bytes = std::fs::File::open(path).and_then(bytes_that_decide).map_err(cannot)?;
         let name = path.file_name().unwrap_or(path.as_os_str()).to_string_lossy();
         // a line feed in a name would break the headers that it goes into
         Ok(Source { name: name.replace(char::is_control, "?"), bytes })
@@ -44,27 +52,66 @@ impl Source {
 
     /// The sides that the header names, 0 for those beyond the file's end.
     pub fn sides(&self) -> Sides {
-        let side = |i: usize| self.bytes.get(i).map_or(0, |&s| usize::from(s));
-        Sides { a: side(2), b: side(3), c: side(4) }
+        sides_of(&self.bytes)
     }
 
     pub fn read(self) -> Result<Scan, (Source, Refusal)> {
-        let mut values = vec![0; self.sides().voxels().unwrap_or(0)];
-        match read(&self.bytes, &mut values) {
-            Ok((sides, allowed)) => Ok(Scan { name: self.name, sides, allowed, values }),
+        match values_of(&self.bytes) {
+            Ok((sides, allowed, values)) => Ok(Scan { name: self.name, sides, allowed, values }),
             Err(refused) => Err((self, refused)),
         }
     }
 
-    /// Where each layer record begins and its z, up to the first that is refused, then the byte after the last of them.
-    pub fn layers(&self) -> (Vec<(usize, u8)>, usize) {
-        let (sides, mut start, mut found) = (self.sides(), HEADER, Vec::new());
-        while found.len() < sides.c {
-            let Ok(layer) = read_layer(sides, &self.bytes, start) else { break };
-            found.push((start, layer.z));
-            start = layer.from + layer.bytes.len();
+    pub fn records(&self) -> Records {
+        let (sides, mut next, mut layers, mut patches) = (self.sides(), HEADER, Vec::new(), Vec::new());
+        while layers.len() < sides.c {
+            let Ok(layer) = read_layer(sides, &self.bytes, next) else { return Records { layers, patches, next } };
+            layers.push((next, layer.z));
+            next = layer.from + layer.bytes.len();
         }
-        (found, start)
+        while let Some(index) = self.patch_at(next) {
+            patches.push((next, index));
+            next += PATCH;
+        }
+        Records { layers, patches, next }
+    }
+
+    /// The index in the patch record that begins at a byte, where that is one.
+    fn patch_at(&self, start: usize) -> Option<usize> {
+        let record = self.bytes.get(start..start + PATCH)?;
+        let index = index_of(record);
+        (record.starts_with(b"VP") && index < self.sides().voxels()?).then_some(index)
+    }
+}
+
+/// The index that a patch record has, whatever the grid.
+pub fn index_of(record: &[u8]) -> usize {
+    record[2..PATCH_HEAD].iter().rev().fold(0, |index, &byte| index << 8 | usize::from(byte))
+}
+
+/// The header's sides, 0 for those beyond the file's end.
+fn sides_of(bytes: &[u8]) -> Sides {
+    let side = |i: usize| bytes.get(i).map_or(0, |&s| usize::from(s));
+    Sides { a: side(2), b: side(3), c: side(4) }
+}
+
+/// What read makes of a file: sides, T and values.
+fn values_of(bytes: &[u8]) -> Result<(Sides, u16, Vec<i16>), Refusal> {
+    let mut values = vec![0; sides_of(bytes).voxels().unwrap_or(0)];
+    read(bytes, &mut values).map(|(sides, allowed)| (sides, allowed, values))
+}
+
+/// All bytes, or so many that read refuses them whatever follows: no file is too long, but what is no grid file is not read to its end.
+fn bytes_that_decide(mut input: impl Read) -> std::io::Result<Vec<u8>> {
+    let mut bytes = Vec::new();
+    loop {
+        // as many again as are there, so that looking at them over and over takes no more than twice the time
+        let due = bytes.len().max(LONGEST_FILE);
+        let found = input.by_ref().take(due as u64).read_to_end(&mut bytes)?;
+        // every refusal but that of a file which ends too early is of bytes that are there
+        if found < due || values_of(&bytes).is_err_and(|refused| refused != Refusal::SHORT) {
+            return Ok(bytes);
+        }
     }
 }
 

@@ -29,8 +29,8 @@ for its values, these are shown in its place, with those that it is refused for 
         options: &[],
         help: "wattle explain FILE [-o OUT]
 
-Says why a grid file is refused: the number, the byte, the layer or the voxel, and what to do. Where it is taken, says what its
-result means: how much was filled, whether range points are missing there, and what can be said about tunnels.
+Says why a grid file is refused: the number, the byte, the layer, the patch or the voxel, and what to do. Where it is taken, says what
+its result means: how much was filled, whether range points are missing there, and what can be said about tunnels.
 ",
     },
     Command {
@@ -93,8 +93,24 @@ One HTML page that opens in any browser without a network: layers to scroll thro
         options: &[],
         help: "wattle rewrite FILE [-o OUT]
 
-The same grid as a file in its written form: layers in rising z. Sides, T and values stay as they are. A grid has one written form, so
-files of the same grid become the same bytes. What carving makes of the grid is not asked.
+The same grid as a file in its written form: layers in rising z and no patches; what patches correct goes into the layers. Sides, T and
+values stay as they are. A grid has one written form, so files of the same grid become the same bytes. What carving makes of the grid
+is not asked.
+",
+    },
+    Command {
+        name: "patch",
+        files: 1,
+        options: &["--set="],
+        help: "wattle patch FILE --set VOXEL=VALUE [--set ..] [-o OUT]
+
+The file with single voxels corrected: its own bytes, and after them a patch record for each --set, in the order given. Of two patches
+to a voxel the later one stands. FILE stays as it is. `wattle rewrite` puts patches into the layers.
+
+  --set VOXEL=VALUE   VOXEL is X,Y,Z or an index, x + a (y + b z) with sides a, b, c
+                      VALUE is -32767 to 32767, negative inside the body, or `missing`, which is -32768
+
+    wattle patch scan.grid --set 5,6,7=-12 --set 5,6,8=missing -o mended.grid
 ",
     },
     Command {
@@ -104,9 +120,9 @@ files of the same grid become the same bytes. What carving makes of the grid is 
         help: "wattle carve FILE [--large] [-o OUT]
 
 Prints the line that the program `carve` prints, with an exit status: 0 carved, 1 refused, 2 usage or a file that cannot be read.
-As the program does, it refuses a side over 24 with number 1.
+As the program does, it refuses input over 65,536 bytes with number 25, before all else, and a side over 24 with number 1.
 
-  --large   sides up to 64, as all other commands take them
+  --large   files of any length and sides up to 64, as all other commands take them
 ",
     },
 ];
@@ -122,7 +138,8 @@ pub fn overview() -> String {
   wattle volume FILE     values, distances, status: VTK, NRRD
   wattle compare A B     which voxels differ
   wattle page FILE       a page to look at it in a browser, offline
-  wattle rewrite FILE    the same grid in its written form: layers in rising z
+  wattle patch FILE      the file with single voxels corrected (--set)
+  wattle rewrite FILE    the same grid in its written form: layers in rising z, no patches
   wattle carve FILE      the program's line, with an exit status
   wattle help COMMAND    more about a command
 

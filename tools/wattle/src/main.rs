@@ -1,4 +1,5 @@
-//! wattle: looks at grid files and at the bodies that carving leaves of them, and rewrites grid files, for surveyors and for support.
+//! wattle: looks at grid files and at the bodies that carving leaves of them, and patches and rewrites grid files, for surveyors and for
+//! support.
 //!
 //! Everything about carving comes from the proved library, by way of the wrapper; what is here reads files, words and draws.
 
@@ -13,6 +14,7 @@ mod help;
 mod look;
 mod output;
 mod page;
+mod patch;
 mod picture;
 mod png;
 mod points;
@@ -87,6 +89,7 @@ fn run(words: &[std::ffi::OsString]) -> Result<Status, Failure> {
         "volume" => volume::volume(&args),
         "compare" => compare::compare(&args),
         "page" => page::page(&args),
+        "patch" => patch::patch(&args),
         "rewrite" => rewrite::rewrite(&args),
         _ => carve::carve(&args),
     }?;

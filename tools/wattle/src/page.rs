@@ -14,14 +14,14 @@ const TEMPLATE: &str = include_str!("page.html");
 
 pub fn page(args: &Args) -> Result<Answer, Failure> {
     let source = Source::open(&args.files[0])?;
-    let (layers, _) = source.layers();
+    let records = source.records();
     let scan = source.read().map_err(|(source, refused)| refusal(&source.name, refused))?;
     let body = Body::carve(&scan);
     let view = View::new(&scan, &body);
     let (sentences, points) = match &body {
         Ok(body) => (meaning(body), surface(body)),
         Err(refused) => {
-            let (place, advice) = unfit(&scan, &layers, *refused);
+            let (place, advice) = unfit(&scan, &records, *refused);
             (vec![format!("Where: {place}"), format!("What to do: {advice}")], Vec::new())
         }
     };

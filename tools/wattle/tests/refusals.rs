@@ -5,6 +5,7 @@ mod common;
 use common::{fed, path, root, sample, status, text, wattle, wattle_on, Seed};
 use std::io::Read;
 use std::process::{Command, Stdio};
+use wattlerugby::patch;
 
 fn sphere() -> Vec<u8> {
     std::fs::read(sample("sphere.grid")).unwrap()
@@ -19,7 +20,7 @@ fn with(changes: &[(usize, u8)]) -> Vec<u8> {
     file
 }
 
-/// What explain says: a number, and words that have to be there.
+/// What explain says of a file within the program's limits: a number, and words that have to be there.
 fn explained(file: &[u8], number: u8, words: &[&str]) {
     let output = wattle_on(&["explain", "-"], file);
     let told = text(&output.stdout);
@@ -40,13 +41,53 @@ fn explain_finds_the_byte() {
     explained(&with(&[(0, 0x50), (1, 0x4B)]), 22, &["bytes 0 and 1 are 50 4B hex"]);
     explained(&with(&[(2, 64), (3, 2), (4, 65)]), 1, &["Where: side b, byte 3, is 2; side c, byte 4, is 65; a side is 3 to 64"]);
     let cut = "layer record 2 of 12 begins at byte 298 and has 291 bytes, but 290 are left. The file has 588 bytes";
-    explained(&sphere()[..second + 290], 21, &[cut, "with sides 12 x 12 x 12 a file has 3499 bytes"]);
+    explained(&sphere()[..second + 290], 21, &[cut, "with sides 12 x 12 x 12 header and layers have 3499 bytes"]);
     explained(&sphere()[..second], 21, &["begins at byte 298", "but 0 are left"]);
     explained(&with(&[(second, 0x41)]), 22, &["layer record 2 begins at byte 298 with 41 4C hex", "layer z = 0 from byte 7"]);
     explained(&with(&[(7, 0), (8, 0)]), 22, &["layer record 1 begins at byte 7 with 00 00 hex", "the first after the header"]);
     explained(&with(&[(second + 2, 12)]), 23, &["layer record 2, from byte 298: byte 300 says z = 12, and there are 12 layers"]);
     explained(&with(&[(second + 2, 0)]), 24, &["layer z = 0 comes in the record from byte 7 and again in the one from byte 298, byte 300"]);
-    explained(&[sphere(), vec![0; 3]].concat(), 25, &["the last layer ends before byte 3499", "cut the file after its first 3499 bytes"]);
+}
+
+#[test]
+fn explain_finds_the_patch() {
+    let after = |records: &[&[u8]]| [&sphere()[..], &records.concat()].concat();
+    let (good, cut) = (patch(1727, 5), "cut the file after its first");
+    let short = "patch record 1 begins at byte 3499 and has 8 bytes, but 3 are left. The file has 3502 bytes.";
+    explained(&after(&[&[0; 3]]), 21, &[short, cut]);
+    explained(&after(&[&good, &good, &good[..7]]), 21, &["patch record 3 begins at byte 3515 and has 8 bytes, but 7 are left", cut]);
+    explained(&after(&[&[0; 8]]), 22, &["patch record 1 begins at byte 3499 with 00 00 hex, and 56 50 hex is due", "first 3499 bytes"]);
+    let thirteenth = &sphere()[7..7 + RECORD];
+    explained(&after(&[thirteenth]), 22, &["byte 3499 with 56 4C hex, and 56 50 hex is due", "the third side, byte 4, is right"]);
+    let beyond = "patch record 2 begins at byte 3507: bytes 3509 to 3512 say index 1728, and a grid of 12 x 12 x 12 voxels has";
+    explained(&after(&[&good, &patch(1728, 5), &good]), 5, &[beyond, "indices 0 to 1727.", "has index x + 12 (y + 12 z)"]);
+    explained(&after(&[&patch(u32::MAX, 5)]), 5, &["say index 4294967295,"]);
+    // a layer that came before is told even where all that follows is right
+    let mut twice = after(&[&good]);
+    twice[7 + RECORD + 2] = 0;
+    explained(&twice, 24, &["layer z = 0 comes in the record from byte 7"]);
+}
+
+/// The byte of a patched value is that of its last patch.
+#[test]
+fn explain_finds_the_patched_voxel() {
+    let body = common::grid_file([4, 4, 3], 0, |x, y, z| if (x, y, z) == (2, 1, 1) { -7 } else { 6 });
+    let edge = [&body[..], &patch(43, -9), &patch(22, -8), &patch(43, -10), &patch(1, 5)].concat();
+    let byte = body.len() + 2 * 8 + 6;
+    assert_eq!(i16::from_le_bytes([edge[byte], edge[byte + 1]]), -10);
+    explained(&edge, 3, &[&format!("The first is voxel (3, 2, 2), index 43, with -10: byte {byte}, in patch record 3.")]);
+    let none = [&body[..], &patch(22, 1)].concat();
+    explained(&none, 4, &[&format!("the least is at voxel (2, 1, 1), index 22, with 1: byte {}, in patch record 1.", body.len() + 6)]);
+    let page = text(&wattle_on(&["page", "-"], &edge).stdout);
+    assert!(page.contains(&format!("byte {byte}, in patch record 3.")), "the page says it too");
+}
+
+#[test]
+fn explain_counts_patches() {
+    let told = |patches: &[[u8; 8]]| text(&wattle_on(&["explain", "-"], &[&sphere()[..], &patches.concat()].concat()).stdout);
+    assert!(!told(&[]).contains("patch"));
+    assert!(told(&[patch(0, 9)]).contains("- 1 patch corrects 1 value of the layers.\n"), "{}", told(&[patch(0, 9)]));
+    assert!(told(&[patch(0, 9), patch(1, 9), patch(0, 8)]).contains("- 3 patches correct 2 values of the layers.\n"));
 }
 
 #[test]
@@ -97,12 +138,31 @@ fn damaged(seed: &mut Seed) -> Vec<u8> {
         let at = [seed.below(7), (records + seed.below(3)).min(file.len() - 1), seed.below(file.len())][seed.below(3)];
         file[at] = [seed.below(30) as u8, seed.below(256) as u8, file[at] ^ 1][seed.below(3)];
     }
-    match seed.below(6) {
+    match seed.below(8) {
         0 => file.truncate(seed.below(file.len())),
         1 => file.push(0),
+        2 | 3 => file.extend(damaged_patches(seed)),
         _ => {}
     }
     file
+}
+
+/// A few patches for grids of some 2,000 voxels; now and then one is for a larger grid, a byte is changed, or the last is cut off.
+fn damaged_patches(seed: &mut Seed) -> Vec<u8> {
+    let mut some = Vec::new();
+    for _ in 0..seed.below(4) + 1 {
+        let index = if seed.below(4) == 0 { seed.below(1 << 20) } else { seed.below(1700) };
+        some.extend(patch(index as u32, seed.below(200) as i16));
+    }
+    match seed.below(4) {
+        0 => some.truncate(seed.below(some.len())),
+        1 => {
+            let at = seed.below(some.len());
+            some[at] ^= 1 << seed.below(8);
+        }
+        _ => {}
+    }
+    some
 }
 
 #[test]
@@ -132,7 +192,8 @@ fn damaged_files_get_the_programs_line() {
         }
         numbers.extend(number);
     }
-    assert!(["1", "21", "22", "23", "24", "25"].iter().all(|n| numbers.contains(*n)), "the damage is of many kinds: {numbers:?}");
+    assert!(["1", "5", "21", "22", "23", "24"].iter().all(|n| numbers.contains(*n)), "the damage is of many kinds: {numbers:?}");
+    assert!(!numbers.contains("25"), "no file was over 65,536 bytes");
 }
 
 #[test]
@@ -149,7 +210,7 @@ fn the_programs_limit() {
     let (ended, told) = run(&["explain", "-"], 64);
     assert!(ended == 0 && told.contains("The program carve prints `refused 1` for it"), "{told}");
     assert!(run(&["look", "-"], 64).1.contains("z = 4"));
-    // the longest file there is, and one byte more
+    // the longest file without patches, and one byte more
     let folder = common::folder("longest");
     let mut file = common::grid_file([64, 64, 64], 0, common::sphere([64, 64, 64], 3.0));
     for (name, number) in [("whole", 0), ("longer", 1)] {
@@ -157,8 +218,9 @@ fn the_programs_limit() {
         std::fs::write(&grid, &file).unwrap();
         let outputs = [wattle(&["carve", "--large", path(&grid)]), wattle_on(&["carve", "--large", "-"], &file)];
         for output in outputs {
-            assert_eq!((status(&output), text(&output.stdout) == "refused 25\n"), (number, number == 1));
+            assert_eq!((status(&output), text(&output.stdout) == "refused 21\n"), (number, number == 1));
         }
+        assert_eq!(text(&wattle(&["carve", path(&grid)]).stdout), "refused 25\n");
         file.push(0);
     }
     // the mark comes before the sides, and the sides before the layers
@@ -168,6 +230,49 @@ fn the_programs_limit() {
     file[0] = 0;
     assert_eq!(text(&wattle_on(&["carve", "-"], &file).stdout), "refused 22\n");
     assert_eq!(text(&wattle_on(&["carve", "-"], &large(25)[..6]).stdout), "refused 21\n");
+}
+
+/// Input over 65,536 bytes is 25 before all else, for `carve` as for the program, and nothing to the other commands.
+#[test]
+fn the_programs_limit_on_bytes() {
+    let program = root().join("target/bin/carve");
+    let line = |file: &[u8]| {
+        let line = text(&wattle_on(&["carve", "-"], file).stdout);
+        if program.exists() {
+            assert_eq!(line, text(&fed(&mut Command::new(&program), file).stdout), "{} bytes", file.len());
+        }
+        line
+    };
+    // 7754 patches and 5 bytes fit behind the sphere
+    let patched = |patches: usize| [&sphere()[..], &patch(0, 99).repeat(patches)].concat();
+    let (most, over) = (patched(7754), patched(7755));
+    assert_eq!((most.len(), over.len()), (65_531, 65_539));
+    let due = line(&patched(1));
+    assert!(due.starts_with("kept 296 "), "{due}");
+    assert_eq!((line(&most), line(&over).as_str()), (due.clone(), "refused 25\n"));
+    assert_eq!(line(&[&most[..], &[0; 5]].concat()), "refused 21\n");
+    assert_eq!(line(&[&most[..], &[0; 6]].concat()), "refused 25\n");
+    assert_eq!((line(&[0; 65_536]).as_str(), line(&[0; 65_537]).as_str()), ("refused 22\n", "refused 25\n"));
+
+    assert_eq!(text(&wattle_on(&["carve", "--large", "-"], &over).stdout), due);
+    let sentence = "prints `refused 25` for it, since it takes input of 65536 bytes at most; the library takes any length.\n";
+    let explain = |file: &[u8]| text(&wattle_on(&["explain", "-"], file).stdout);
+    assert!(explain(&over).ends_with(&format!("\n- The program carve {sentence}")), "{}", explain(&over));
+    assert!(!explain(&most).contains("The program"), "{}", explain(&most));
+    let refused = explain(&[0; 65_537]);
+    assert!(refused.starts_with("the standard input is refused 22"), "{refused}");
+    assert!(refused.ends_with(&format!("\nThe program carve {sentence}")), "{refused}");
+}
+
+/// What is no grid file is not read to its end, which may never come. The least memory that a broken tool would fail with is 1 GB.
+#[test]
+fn endless_input_comes_to_an_end() {
+    let told = |line: &str| {
+        let words = ["-c", line, env!("CARGO_BIN_EXE_wattle"), path(&sample("sphere.grid"))].map(str::to_string);
+        text(&Command::new("sh").args(words).output().expect("sh runs").stdout)
+    };
+    assert_eq!(told("ulimit -v 1000000; \"$0\" carve --large /dev/zero"), "refused 22\n");
+    assert_eq!(told("cat \"$1\" /dev/zero | (ulimit -v 1000000; \"$0\" carve --large -)"), "refused 22\n");
 }
 
 // ---- words and files
@@ -209,14 +314,15 @@ fn nothing_is_overwritten_unasked() {
     let folder = common::folder("overwrite");
     let (grid, out) = (folder.join("sphere.grid"), folder.join("out"));
     std::fs::copy(sample("sphere.grid"), &grid).unwrap();
-    for command in ["look", "explain", "points", "volume", "page", "rewrite", "carve"] {
+    for command in ["look", "explain", "points", "volume", "page", "patch --set 0=9", "rewrite", "carve"] {
+        let words: Vec<&str> = command.split(' ').chain([path(&grid)]).collect();
         std::fs::write(&out, "mine").unwrap();
-        one_line(&[command, path(&grid), "-o", path(&out)], 2, "--force overwrites it");
+        one_line(&[&words[..], &["-o", path(&out)]].concat(), 2, "--force overwrites it");
         assert_eq!(std::fs::read(&out).unwrap(), b"mine");
-        let done = wattle(&[command, path(&grid), "--force", "-o", path(&out)]);
+        let done = wattle(&[&words[..], &["--force", "-o", path(&out)]].concat());
         assert_eq!((status(&done), done.stdout.len()), (0, 0));
-        assert!(std::fs::read(&out).unwrap() == wattle(&[command, path(&grid)]).stdout, "{command}");
-        one_line(&[command, path(&grid), "--force", "-o", path(&folder.join("./sphere.grid"))], 2, "is the grid file itself");
+        assert!(std::fs::read(&out).unwrap() == wattle(&words).stdout, "{command}");
+        one_line(&[&words[..], &["--force", "-o", path(&folder.join("./sphere.grid"))]].concat(), 2, "is the grid file itself");
         assert_eq!(std::fs::read(&grid).unwrap(), sphere());
     }
     one_line(&["look", path(&grid), "-o", path(&folder.join("none/out"))], 2, "cannot be written");
@@ -255,7 +361,7 @@ fn the_standard_output_may_end_early() {
 #[test]
 fn help_names_every_command_and_option() {
     let overview = text(&wattle(&["help"]).stdout);
-    for command in ["look", "explain", "points", "volume", "compare", "page", "rewrite", "carve"] {
+    for command in ["look", "explain", "points", "volume", "compare", "page", "patch", "rewrite", "carve"] {
         assert!(overview.contains(&format!("  wattle {command} ")), "{overview}");
         let help = text(&wattle(&["help", command]).stdout);
         assert!(help.starts_with(&format!("wattle {command} ")), "{help}");

@@ -7,6 +7,7 @@ use std::os::unix::fs::{symlink, PermissionsExt};
 use std::os::unix::process::ExitStatusExt;
 use std::path::Path;
 use std::process::{Command, Output, Stdio};
+use wattlerugby::patch;
 
 /// The records of a file in another order, by their places in it.
 fn reordered(file: &[u8], order: &[usize]) -> Vec<u8> {
@@ -22,10 +23,24 @@ fn rising(sides: [usize; 3], allowed: u16) -> Vec<u8> {
 }
 
 #[test]
-fn samples_stay_as_they_are() {
+fn samples_stay_as_they_are_unless_patched() {
     for grid in samples() {
-        assert!(answer(&["rewrite", path(&grid)]) == std::fs::read(&grid).unwrap(), "{}", grid.display());
+        let same = answer(&["rewrite", path(&grid)]) == std::fs::read(&grid).unwrap();
+        assert_eq!(same, !grid.ends_with("patched.grid"), "{}", grid.display());
     }
+}
+
+#[test]
+fn patches_go_into_the_layers() {
+    let (layers, at) = (rising([4, 3, 5], 7), |index: usize| 7 + index / 12 * 27 + 3 + 2 * (index % 12));
+    let mut wanted = layers.clone();
+    wanted[at(3)..at(3) + 2].copy_from_slice(&[0x39, 0x30]);
+    wanted[at(59)..at(59) + 2].copy_from_slice(&[0x00, 0x80]);
+    let patched = [&reordered(&layers, &[4, 3, 2, 1, 0])[..], &patch(3, 1), &patch(59, i16::MIN), &patch(3, 12345)].concat();
+    let output = wattle_on(&["rewrite", "-"], &patched);
+    assert_eq!((status(&output), output.stdout), (0, wanted.clone()));
+    // and that is the file's form for good
+    assert_eq!(wattle_on(&["rewrite", "-"], &wanted).stdout, wanted);
 }
 
 #[test]
@@ -63,7 +78,9 @@ fn a_file_that_is_refused_leaves_nothing() {
         (21, good[..good.len() - 1].to_vec()),
         (22, [&good[..second], &[0x57], &good[second + 1..]].concat()),
         (24, [&good[..second + 2], &[0], &good[second + 3..]].concat()),
-        (25, [&good[..], &[0]].concat()),
+        (21, [&good[..], &[0]].concat()),
+        (22, [&good[..], &[0; 8]].concat()),
+        (5, [&good[..], &patch(0, 0), &patch(60, 0)].concat()),
     ];
     for (number, file) in wrong {
         std::fs::write(&given, &file).unwrap();

@@ -20,7 +20,7 @@ pub fn samples() -> Vec<PathBuf> {
     let mut files: Vec<PathBuf> =
         entries.map(|e| e.expect("an entry").path()).filter(|p| p.extension() == Some(OsStr::new("grid"))).collect();
     files.sort();
-    assert!(files.len() >= 5, "the samples are found");
+    assert!(files.len() >= 6, "the samples are found");
     files
 }
 
