@@ -1,13 +1,16 @@
 //! Writes samples/: the grid files, and beside each its line and its picture as text.
 //! usage: cargo run --example samples -- FOLDER
 
-use wattlerugby::{written, Grid, Refusal, Sides, GONE, MISSING, NO_LIMIT};
+use wattlerugby::{patch, read, written, Grid, Refusal, Sides, GONE, MISSING, NO_LIMIT};
 
 pub struct Sample {
     pub name: &'static str,
     sides: Sides,
     allowed: u16,
+    /// The values in the layers.
     values: Vec<i16>,
+    /// Index and value of each patch, in the order of the file.
+    patches: Vec<(usize, i16)>,
 }
 
 fn main() -> std::io::Result<()> {
@@ -31,6 +34,7 @@ pub fn samples() -> Vec<Sample> {
         Sample::new("torus-0", [16, 16, 9], 0, noisy(2, torus)),
         Sample::new("torus-1", [16, 16, 9], 1, noisy(2, torus)),
         Sample::new("wet-glass", [14, 14, 9], 0, pane_with_gaps),
+        Sample { name: "patched", patches: shot_again(), ..Sample::new("wet-glass", [14, 14, 9], 0, pane_with_gaps) },
         Sample::new("refused", [12, 12, 12], 0, |x, y, z| tenths(sphere([3.5, 5.5, 5.5], x, y, z))),
     ]
 }
@@ -71,8 +75,21 @@ fn pane_with_gaps(x: f64, y: f64, z: f64) -> i16 {
     if through || middle || face {
         return MISSING;
     }
+    pane(x, y, z)
+}
+
+fn pane(x: f64, y: f64, z: f64) -> i16 {
     let beyond = |p: f64, centre: f64, half: f64| (p - centre).abs() - half;
     tenths(beyond(x, 6.5, 5.0).max(beyond(y, 6.5, 5.0)).max(beyond(z, 4.0, 2.5)))
+}
+
+/// The gap through the pane's whole thickness, shot again. Its first shot, on the pane's face, went through, and was made once more: of two
+/// patches to a voxel the later one stands.
+fn shot_again() -> Vec<(usize, i16)> {
+    let place = |x: usize, y: usize, z: usize| (x + 14 * (y + 14 * z), pane(x as f64, y as f64, z as f64));
+    let (first, _) = place(4, 4, 6);
+    let gap = (2..7).flat_map(|z| (3..6).flat_map(move |y| (3..6).map(move |x| (x, y, z))));
+    std::iter::once((first, 40)).chain(gap.map(|(x, y, z)| place(x, y, z))).collect()
 }
 
 // ---- what becomes of them
@@ -92,12 +109,21 @@ impl Sample {
                 values.extend((0..a).map(|x| value(x as f64, y as f64, z as f64)));
             }
         }
-        Sample { name, sides: Sides { a, b, c }, allowed, values }
+        Sample { name, sides: Sides { a, b, c }, allowed, values, patches: Vec::new() }
     }
 
     /// The grid file's bytes.
     pub fn file(&self) -> Vec<u8> {
-        written(self.sides, self.allowed, &self.values).expect("fit sides, and a value for each voxel")
+        let mut file = written(self.sides, self.allowed, &self.values).expect("fit sides, and a value for each voxel");
+        file.extend(self.patches.iter().flat_map(|&(index, value)| patch(index as u32, value)));
+        file
+    }
+
+    /// The values that the file reads as.
+    fn corrected(&self) -> Vec<i16> {
+        let mut values = vec![0; self.values.len()];
+        read(&self.file(), &mut values).expect("a sample is a good file");
+        values
     }
 
     fn carved(&self) -> Result<Carved, Refusal> {
@@ -127,7 +153,7 @@ impl Sample {
 
     /// Sides, T, the line, and the picture: of what carving leaves, or of the values where the file is refused.
     pub fn told(&self) -> String {
-        let Sides { a, b, c } = self.sides;
+        let (Sides { a, b, c }, values) = (self.sides, self.corrected());
         let told = format!("{}: {a} x {b} x {c}, T = {}\n{}\n\n", self.name, self.allowed, self.line());
         let measured = |v: i16| match v {
             MISSING => '?',
@@ -137,11 +163,11 @@ impl Sample {
         match self.carved() {
             Ok(carved) => {
                 let key = "# inside   o filled   ? filled, and the range point is missing   + opened   . gone\n";
-                told + key + &self.picture((0..self.values.len()).map(|i| carved.mark(i, self.values[i])).collect())
+                told + key + &self.picture((0..values.len()).map(|i| carved.mark(i, values[i])).collect())
             }
             Err(_) => {
                 told + "# measured negative   ? missing   . measured outside\n"
-                    + &self.picture(self.values.iter().map(|&v| measured(v)).collect())
+                    + &self.picture(values.iter().map(|&v| measured(v)).collect())
             }
         }
     }

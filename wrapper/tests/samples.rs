@@ -39,6 +39,24 @@ fn lines_of_the_program() {
     }
 }
 
+/// The patched sample is the pane's file with patches behind it, and tells of a reader that takes the first of two patches.
+#[test]
+fn the_patched_pane() {
+    let [pane, patched] =
+        ["wet-glass", "patched"].map(|name| std::fs::read(root().join(format!("samples/{name}.grid"))).expect("the sample can be read"));
+    let patches = patched.strip_prefix(&pane[..]).expect("the pane's file comes first");
+    let kept = |patches: &[&[u8]]| {
+        let mut grid = Grid::from_file(&[&pane[..], &patches.concat()].concat()).expect("the sample is taken");
+        grid.carve_to_the_end().expect("a begun grid is carved");
+        grid.status().iter().filter(|&&s| s != wattlerugby::GONE).count()
+    };
+    let in_order: Vec<&[u8]> = patches.chunks(8).collect();
+    let reversed: Vec<&[u8]> = in_order.iter().rev().copied().collect();
+    assert_eq!(in_order.len(), 46);
+    assert_ne!(kept(&in_order), kept(&reversed));
+    assert_ne!(kept(&in_order), kept(&[]));
+}
+
 /// With T = 1 the torus ends for want of openings; with more allowed it gives the same record, and nothing is left to open.
 #[test]
 fn one_opening_more() {

@@ -1,4 +1,5 @@
-//! Grid files out: their bytes, what is refused, and that what is written reads as what it was made from.
+//! Grid files out: their bytes, what is refused, and that what is written reads as what it was made from. Files with patches among them:
+//! patches.rs has more of those.
 
 use std::collections::BTreeSet;
 use std::path::{Path, PathBuf};
@@ -108,12 +109,20 @@ fn taken(file: &[u8]) -> Result<Taken, Refusal> {
     read(file, &mut values).map(|(sides, allowed)| (sides, allowed, values))
 }
 
-/// The file with its records in rising z.
-fn in_rising_z(sides: Sides, file: &[u8]) -> Vec<u8> {
-    let (header, records) = file.split_at(7);
-    let mut records: Vec<&[u8]> = records.chunks(3 + 2 * sides.a * sides.b).collect();
+/// The file with its layer records in rising z, and with each patch's value written over the one that it corrects.
+fn by_its_bytes(sides: Sides, file: &[u8]) -> Vec<u8> {
+    let area = sides.a * sides.b;
+    let (header, rest) = file.split_at(7);
+    let (layers, patches) = rest.split_at(sides.c * (3 + 2 * area));
+    let mut records: Vec<&[u8]> = layers.chunks(3 + 2 * area).collect();
     records.sort_by_key(|record| record[2]);
-    [header, &records.concat()].concat()
+    let mut form = [header, &records.concat()].concat();
+    for patch in patches.chunks(8) {
+        let index = u32::from_le_bytes([patch[2], patch[3], patch[4], patch[5]]) as usize;
+        let at = 7 + index / area * (3 + 2 * area) + 3 + 2 * (index % area);
+        form[at..at + 2].copy_from_slice(&patch[6..]);
+    }
+    form
 }
 
 /// What is written of a file that read takes; nothing of another.
@@ -122,17 +131,18 @@ fn rewritten(file: &[u8]) -> Option<Vec<u8>> {
     let (sides, allowed, values) = &grid;
     let again = written(*sides, *allowed, values).expect("a grid that was read");
     assert_eq!(taken(&again).as_ref(), Ok(&grid));
-    assert!(again == in_rising_z(*sides, file), "other bytes than the file's own records");
+    assert!(again == by_its_bytes(*sides, file), "other bytes than the file's own records");
     Some(again)
 }
 
 #[test]
-fn samples_are_written_forms() {
+fn samples_are_written_forms_unless_patched() {
     let files = listed("samples", "grid");
-    assert!(files.len() >= 5, "the samples are found");
+    assert!(files.len() >= 6, "the samples are found");
     for path in files {
         let file = std::fs::read(&path).expect("the sample can be read");
-        assert!(rewritten(&file) == Some(file), "{}", path.display());
+        let patched = path.ends_with("patched.grid");
+        assert_eq!(rewritten(&file).expect("a sample is a good file") != file, patched, "{}", path.display());
     }
 }
 
