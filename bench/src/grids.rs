@@ -1,6 +1,7 @@
 //! The grids that are measured: a sphere, a torus and white noise, each fitted to the sides.
 
 use crate::types::{size, Sides, MISSING};
+use wattlerugby::patch;
 
 /// SplitMix64: a seed names a case for good.
 pub struct Random(pub u64);
@@ -65,6 +66,12 @@ pub fn values(sides: Sides, shape: Shape) -> Vec<i16> {
         }
     }
     values
+}
+
+/// So many patch records for a grid of n voxels: any voxel, any value.
+pub fn patches(n: usize, count: usize) -> Vec<u8> {
+    let mut random = Random(n as u64);
+    (0..count).flat_map(|_| patch(random.below(n as u64) as u32, random.word() as i16)).collect()
 }
 
 /// The distances of a crafted state.

@@ -3,6 +3,7 @@
 //! what to divide a count of instructions.
 
 mod locals;
+mod patches;
 mod singles;
 mod stacks;
 mod writes;
@@ -285,6 +286,11 @@ fn main() {
     if wanted("write") {
         for (sides, by_index) in writes::measure(case) {
             demands.push(Demand(format!("write, {}, ours/a loop by index", named(sides)), by_index, 1.3));
+        }
+    }
+    if wanted("patches") {
+        for (sides, by_index) in patches::measure(case) {
+            demands.push(Demand(format!("patches, {}, ours/a loop by index", named(sides)), by_index, 1.3));
         }
     }
     if wanted("crafted") {

@@ -195,6 +195,111 @@ fn remove(sides: Sides, dist: &[i32], status: &mut [u8], i: usize, mut woken: im
     });
 }
 
+/// The layer records and the rest of what follows the header: 21, 22, 23, 24 of each record.
+fn layers_and_rest(Sides { a, b, c }: Sides, bytes: &[u8]) -> Result<(&[u8], &[u8]), Refused> {
+    let length = 3 + 2 * a * b;
+    let mut seen = [false; 64];
+    for k in 0..c {
+        let Some(record) = bytes.get(k * length..(k + 1) * length) else { return Err(21) };
+        let z = usize::from(record[2]);
+        if !record.starts_with(b"VL") {
+            return Err(22);
+        }
+        if z >= c {
+            return Err(23);
+        }
+        if std::mem::replace(&mut seen[z], true) {
+            return Err(24);
+        }
+    }
+    Ok(bytes.split_at(c * length))
+}
+
+/// A way through patch records: the checks of all of them for n voxels, and the values into their places.
+pub struct Patches {
+    check: fn(usize, &[u8]) -> Result<(), Refused>,
+    apply: fn(&[u8], &mut [i16]),
+}
+
+/// As arrays of 8 bytes, in which no index is checked. What is too short for one comes last.
+pub const CHUNKED: Patches = Patches {
+    check: |n, bytes| {
+        let (patches, rest) = bytes.as_chunks::<8>();
+        for &[first, second, i, j, k, l, ..] in patches {
+            if [first, second] != *b"VP" {
+                return Err(22);
+            }
+            if u32::from_le_bytes([i, j, k, l]) as usize >= n {
+                return Err(5);
+            }
+        }
+        match rest {
+            [] => Ok(()),
+            _ => Err(21),
+        }
+    },
+    apply: |bytes, values| {
+        for &[_, _, i, j, k, l, low, high] in bytes.as_chunks().0 {
+            values[u32::from_le_bytes([i, j, k, l]) as usize] = i16::from_le_bytes([low, high]);
+        }
+    },
+};
+
+fn index_at(bytes: &[u8], start: usize) -> usize {
+    u32::from_le_bytes([bytes[start + 2], bytes[start + 3], bytes[start + 4], bytes[start + 5]]) as usize
+}
+
+/// With the product's own body: from record to record by the byte where it begins.
+pub const INDEXED: Patches = Patches {
+    check: |n, bytes| {
+        let mut start = 0;
+        while start < bytes.len() {
+            if bytes.len() - start < 8 {
+                return Err(21);
+            }
+            if bytes[start] != 0x56 || bytes[start + 1] != 0x50 {
+                return Err(22);
+            }
+            if index_at(bytes, start) >= n {
+                return Err(5);
+            }
+            start += 8;
+        }
+        Ok(())
+    },
+    apply: |bytes, values| {
+        let mut start = 0;
+        while start < bytes.len() {
+            values[index_at(bytes, start)] = i16::from_le_bytes([bytes[start + 6], bytes[start + 7]]);
+            start += 8;
+        }
+    },
+};
+
+/// A grid file into n values, every check before the first of them; sides and T.
+#[inline(never)]
+pub fn read(file: &[u8], values: &mut [i16], patches: &Patches) -> Result<(Sides, u16), Refused> {
+    let Some((header, records)) = file.split_at_checked(7) else { return Err(21) };
+    if !header.starts_with(b"VH") {
+        return Err(22);
+    }
+    let [a, b, c] = [2, 3, 4].map(|i| usize::from(header[i]));
+    let Some(n) = (Sides { a, b, c }).voxels() else { return Err(1) };
+    if values.len() != n {
+        return Err(2);
+    }
+    let (layers, rest) = layers_and_rest(Sides { a, b, c }, records)?;
+    (patches.check)(n, rest)?;
+    for record in layers.chunks_exact(3 + 2 * a * b) {
+        let layer = &mut values[usize::from(record[2]) * a * b..][..a * b];
+        for (value, bytes) in layer.iter_mut().zip(record[3..].chunks_exact(2)) {
+            *value = i16::from_le_bytes([bytes[0], bytes[1]]);
+        }
+    }
+    (patches.apply)(rest, values);
+    Ok((Sides { a, b, c }, u16::from_le_bytes([header[5], header[6]])))
+}
+
 /// A layer's values, two bytes each. The compiler sees through it: what runs is the C library's memcpy, which is not held to plain x86-64.
 pub fn zipped(values: &[i16], bytes: &mut [u8]) {
     for (bytes, value) in bytes.chunks_exact_mut(2).zip(values) {

@@ -3,10 +3,13 @@
 use crate::{after, named, ratio_to, with_ratio, GRIDS, LARGEST};
 use bench::archive::Others;
 use bench::contest::{begin, carve, Calls, Case, Log, State, ROUNDS};
-use bench::grids::Shape;
+use bench::grids::{patches, Shape};
 use bench::types::{size, Sides};
 use bench::{archive, clock};
 use wattlerugby::written;
+
+/// Patches in a file that has many.
+pub const PATCHES: usize = 100_000;
 
 /// An archive: the calls that change a grid, and the others.
 pub struct Archive {
@@ -32,6 +35,8 @@ pub struct Scene {
     pub finished: State,
     /// The grid's file.
     pub file: Vec<u8>,
+    /// The same with many patches.
+    pub patched: Vec<u8>,
     /// A position with a crossing, and how many have one.
     pub crossing: usize,
     pub crossings: usize,
@@ -48,7 +53,8 @@ impl Scene {
         finished.record.finished = true;
         let at: Vec<usize> = (0..3 * size(case.sides)).filter(|&p| crosses(case.sides, &finished.dist, p)).collect();
         let file = written(case.sides, case.allowed, &case.values).expect("fit sides");
-        Scene { begun, carved, finished, file, crossing: at[at.len() / 2], crossings: at.len(), case }
+        let patched = [&file[..], &patches(size(case.sides), PATCHES)].concat();
+        Scene { begun, carved, finished, file, patched, crossing: at[at.len() / 2], crossings: at.len(), case }
     }
 }
 
@@ -82,7 +88,7 @@ fn carve_some(archive: &Archive, desk: &mut Desk, limit: u32) -> Option<[u64; 3]
     Some([r.examined.into(), r.removed.into(), r.pending.into()])
 }
 
-pub const SINGLES: [Single; 10] = [
+pub const SINGLES: [Single; 11] = [
     Single {
         word: "check",
         title: "check 7: take, refused after it with 5",
@@ -174,6 +180,17 @@ pub const SINGLES: [Single; 10] = [
         },
     },
     Single {
+        word: "patched",
+        title: "read, a file with 100,000 patches",
+        from: |scene| &scene.begun,
+        only_reads: true,
+        run: |archive, scene, desk| {
+            let r = (archive.others.read)(&scene.patched, &mut desk.values);
+            // an archive from before there were patches takes none
+            (r.refusal == 0).then_some([r.allowed.into(), 0, 0])
+        },
+    },
+    Single {
         word: "write",
         title: "write, a file",
         from: |scene| &scene.begun,
@@ -245,12 +262,14 @@ pub fn measure(case: fn(Sides, Shape) -> Case) -> Vec<Took> {
     took
 }
 
-/// One call of a word on a grid, for a count of instructions.
+/// One call of a word on a grid, for a count of instructions; says so where the archive has no answer to it.
 pub fn once(word: &str, case: Case, which: usize) -> bool {
     let Some(single) = SINGLES.iter().find(|single| single.word == word) else { return false };
     let scene = Scene::of(case);
     let all = archives();
-    (single.run)(&all[which], &scene, &mut single.desk(&scene));
-    println!("{} {}", size(scene.case.sides), Log::default().examined());
+    match (single.run)(&all[which], &scene, &mut single.desk(&scene)) {
+        Some(_) => println!("{} {}", size(scene.case.sides), Log::default().examined()),
+        None => println!("none"),
+    }
     true
 }

@@ -1,12 +1,13 @@
 //! The two Rust implementations against the reference, on small grids and on random calls.
 
 use crate::contest::Calls;
-use crate::grids::{blocks, Random};
+use crate::grids::{blocks, patches, Random};
 use crate::local::{joined, ranked, searched, Whole};
-use crate::plain::{indexed, write, zipped, Plain};
+use crate::plain::{indexed, read, write, zipped, Plain, CHUNKED, INDEXED};
 use crate::tuned::Tuned;
 use crate::types::{begun, size, Record, Sides, MISSING};
 use reference::{file, grid, local, machine};
+use wattlerugby::patch;
 
 fn theirs(r: Record) -> grid::Record {
     let side = |s: usize| s as u64;
@@ -153,6 +154,57 @@ fn written_as_read(put: fn(&[i16], &mut [u8])) {
 fn files_as_the_reference_reads_them() {
     written_as_read(zipped);
     written_as_read(indexed);
+}
+
+/// A file of random layers, the first of them any, and of some patches; in most of them something is wrong then.
+fn random_file(random: &mut Random) -> Vec<u8> {
+    let mut side = || 3 + random.below(3) as usize;
+    let sides = Sides { a: side(), b: side(), c: side() };
+    let (n, record) = (size(sides), 3 + 2 * sides.a * sides.b);
+    let values: Vec<i16> = (0..n).map(|_| random.word() as i16).collect();
+    let mut file = vec![0; 7 + sides.c * record];
+    write(sides, random.word() as u16, &values, &mut file, zipped).expect("fit sides");
+    file[7..].rotate_left(record * random.below(sides.c as u64) as usize);
+    file.extend(patches(n, random.below(20) as usize));
+    spoil_file(random, &mut file, n, record);
+    file
+}
+
+/// Another length, a patch at the grid's end or just beyond it, or a bit changed: in the header, in a record's head, or anywhere.
+fn spoil_file(random: &mut Random, file: &mut Vec<u8>, n: usize, record: usize) {
+    let length = file.len() as u64;
+    match random.below(6) {
+        0 => file.truncate(random.below(length) as usize),
+        1 => file.extend(&[0x56, 0x50, 0, 0, 0, 0, 0, 0][..random.below(9) as usize]),
+        2 => file.extend(patch(n as u32 - random.below(2) as u32, 1)),
+        3 | 4 => {
+            let head = 7 + record as u64 * random.below(4) + random.below(3);
+            let at = [random.below(7), head, random.below(length)][random.below(3) as usize];
+            file[at.min(length - 1) as usize] ^= 1 << random.below(8);
+        }
+        _ => {}
+    }
+}
+
+/// Every answer of read with the buffer after it, refused or not.
+#[test]
+fn read_as_the_reference() {
+    let mut random = Random(4);
+    let mut numbers = std::collections::BTreeSet::new();
+    for seed in 0..20_000 {
+        let file = random_file(&mut random);
+        let side = |i: usize| usize::from(*file.get(i).unwrap_or(&0));
+        let lent = (Sides { a: side(2), b: side(3), c: side(4) }).voxels().unwrap_or(5) + usize::from(random.below(50) == 0);
+        let mut their = vec![77; lent];
+        let expected = file::read(&file, &mut their, 64);
+        for way in [CHUNKED, INDEXED] {
+            let mut ours = vec![77; lent];
+            let answer = read(&file, &mut ours, &way).map(|(sides, allowed)| (theirs(begun(sides, 0)).sides, allowed));
+            assert_eq!((answer, &ours), (expected, &their), "{seed}: {file:02X?}");
+        }
+        numbers.insert(expected.err().unwrap_or(0));
+    }
+    assert_eq!(Vec::from_iter(numbers), [0, 1, 2, 5, 21, 22, 23, 24], "every answer is met");
 }
 
 #[test]
