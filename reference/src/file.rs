@@ -1,4 +1,5 @@
-//! Grid files and the line of the program carve (document 01, "The grid file"); the writer of such files (document 02, CR 1).
+//! Grid files and the line of the program carve (document 01, "The grid file"); the writer of such files and patch records in them (document 02,
+//! CR 1 and CR 2).
 
 use crate::grid::{begin, Refused, Sides};
 use crate::machine::{carve, finish, open};
@@ -27,6 +28,21 @@ pub fn layer(sides: &Sides, file: &[u8], start: u64) -> Result<Layer, Refused> {
         return Err(23);
     }
     Ok(Layer { z, from: start + 3, to: start + 3 + values as usize })
+}
+
+/// The voxel and the value of the patch record with which the rest of a file begins.
+fn patch(sides: &Sides, rest: &[u8]) -> Result<(usize, i16), Refused> {
+    if rest.len() < 8 {
+        return Err(21);
+    }
+    if rest[0..2] != [0x56, 0x50] {
+        return Err(22);
+    }
+    let index = u32::from_le_bytes([rest[2], rest[3], rest[4], rest[5]]) as usize;
+    if index >= sides.n() {
+        return Err(5);
+    }
+    Ok((index, i16::from_le_bytes([rest[6], rest[7]])))
 }
 
 /// Sides and T; the lent values are written only where nothing is refused.
@@ -59,8 +75,10 @@ pub fn read(file: &[u8], lent: &mut [i16], greatest_side: u64) -> Result<(Sides,
         }
         at = found.to;
     }
-    if at < file.len() {
-        return Err(25);
+    while at < file.len() {
+        let (index, value) = patch(&sides, &file[at..])?;
+        values[index] = value;
+        at += 8;
     }
     lent.copy_from_slice(&values);
     Ok((sides, u16::from_le_bytes([file[5], file[6]])))
@@ -89,6 +107,9 @@ pub fn write(sides: &Sides, t: u16, values: &[i16], lent: &mut [u8]) -> Result<u
     Ok(length)
 }
 
+/// The most bytes that the program takes.
+const LONGEST_INPUT: usize = 65_536;
+
 /// The line that the program prints for a file.
 pub fn program_line(file: &[u8]) -> String {
     match carve_file(file) {
@@ -98,6 +119,9 @@ pub fn program_line(file: &[u8]) -> String {
 }
 
 fn carve_file(file: &[u8]) -> Result<String, Refused> {
+    if file.len() > LONGEST_INPUT {
+        return Err(25);
+    }
     let side = |i: usize| file.get(i).map_or(0, |&s| usize::from(s));
     let mut values = vec![0i16; side(2) * side(3) * side(4)];
     let (sides, t) = read(file, &mut values, 24)?;

@@ -80,5 +80,5 @@ fn broken_files() {
     assert_eq!(changed(9, 1), "refused 24");
     assert_eq!(changed(11, 0x80), "refused 3");
     let longer: Vec<u8> = file.iter().copied().chain([0]).collect();
-    assert_eq!(program_line(&longer), "refused 25");
+    assert_eq!(program_line(&longer), "refused 21");
 }
