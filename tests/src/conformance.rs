@@ -95,6 +95,8 @@ impl Made {
 #[cfg(test)]
 mod tests {
     use super::*;
+    use crate::files::{file_of, hex, patch};
+    use crate::grids::Grid;
 
     #[test]
     fn what_is_missing_is_told_and_nothing_is_written() {
@@ -116,5 +118,18 @@ mod tests {
         assert!(entries("begin refused 1").is_ok_and(|met| met.contains(&"begin: 1 before 2".to_string())));
         assert!(entries("begin refused 2").is_err());
         assert!(entries("begin ok rec 2 3 3 T 0 openings 0 removals 0 examinations 0 euler 1 finished 0").is_err());
+    }
+
+    #[test]
+    fn an_answer_for_a_later_patch_is_told() {
+        let layers = file_of(&Grid { sides: [3, 3, 3], allowed: 0, values: vec![6; 27] }, &[2, 0, 1]);
+        let patches = [patch(0, 1), patch(27, 1), vec![0; 8]].concat();
+        let mut state = Replay::new();
+        state.line(&format!("file {}{}", hex(&layers), hex(&patches))).expect("a line of the language");
+        let entries = |answer: &str| Before::of(&state, "read").entries(answer);
+        assert!(entries("read refused 5").is_ok_and(|met| met.contains(&"read: 5 before a later record's patch 22".to_string())));
+        for other in ["read refused 21", "read refused 22", "read refused 25", "read ok sides 3 3 3 T 0"] {
+            assert!(entries(other).is_err());
+        }
     }
 }

@@ -1,7 +1,7 @@
 //! What conformance/ must contain, as a list of entries, and which entries a call meets. `fuzz write` fails where an entry is not met.
 //! A request that brings a call adds its checks to `faults::order`, its causes and impossible pairs here, and its own entries to `ALSO`.
 
-use crate::faults::{faults, order, Check, Fault};
+use crate::faults::{faults, order, Check, Fault, PATCH};
 use reference::replay::Replay;
 use std::collections::BTreeMap;
 
@@ -19,24 +19,32 @@ const IMPOSSIBLE: &[(&str, Check, Check, &str)] = &[
     ("read", "header 21", "22", "a file shorter than its header has no records"),
     ("read", "header 21", "23", "a file shorter than its header has no records"),
     ("read", "header 21", "24", "a file shorter than its header has no records"),
-    ("read", "header 21", "25", "a file shorter than its header has no records"),
-    ("read", "21", "25", "after a record that is cut off nothing is left"),
+    ("read", "header 21", "patch 21", "a file shorter than its header has no records"),
+    ("read", "header 21", "patch 22", "a file shorter than its header has no records"),
+    ("read", "header 21", "5", "a file shorter than its header has no records"),
+    ("read", "21", "patch 21", "after a record that is cut off nothing is left"),
+    ("read", "21", "patch 22", "after a record that is cut off nothing is left"),
+    ("read", "21", "5", "after a record that is cut off nothing is left"),
     ("read", "23", "24", "a z that is too large was refused where it came before"),
+    ("program", "25", "header 21", "a file of so many bytes is longer than its header"),
     ("program", "header 21", "21", "a file shorter than its header has no records"),
     ("program", "header 21", "22", "a file shorter than its header has no records"),
     ("program", "header 21", "23", "a file shorter than its header has no records"),
     ("program", "header 21", "24", "a file shorter than its header has no records"),
-    ("program", "header 21", "25", "a file shorter than its header has no records"),
+    ("program", "header 21", "patch 21", "a file shorter than its header has no records"),
+    ("program", "header 21", "patch 22", "a file shorter than its header has no records"),
+    ("program", "header 21", "5", "a file shorter than its header has no records"),
     ("program", "header 21", "3", "a file shorter than its header has no values"),
     ("program", "header 21", "4", "a file shorter than its header has no values"),
-    ("program", "21", "25", "after a record that is cut off nothing is left"),
+    ("program", "21", "patch 21", "after a record that is cut off nothing is left"),
+    ("program", "21", "patch 22", "after a record that is cut off nothing is left"),
+    ("program", "21", "5", "after a record that is cut off nothing is left"),
     ("program", "23", "24", "a z that is too large was refused where it came before"),
     ("program", "3", "4", "a negative border voxel is a negative voxel"),
 ];
 
-/// Faults of two records: of the first, then of the second.
-const EARLIER: [Check; 3] = ["22", "23", "24"];
-const LATER: [Check; 4] = ["21", "22", "23", "24"];
+/// The checks of a layer record and of a patch record. One that is too short is the last of a file, so it is no earlier one's fault.
+const RECORDS: [&[Check]; 2] = [&["21", "22", "23", "24"], &PATCH];
 
 const SIDES: &[&str] = &["a under 3", "a over 64", "b under 3", "b over 64", "c under 3", "c over 64"];
 const FILE_SIDES: &[&str] = &[
@@ -80,12 +88,15 @@ fn causes(call: &str, check: Check) -> &'static [&'static str] {
         (_, "3") => BORDER,
         (_, "4") => &["none below 0", "missing ones alone"],
         ("points", "5") => &["one over", "far over"],
+        ("read" | "program", "5") => &["index n", "index over n", "index over n, its low two bytes under n"],
         (_, "6") => &["axis over 2", "beyond along x", "beyond along y", "beyond along z"],
         (_, "7") => UNFIT,
         ("readlayer", "21") => &["start past the end", "start at the end", "cut off"],
         (_, "21") => &["nothing left", "cut off"],
-        (_, "22" | "header 22") => MARK,
+        (_, "22" | "header 22" | "patch 22") => MARK,
+        (_, "patch 21") => &["1 byte", "2 bytes", "3 bytes", "4 bytes", "5 bytes", "6 bytes", "7 bytes"],
         (_, "23") => Z,
+        (_, "25") => &["a byte over", "more than a byte over"],
         (_, "26") => &["nothing lent", "a byte short", "more than a byte short"],
         _ => &[],
     }
@@ -180,6 +191,37 @@ const ALSO: &[(&str, usize)] = &[
     ("program: an opening", 2),
     ("program: two openings", 1),
     ("program: a removal", 5),
+    // patch records
+    ("read: a patch", 50),
+    ("read: a patch in every layer", 5),
+    ("read: a patch to the first voxel, and one to the last", 5),
+    ("read: two patches to a voxel, of different values", 10),
+    ("read: two patches to a voxel, with another's between them", 5),
+    ("read: a patch of -32768", 5),
+    ("read: a patch of -32767", 2),
+    ("read: a patch of 32767", 5),
+    ("read: a patch of -32768 to a measured voxel", 5),
+    ("read: a measured patch to a missing voxel", 5),
+    ("read: a patch to an index over 255", 2),
+    ("read: a patch to an index over 65535", 2),
+    ("read: more patches than voxels", 2),
+    ("read: over 255 patches", 2),
+    ("read: over 65535 patches", 1),
+    ("read: a patch after byte 65536", 2),
+    ("read: over 65536 bytes", 3),
+    ("read refused: patch 21, after good patches", 5),
+    ("read refused: patch 22, after good patches", 5),
+    ("read refused: 5, after good patches", 5),
+    ("readlayer refused: 22, a patch record", 5),
+    ("program: a patch", 20),
+    ("program: a patch changes the line", 10),
+    ("program: a body made by patches", 2),
+    ("program: a border voxel mended by a patch", 2),
+    ("program refused: 3, brought about by a patch", 2),
+    ("program refused: 4, brought about by a patch", 2),
+    ("program: over 255 patches", 2),
+    ("program: 65536 bytes", 1),
+    ("write: the file's own grid, its patches among the layers", 10),
     // files written
     ("write: lent exactly the length", 20),
     ("write: lent a byte more", 5),
@@ -221,8 +263,8 @@ pub fn list() -> BTreeMap<String, usize> {
             let second = checks[i + 1..].iter().filter(|second| !impossible(call, first, second));
             entries.extend(second.map(|second| (format!("{call}: {first} before {second}"), 2)));
         }
-        if checks.contains(&"24") {
-            let both = EARLIER.iter().flat_map(|first| LATER.iter().map(move |second| (first, second)));
+        for record in RECORDS.into_iter().filter(|record| record.iter().all(|check| checks.contains(check))) {
+            let both = record[1..].iter().flat_map(|first| record.iter().map(move |second| (first, second)));
             entries.extend(both.map(|(first, second)| (format!("{call}: {first} before a later record's {second}"), 1)));
         }
     }
@@ -269,7 +311,8 @@ impl Before {
             let seen = self.seen.into_iter().chain(sights::answered(&self.call, said));
             return Ok(seen.chain([format!("{} done", self.call)]).collect());
         };
-        let seen = self.seen.iter().filter_map(|seen| seen.strip_prefix("if refused 8: ").filter(|_| first.check == "8"));
+        let so = format!("if refused {}: ", first.check);
+        let seen = self.seen.iter().filter_map(|seen| seen.strip_prefix(&so));
         Ok(refusals(&self.call, first, &faults).into_iter().chain(seen.map(str::to_string)).collect())
     }
 }
@@ -282,7 +325,7 @@ fn refusals(call: &str, first: &Fault, faults: &[Fault]) -> Vec<String> {
     }
     let others: Vec<&Fault> = faults.iter().filter(|fault| !same(fault)).collect();
     for second in others {
-        let later = first.record.is_some() && second.record > first.record;
+        let later = first.record.is_some() && second.record > first.record && first.of_patch() == second.of_patch();
         let later = if later { "a later record's " } else { "" };
         entries.push(format!("{call}: {} before {later}{}", first.check, second.check));
     }
@@ -296,4 +339,5 @@ pub fn worked_case(case: &str, line: &str) -> String {
     worked(case, line)
 }
 
+mod patched;
 mod sights;

@@ -1,12 +1,13 @@
 //! Every fault that a call has, each by itself and whether or not another one is answered first. From document 01's numbers, document 02's for
-//! `write`, and docs/RULES.md for `points`, which is ours, with the order of
+//! `write` and for patch records, and docs/RULES.md for `points`, which is ours, with the order of
 //! checks beside them, and not from the reference's code: so the kit can be asked for every pair of faults, and the reference is held to the order.
 
 use reference::grid::Sides;
 use reference::local::local_test;
 use reference::replay::Replay;
 
-/// A check of a call in its place of the order: a number, or for a file's header `header N`.
+/// A check of a call in its place of the order: a number, or `header N` for a file's header and `patch N` for its patch records where a layer record
+/// has that number too.
 pub type Check = &'static str;
 
 pub struct Fault {
@@ -15,17 +16,32 @@ pub struct Fault {
     pub check: Check,
     /// Which clause of the number it is.
     pub cause: &'static str,
-    /// The layer record, for those of a file.
+    /// The record of a file, patches counted on from the layers.
     pub record: Option<usize>,
 }
 
 impl Fault {
     pub fn number(&self) -> &'static str {
-        self.check.trim_start_matches("header ")
+        self.check.trim_start_matches("header ").trim_start_matches("patch ")
+    }
+
+    /// Whether it is a fault of a patch record.
+    pub fn of_patch(&self) -> bool {
+        self.record.is_some() && PATCH.contains(&self.check)
     }
 }
 
-/// A call's checks in their order (document 01, the last two sentences of "Numbers that come from the state"; for `write` document 02, CR 1).
+/// The checks of a patch record.
+pub const PATCH: [Check; 3] = ["patch 21", "patch 22", "5"];
+
+/// The length of a patch record.
+pub const PATCH_LENGTH: usize = 8;
+
+/// The most bytes that the program takes.
+pub const LONGEST_INPUT: usize = 65_536;
+
+/// A call's checks in their order (document 01, the last two sentences of "Numbers that come from the state"; document 02, CR 1 for `write` and CR 2
+/// for what follows the layers of a file and for the program's 25).
 pub fn order(call: &str) -> Option<&'static [Check]> {
     Some(match call {
         "begin" => &["1", "2", "3", "4"],
@@ -36,8 +52,8 @@ pub fn order(call: &str) -> Option<&'static [Check]> {
         "crossing" => &["1", "2", "7", "9", "5", "6"],
         "points" => &["1", "2", "7", "9", "5"],
         "readlayer" => &["1", "21", "22", "23"],
-        "read" => &["header 21", "header 22", "1", "2", "21", "22", "23", "24", "25"],
-        "program" => &["header 21", "header 22", "1", "21", "22", "23", "24", "25", "3", "4"],
+        "read" => &["header 21", "header 22", "1", "2", "21", "22", "23", "24", "patch 21", "patch 22", "5"],
+        "program" => &["25", "header 21", "header 22", "1", "21", "22", "23", "24", "patch 21", "patch 22", "5", "3", "4"],
         "write" => &["1", "2", "26"],
         _ => return None,
     })
@@ -62,6 +78,7 @@ pub fn faults(state: &Replay, command: &str) -> Option<Vec<Fault>> {
             found.records(&state.file);
         }
         "program" => {
+            found.input(state.file.len());
             found.header(&state.file, 24);
             found.records(&state.file);
             let (sides, values) = contents(&state.file);
@@ -146,16 +163,41 @@ fn file_sides(file: &[u8]) -> Option<Sides> {
     }
 }
 
-/// What the whole layer records of a file hold.
+/// What follows the header of a file: its layer records, the last of them perhaps cut off, and the bytes after them.
+fn parts<'a>(file: &'a [u8], sides: &Sides) -> (&'a [u8], &'a [u8]) {
+    let records = file.get(7..).unwrap_or(&[]);
+    let layers = (sides.c * (3 + 2 * sides.a * sides.b)) as usize;
+    records.split_at(layers.min(records.len()))
+}
+
+/// The index of a patch record, as far as it has one.
+fn patch_index(record: &[u8]) -> Option<u32> {
+    record.get(2..6).map(|bytes| bytes.iter().rev().fold(0, |index, &byte| index << 8 | u32::from(byte)))
+}
+
+/// The index and the value of each whole patch record of a file.
+pub fn patches<'a>(file: &'a [u8], sides: &Sides) -> impl Iterator<Item = (u32, i16)> + 'a {
+    let (_, patches) = parts(file, sides);
+    let value = |record: &[u8]| i16::from_le_bytes([record[6], record[7]]);
+    patches.chunks_exact(PATCH_LENGTH).filter_map(move |record| Some((patch_index(record)?, value(record))))
+}
+
+/// What the whole records of a file hold.
 fn contents(file: &[u8]) -> (Sides, Vec<i16>) {
     let sides = file_sides(file).unwrap_or(Sides { a: 0, b: 0, c: 0 });
     let layer = (sides.a * sides.b) as usize;
     let mut values = vec![0; sides.n()];
-    for record in file.get(7..).unwrap_or(&[]).chunks_exact(3 + 2 * layer) {
+    let (layers, _) = parts(file, &sides);
+    for record in layers.chunks_exact(3 + 2 * layer) {
         let z = usize::from(record[2]);
         if (z as u64) < sides.c {
             let words = record[3..].chunks(2).map(|pair| i16::from_le_bytes([pair[0], pair[1]]));
             values.splice(z * layer..(z + 1) * layer, words);
+        }
+    }
+    for (index, value) in patches(file, &sides) {
+        if let Some(voxel) = values.get_mut(index as usize) {
+            *voxel = value;
         }
     }
     (sides, values)
@@ -185,7 +227,7 @@ impl Found {
     fn add_last(&mut self, check: &str, cause: &'static str) {
         self.add(check, cause);
         if let Some(fault) = self.list.last_mut().filter(|fault| fault.check == check) {
-            fault.rank += 1_000_000;
+            fault.rank += 1 << 30;
         }
     }
 
@@ -308,6 +350,12 @@ impl Found {
 
     // ---- files
 
+    /// 25.
+    fn input(&mut self, len: usize) {
+        self.if_so(len == LONGEST_INPUT + 1, "25", "a byte over");
+        self.if_so(len > LONGEST_INPUT + 1, "25", "more than a byte over");
+    }
+
     fn header(&mut self, file: &[u8], most: u64) {
         self.if_so(file.len() < 7, "header 21", "");
         self.if_so(file.first().is_some_and(|&b| b != 0x56), "header 22", "first byte");
@@ -323,9 +371,17 @@ impl Found {
         }
     }
 
-    /// The records of a file up to the first that is not whole, and what is left after the last.
+    /// The records of a file up to the first that is not whole.
     fn records(&mut self, file: &[u8]) {
         let Some(sides) = file_sides(file).filter(|_| file.len() >= 7) else { return };
+        self.layers(file, &sides);
+        let (_, patches) = parts(file, &sides);
+        for (k, record) in patches.chunks(PATCH_LENGTH).enumerate() {
+            self.patch(sides.c as usize + k, record, size(&sides));
+        }
+    }
+
+    fn layers(&mut self, file: &[u8], sides: &Sides) {
         let length = 3 + 2 * (sides.a * sides.b) as usize;
         let mut seen: Vec<u8> = Vec::new();
         for (record, start) in (0..sides.c as usize).map(|i| (i, 7 + i * length)) {
@@ -340,18 +396,32 @@ impl Found {
             }
             seen.push(left[2]);
         }
-        if file.len() > 7 + length * sides.c as usize {
-            self.add_last("25", "");
+    }
+
+    /// A patch record, or what is left of a file where one is due.
+    fn patch(&mut self, number: usize, record: &[u8], n: u128) {
+        const LEFT: [&str; 8] = ["", "1 byte", "2 bytes", "3 bytes", "4 bytes", "5 bytes", "6 bytes", "7 bytes"];
+        if let Some(left) = LEFT.get(record.len()) {
+            self.add_record(number, "patch 21", left);
+        }
+        self.mark(record, 0x50, |found, cause| found.add_record(number, "patch 22", cause));
+        let Some(index) = patch_index(record).map(u128::from).filter(|&index| index >= n) else { return };
+        let within = index % (1 << 16) < n;
+        let over = if within { "index over n, its low two bytes under n" } else { "index over n" };
+        self.add_record(number, "5", if index == n { "index n" } else { over });
+    }
+
+    fn mark(&mut self, left: &[u8], second: u8, mut add: impl FnMut(&mut Self, &'static str)) {
+        if left.first().is_some_and(|&b| b != 0x56) {
+            add(self, "first byte");
+        }
+        if left.get(1).is_some_and(|&b| b != second) {
+            add(self, "second byte");
         }
     }
 
     fn mark_and_z(&mut self, left: &[u8], c: u64, mut add: impl FnMut(&mut Self, &str, &'static str)) {
-        if left.first().is_some_and(|&b| b != 0x56) {
-            add(self, "22", "first byte");
-        }
-        if left.get(1).is_some_and(|&b| b != 0x4C) {
-            add(self, "22", "second byte");
-        }
+        self.mark(left, 0x4C, |found, cause| add(found, "22", cause));
         if let Some(&z) = left.get(2).filter(|&&z| u64::from(z) >= c) {
             add(self, "23", if u64::from(z) == c { "z is c" } else { "z over c" });
         }

@@ -1,7 +1,9 @@
-//! Grid files: whole ones with layers in any order, and every kind of broken one.
+//! Grid files: whole ones with layers in any order, with patch records or without, and every kind of broken one.
 
-use crate::grids::{grid, Grid};
+use crate::faults::{LONGEST_INPUT, PATCH_LENGTH};
+use crate::grids::{grid, Grid, MISSING};
 use crate::random::Random;
+use reference::grid::Sides;
 
 /// The file of a grid, its layers in the given order.
 pub fn file_of(g: &Grid, order: &[usize]) -> Vec<u8> {
@@ -15,6 +17,11 @@ pub fn file_of(g: &Grid, order: &[usize]) -> Vec<u8> {
         }
     }
     file
+}
+
+/// A patch record.
+pub fn patch(index: u32, value: i16) -> Vec<u8> {
+    [&[0x56, 0x50][..], &index.to_le_bytes(), &value.to_le_bytes()].concat()
 }
 
 /// Bytes as a script has them.
@@ -62,4 +69,98 @@ pub fn file(seed: u64, greatest_side: i64) -> Vec<u8> {
     } else {
         whole
     }
+}
+
+// ---- files with patches
+
+/// What a patch brings: the ends of the values too, and on the border seldom a negative one.
+fn patched_value(r: &mut Random, border: bool) -> i16 {
+    let value = r.pick(&[MISSING, -32767, -300, -6, -1, 0, 1, 6, 255, 256, 32767]);
+    if border && value != MISSING && !r.chance(1) {
+        value.abs()
+    } else {
+        value
+    }
+}
+
+/// Some patches of a grid, many of them to the same few voxels. So many in a hundred bring the value that the layers have.
+fn patches(r: &mut Random, g: &Grid, count: usize, same: u64) -> Vec<u8> {
+    let [a, b, c] = g.sides.map(|side| side as u64);
+    let (sides, n) = (Sides { a, b, c }, g.values.len() as u64);
+    let few = [0, n - 1, n / 2, r.below(n), r.below(n)];
+    let mut records = Vec::new();
+    for _ in 0..count {
+        let index = (if r.chance(30) { r.pick(&few) } else { r.below(n) }) as usize;
+        let value = if r.chance(same) { g.values[index] } else { patched_value(r, sides.border(index)) };
+        records.extend(patch(index as u32, value));
+    }
+    records
+}
+
+/// Damage of a random kind to patch records of a grid with n voxels.
+fn damaged_patches(r: &mut Random, mut records: Vec<u8>, n: u32) -> Vec<u8> {
+    let first = PATCH_LENGTH * r.below((records.len() / PATCH_LENGTH).max(1) as u64) as usize;
+    let Some(record) = records.get_mut(first..first + PATCH_LENGTH) else { return records };
+    match r.below(7) {
+        0 => record[r.below(2) as usize] ^= 1 << r.below(8),
+        1 => record[..2].copy_from_slice(&r.pick(&[[0x56, 0x4C], [0x50, 0x56], [0x56, 0x48], [0, 0]])),
+        2 => record[2..6].copy_from_slice(&r.pick(&[n, n + 1, n | 1 << 16, 1 << 16, 1 << 24, 1 << 31, u32::MAX]).to_le_bytes()),
+        3 => record[2..6].reverse(),
+        4 => records.truncate(first + r.between(1, 7) as usize),
+        5 => records.extend((0..r.between(1, 9)).map(|_| 0)),
+        _ => {
+            let at = r.below(records.len() as u64) as usize;
+            records[at] ^= 1 << r.below(8);
+        }
+    }
+    records
+}
+
+/// A grid whose body, or the mending of its border, is left to patches now and then.
+fn to_be_patched(r: &mut Random, greatest_side: i64) -> Grid {
+    let mut g = grid(r, greatest_side);
+    if r.chance(15) {
+        g.values.iter_mut().filter(|value| **value != MISSING).for_each(|value| *value = value.abs());
+    }
+    if r.chance(5) {
+        g.values[0] = -1;
+    }
+    g
+}
+
+/// The file with patch records that a seed names.
+pub fn patched_file(seed: u64, greatest_side: i64) -> Vec<u8> {
+    let mut r = Random::new(!seed);
+    let g = to_be_patched(&mut r, greatest_side);
+    let [a, b, c] = g.sides;
+    let order = if r.chance(50) { (0..c).collect() } else { shuffled(&mut r, c) };
+    let mut layers = file_of(&g, &order);
+    let count = r.pick(&[1, 1, 2, 3, 5, 9, 20, 60, 300]);
+    let mut records = patches(&mut r, &g, count, 20);
+    if r.chance(8) {
+        layers = damaged(&mut r, layers, 3 + 2 * a * b, c);
+    }
+    while r.chance(25) {
+        records = damaged_patches(&mut r, records, g.values.len() as u32);
+    }
+    [layers, records].concat()
+}
+
+/// The file of a seed that is about as long as the program takes: with whole patches, or to a byte.
+pub fn long_file(seed: u64) -> Vec<u8> {
+    let mut r = Random::new(!seed);
+    let full = r.chance(50);
+    let (g, layers) = loop {
+        let g = to_be_patched(&mut r, 24);
+        let layers = file_of(&g, &shuffled(&mut r, g.sides[2]));
+        if !full || (LONGEST_INPUT - layers.len()).is_multiple_of(PATCH_LENGTH) {
+            break (g, layers);
+        }
+    };
+    let count = (LONGEST_INPUT - layers.len()) / PATCH_LENGTH + r.pick(&[0, 0, 0, 1]);
+    let mut file = [layers, patches(&mut r, &g, count, 97)].concat();
+    if !full {
+        file.resize(LONGEST_INPUT - 9 + r.below(19) as usize, 0x56);
+    }
+    file
 }

@@ -1,4 +1,4 @@
-//! Wrong implementations of document 01: the reference with a patch each (tests/mutants). conformance/ must tell every one of them from the rules.
+//! Wrong implementations of documents 01 and 02: the reference with a patch each (tests/mutants). conformance/ must tell every one of them from the rules.
 
 use crate::compare::{read_kind, Script, Tool};
 use crate::scripts::{SEEDED, WRITTEN};

@@ -1,16 +1,19 @@
 //! Every good file at hand is read, written and read again: sides, T and values are the same both times, and what is written is the file with its
-//! layers in rising z, so the same bytes where they rise in it.
+//! patches in the layers and these in rising z, so the same bytes where they rise in it and there is no patch.
 
 use crate::compare::{bears_on_the_file, read_kind, reference_lines, Script};
 use crate::conformance::kinds;
-use crate::files::{file, hex};
+use crate::faults::{patches, written_length};
+use crate::files::{file, hex, long_file, patched_file};
 use reference::file::read;
+use reference::grid::Sides;
 use reference::replay::Replay;
 use std::collections::BTreeSet;
 use std::path::Path;
 
-/// How many seeds name a file each.
+/// How many seeds name a file each, without patches and with them; and how many a long one.
 const SEEDS: u64 = 1000;
+const LONG: u64 = 20;
 
 /// A file and where it comes from.
 type Named = (String, Vec<u8>);
@@ -44,7 +47,10 @@ fn of_samples(folder: &Path) -> Result<Vec<Named>, String> {
 }
 
 fn of_seeds() -> impl Iterator<Item = Named> {
-    (1..=SEEDS).map(|seed| (format!("seed {seed}"), file(seed, if seed.is_multiple_of(8) { 24 } else { 10 })))
+    let greatest = |seed: u64| if seed.is_multiple_of(8) { 24 } else { 10 };
+    let plain = (1..=SEEDS).map(move |seed| (format!("seed {seed}"), file(seed, greatest(seed))));
+    let patched = (1..=SEEDS).map(move |seed| (format!("patched seed {seed}"), patched_file(seed, greatest(seed))));
+    plain.chain(patched).chain((1..=LONG).map(|seed| (format!("long seed {seed}"), long_file(seed))))
 }
 
 /// How many values a file has; nothing where it is refused.
@@ -53,12 +59,20 @@ fn values_in(file: &[u8]) -> Option<usize> {
     read(file, &mut vec![0; n], 64).ok().map(|_| n)
 }
 
-/// A good file with its layers in rising z.
+/// A good file with its layers in rising z, its patches among their values.
 fn rising(file: &[u8]) -> Vec<u8> {
-    let (header, layers) = file.split_at(7);
-    let mut layers: Vec<&[u8]> = layers.chunks(3 + 2 * usize::from(file[2]) * usize::from(file[3])).collect();
+    let [a, b, c] = [file[2], file[3], file[4]].map(u64::from);
+    let (sides, layer) = (Sides { a, b, c }, (a * b) as usize);
+    let (header, layers) = file[..written_length(&sides) as usize].split_at(7);
+    let mut layers: Vec<&[u8]> = layers.chunks(3 + 2 * layer).collect();
     layers.sort_by_key(|layer| layer[2]);
-    [header, &layers.concat()].concat()
+    let mut written = [header, &layers.concat()].concat();
+    for (index, value) in patches(file, &sides) {
+        let (z, place) = (index as usize / layer, index as usize % layer);
+        let at = 7 + z * (3 + 2 * layer) + 3 + 2 * place;
+        written[at..at + 2].copy_from_slice(&value.to_le_bytes());
+    }
+    written
 }
 
 /// Reads the file, writes what was read, and reads that where nothing is as the file has it.
@@ -71,11 +85,12 @@ fn commands(file: &[u8], n: usize) -> String {
 /// Holds the lines of these commands to what the file has.
 fn held(file: &[u8], lines: &[String]) -> Result<(), String> {
     let [sides, values, written, shown, sides_again, values_again] = lines else { return Err("other lines than wanted".to_string()) };
-    if !written.starts_with(&format!("write ok length {} ", file.len())) {
+    let rising = rising(file);
+    if !written.starts_with(&format!("write ok length {} ", rising.len())) {
         return Err(format!("it is not written: {written}"));
     }
-    if shown.to_lowercase() != hex(&rising(file)) {
-        return Err("what is written is not the file with its layers in rising z".to_string());
+    if shown.to_lowercase() != hex(&rising) {
+        return Err("what is written is not the file with its patches in its layers and these in rising z".to_string());
     }
     if (sides, values) != (sides_again, values_again) {
         return Err(format!("{sides} at first, then {sides_again}, and the values are the same: {}", values == values_again));
@@ -108,7 +123,8 @@ mod tests {
         let scripts = scripts(&root.join("conformance"), &root.join("samples")).expect("each file is written as it should be");
         let from = |what: &str| scripts.iter().filter(|script| script.text.lines().next().is_some_and(|line| line.contains(what))).count();
         assert_eq!(from(".grid"), std::fs::read_dir(root.join("samples")).expect("samples").filter(is_grid).count());
-        for (kind, least) in [("files", 20), ("damage", 20), ("writes", 40), ("writing", 40), ("seed", 600)] {
+        let kinds = [("files", 20), ("damage", 20), ("writes", 40), ("writing", 40), ("patches", 40), ("patching", 40)];
+        for (kind, least) in kinds.into_iter().chain([("seed", 600), ("patched", 400), ("long", 5)]) {
             assert!(from(&format!(": {kind} ")) >= least, "{kind}: {}", from(&format!(": {kind} ")));
         }
     }
@@ -119,19 +135,29 @@ mod tests {
 
     #[test]
     fn what_does_not_come_back_is_told() {
-        let file =
-            (1..).map(|seed| file(seed, 5)).find(|file| values_in(file).is_some() && rising(file) != *file).expect("a shuffled file");
-        let lines = reference_lines(&commands(&file, values_in(&file).expect("it is good"))).expect("a script");
-        assert_eq!(held(&file, &lines), Ok(()));
+        let shuffled = (1..).map(|seed| file(seed, 5)).find(|file| values_in(file).is_some() && rising(file) != *file);
+        told_of(&shuffled.expect("a shuffled file"));
+        let patched = (1..).map(|seed| patched_file(seed, 5)).find(|file| values_in(file).is_some() && only_patched(file));
+        told_of(&patched.expect("a file that its patches alone change"));
+    }
+
+    fn only_patched(file: &[u8]) -> bool {
+        let layers = &file[..rising(file).len()];
+        rising(layers) == layers && rising(file) != layers
+    }
+
+    fn told_of(file: &[u8]) {
+        let lines = reference_lines(&commands(file, values_in(file).expect("it is good"))).expect("a script");
+        assert_eq!(held(file, &lines), Ok(()));
         let told = |line: usize, instead: String| {
             let mut lines = lines.clone();
             lines[line] = instead;
-            held(&file, &lines).is_err()
+            held(file, &lines).is_err()
         };
         assert!(told(2, "write refused 26 buffer 0000000000000000".to_string()));
-        assert!(told(3, hex(&file).to_uppercase()));
+        assert!(told(3, hex(&file[..rising(file).len()]).to_uppercase()));
         assert!(told(4, lines[4].replace(" T ", " T 1")));
         assert!(told(5, lines[5].replacen('[', "[0, ", 1)));
-        assert!(held(&file, &lines[..5]).is_err());
+        assert!(held(file, &lines[..5]).is_err());
     }
 }

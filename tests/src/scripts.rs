@@ -1,11 +1,13 @@
-//! Call scripts (docs/CALL-SCRIPTS.md). Those from seeds: lists of calls from begin, crafted records, unfit ones, finished grids, files read and
-//! written, blocks; each is made along with a run of the reference, so that it can choose voxels by what they are at that moment. And those
+//! Call scripts (docs/CALL-SCRIPTS.md). Those from seeds: lists of calls from begin, crafted records, unfit ones, finished grids, files read, patched
+//! and written, blocks; each is made along with a run of the reference, so that it can choose voxels by what they are at that moment. And those
 //! written out, in the modules below: every fault, every worked case, and what chance leaves out.
 
 pub mod cases;
 mod crafted;
 mod damage;
 pub mod language;
+mod long;
+mod patching;
 mod points;
 mod refusals;
 mod shapes;
@@ -19,10 +21,10 @@ use reference::machine::{carve, finish, open, take};
 use std::fmt::{Display, Write};
 
 /// The kinds of scripts from seeds.
-pub const SEEDED: [&str; 9] = ["lists", "takes", "openings", "crafted", "unfit", "crossings", "files", "writes", "blocks"];
+pub const SEEDED: [&str; 10] = ["lists", "takes", "openings", "crafted", "unfit", "crossings", "files", "patches", "writes", "blocks"];
 
 /// The kinds of scripts that are written out. What takes longest stands last.
-pub const WRITTEN: [&str; 7] = ["cases", "language", "refusals", "damage", "writing", "points", "shapes"];
+pub const WRITTEN: [&str; 9] = ["cases", "language", "refusals", "damage", "patching", "writing", "long", "points", "shapes"];
 
 /// How many scripts of each seeded kind a second supplier is given.
 const GIVEN: u64 = 40;
@@ -40,6 +42,8 @@ pub fn conformance(kind: &str) -> Vec<String> {
         "refusals" => refusals::scripts(),
         "damage" => damage::scripts(),
         "writing" => writing::scripts(),
+        "patching" => patching::scripts(),
+        "long" => long::scripts(),
         "points" => points::scripts(),
         "shapes" => shapes::scripts(),
         _ => Vec::new(),
@@ -60,6 +64,7 @@ pub fn script(kind: &str, seed: u64, greatest: i64) -> String {
         "unfit" => m.unfit(greatest),
         "crossings" => m.crossings(greatest),
         "files" => m.file(seed, greatest),
+        "patches" => m.patches(seed, greatest),
         "writes" => m.writes(greatest),
         "large" => m.large(),
         _ => m.blocks(),
@@ -296,15 +301,21 @@ impl Maker {
 
     // ---- files
 
-    fn file(&mut self, seed: u64, greatest: i64) {
-        let bytes = file(seed, greatest);
-        self.say(format!("autohash 1\nsides 3 3 3\nT 0\nfile {}\nprogram", hex(&bytes)));
+    /// A file for the program and for read, with as many values lent as it has, mostly. Its sides, and n where so many can be lent.
+    fn reads(&mut self, bytes: &[u8]) -> ([u64; 3], u64) {
+        self.say(format!("autohash 1\nsides 3 3 3\nT 0\nfile {}\nprogram", hex(bytes)));
         self.show_record();
         let side = |i: usize| bytes.get(i).map_or(3, |&s| u64::from(s));
         let [a, b, c] = [side(2), side(3), side(4)];
         let n = if a.max(b).max(c) > 64 { 27 } else { a * b * c };
         let lent = if self.r.chance(85) { n } else { self.r.pick(&[0, n + 1, n.saturating_sub(1)]) };
         self.say(format!("values len {lent}\nread\nrawsides {a} {b} {c}"));
+        ([a, b, c], n)
+    }
+
+    fn file(&mut self, seed: u64, greatest: i64) {
+        let bytes = file(seed, greatest);
+        let ([a, b, c], n) = self.reads(&bytes);
         let layer = 3 + 2 * a * b;
         for _ in 0..4 {
             let record = 7 + layer * self.r.below(c + 1);

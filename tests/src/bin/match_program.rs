@@ -4,6 +4,7 @@
 use std::collections::BTreeMap;
 use std::process::ExitCode;
 use tests::compare::line_of;
+use tests::files::{file, long_file, patched_file};
 
 fn main() -> ExitCode {
     let args: Vec<String> = std::env::args().collect();
@@ -22,12 +23,24 @@ fn main() -> ExitCode {
     }
 }
 
+/// The file of a seed: with patches or without, and now and then about as long as the program takes.
+fn drawn(seed: u64) -> Vec<u8> {
+    let greatest = if seed.is_multiple_of(8) { 24 } else { 10 };
+    if seed.is_multiple_of(37) {
+        long_file(seed)
+    } else if seed.is_multiple_of(3) {
+        file(seed, greatest)
+    } else {
+        patched_file(seed, greatest)
+    }
+}
+
 /// How many lines differ, each of them printed.
 fn differences(program: &str, count: u64, first: u64) -> Result<u64, String> {
     let mut kinds: BTreeMap<String, u64> = BTreeMap::new();
     let mut differ = 0;
     for seed in first..first + count {
-        let file = tests::files::file(seed, if seed.is_multiple_of(8) { 24 } else { 10 });
+        let file = drawn(seed);
         let wanted = format!("{}\n", reference::file::program_line(&file));
         let said = line_of(program, &file)?;
         if said != wanted {

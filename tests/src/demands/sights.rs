@@ -1,6 +1,7 @@
 //! What a call is about, besides its faults: the entries of `ALSO` that it meets if it is done.
 
-use crate::faults::written_length;
+use super::patched;
+use crate::faults::{written_length, LONGEST_INPUT};
 use reference::file::read;
 use reference::grid::Sides;
 use reference::replay::Replay;
@@ -16,7 +17,7 @@ pub fn of(state: &Replay, call: &str, words: &[&str]) -> Vec<String> {
         "crossing" => crossing(state, number(1), number(2)),
         "points" => points(state, number(1), number(2)),
         "read" | "program" => file(call, &state.file),
-        "readlayer" => vec![(number(1) > 7).then_some("readlayer: not the first record".to_string())].into_iter().flatten().collect(),
+        "readlayer" => readlayer(&state.file, number(1)),
         "write" => write(state, number(1)),
         "local" => local(words),
         _ => Vec::new(),
@@ -59,7 +60,7 @@ pub fn answered(call: &str, said: &str) -> Vec<String> {
     }
 }
 
-fn chosen<S: ToString>(entries: &[(bool, S)]) -> Vec<String> {
+pub(super) fn chosen<S: ToString>(entries: &[(bool, S)]) -> Vec<String> {
     entries.iter().filter(|(is, _)| *is).map(|(_, entry)| entry.to_string()).collect()
 }
 
@@ -198,20 +199,32 @@ fn crosses(state: &Replay, position: u64) -> bool {
 /// Whether the z of a file's layers rise; its header is whole.
 fn layers_rise(bytes: &[u8]) -> bool {
     let layer = 3 + 2 * usize::from(bytes[2]) * usize::from(bytes[3]);
-    bytes[7..].chunks_exact(layer).map(|record| record[2]).is_sorted()
+    bytes[7..].chunks_exact(layer).take(bytes[4].into()).map(|record| record[2]).is_sorted()
+}
+
+fn readlayer(bytes: &[u8], start: u64) -> Vec<String> {
+    let mark = usize::try_from(start).ok().and_then(|start| bytes.get(start..)?.get(..2));
+    chosen(&[
+        (start > 7, "readlayer: not the first record"),
+        (mark == Some(&[0x56, 0x50]), "if refused 22: readlayer refused: 22, a patch record"),
+    ])
 }
 
 fn file(call: &str, bytes: &[u8]) -> Vec<String> {
     let [_, _, a, b, c, low, high, ..] = bytes else { return Vec::new() };
     let sides = Sides { a: u64::from(*a), b: u64::from(*b), c: u64::from(*c) };
     let greatest = sides.a.max(sides.b).max(sides.c);
-    chosen(&[
+    let mut seen = chosen(&[
         (greatest == 64, format!("{call}: a side of 64")),
         (greatest == 24, format!("{call}: a side of 24")),
         (different(&sides), format!("{call}: three different sides")),
         (!layers_rise(bytes), format!("{call}: layers out of order")),
         (u16::from_le_bytes([*low, *high]) > 255, format!("{call}: T over 255")),
-    ])
+        (bytes.len() > LONGEST_INPUT, format!("{call}: over {LONGEST_INPUT} bytes")),
+        (bytes.len() == LONGEST_INPUT, format!("{call}: {LONGEST_INPUT} bytes")),
+    ]);
+    seen.extend(patched::of(call, &sides, bytes));
+    seen
 }
 
 /// Whether the file is of these sides, T and values.
@@ -248,6 +261,7 @@ fn write(state: &Replay, lent: u64) -> Vec<String> {
         (state.file.len() as u64 > length, "write: a longer file before"),
         (own && !layers_rise(&state.file), "write: the file's own grid, its layers out of order"),
         (own && layers_rise(&state.file), "write: the file's own grid, its layers in order"),
+        (own && state.file.len() as u64 > length, "write: the file's own grid, its patches among the layers"),
     ])
 }
 

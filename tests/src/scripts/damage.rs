@@ -1,11 +1,11 @@
-//! Grid files with each fault alone, by every clause, and with every two of them; and whole files at the ends of the sides.
-//! Each file goes through read, the program and, record by record, readlayer.
+//! Grid files with each fault of header and layers alone, by every clause, and with every two of them; and whole files at the ends of the sides.
+//! Each file goes through read, the program and, record by record, readlayer. What follows the layers has its own scripts (patching.rs).
 
 use crate::files::{file_of, hex};
 use crate::grids::{Grid, MISSING};
 
 #[derive(Clone, Copy)]
-enum Damage {
+pub(super) enum Damage {
     /// The file ends after so many bytes of its header.
     HeaderCut(usize),
     HeaderMark(usize),
@@ -19,6 +19,7 @@ enum Damage {
     Z(usize, u8),
     /// The record's z is that of the first record.
     Again(usize),
+    /// So many bytes of 0 after the layers: a patch that is cut off, or that has a wrong mark.
     Extra(usize),
     BorderNegative(usize),
     NoneNegative,
@@ -28,7 +29,7 @@ enum Damage {
 use Damage::*;
 
 const SIDES: [usize; 3] = [4, 3, 3];
-const VOXELS: usize = 36;
+pub(super) const VOXELS: usize = 36;
 const RECORD: usize = 3 + 2 * 12;
 /// The z of each record, in the order of the file.
 const LAYERS: [usize; 3] = [1, 0, 2];
@@ -45,7 +46,7 @@ fn whole() -> Grid {
 }
 
 /// The damaged file, and how many values are lent for it.
-fn damaged(damages: &[Damage]) -> (Vec<u8>, i64) {
+pub(super) fn damaged(damages: &[Damage]) -> (Vec<u8>, i64) {
     let mut grid = whole();
     for damage in damages {
         match *damage {
@@ -78,7 +79,7 @@ fn damaged(damages: &[Damage]) -> (Vec<u8>, i64) {
 }
 
 /// Lines that give a file to every call that reads one.
-fn calls(file: &[u8], lent: i64) -> String {
+pub(super) fn calls(file: &[u8], lent: i64) -> String {
     let mut text = format!("file {}\nvalues len {lent}\nvalues fill 77\nread\nprogram\n", hex(file));
     let side = |i: usize| file.get(2 + i).map_or(3, |&s| usize::from(s));
     let record = 3 + 2 * side(0) * side(1);
@@ -109,7 +110,7 @@ const ALONE: &[(&str, &[Damage])] = &[
     ("22: a record's mark", &[Mark(0, 0), Mark(0, 1), Mark(1, 0), Mark(1, 1), Mark(2, 0), Mark(2, 1)]),
     ("23", &[Z(0, 3), Z(0, 255), Z(1, 3), Z(2, 3), Z(2, 255)]),
     ("24", &[Again(1), Again(2), Z(2, 0)]),
-    ("25", &[Extra(1), Extra(2), Extra(RECORD)]),
+    ("bytes of 0 after the layers", &[Extra(1), Extra(2), Extra(RECORD)]),
     ("3", &[BorderNegative(16), BorderNegative(19), BorderNegative(13), BorderNegative(21), BorderNegative(5), BorderNegative(29)]),
     ("4", &[NoneNegative, OnlyMissing]),
 ];
@@ -232,7 +233,7 @@ const PAIRS: &[(&str, &[[Damage; 2]])] = &[
         ],
     ),
     (
-        "a record's fault before bytes left, and before begin's",
+        "a record's fault before those of bytes after the layers, and before begin's",
         &[
             [Mark(0, 0), Extra(1)],
             [Mark(2, 1), Extra(9)],
@@ -259,7 +260,7 @@ const PAIRS: &[(&str, &[[Damage; 2]])] = &[
         ],
     ),
     (
-        "25 before begin's faults",
+        "bytes of 0 after the layers before begin's faults",
         &[[Extra(1), BorderNegative(0)], [Extra(9), BorderNegative(35)], [Extra(1), NoneNegative], [Extra(9), OnlyMissing]],
     ),
 ];
