@@ -213,8 +213,11 @@ fn against_plain(found: &[Found], word: &'static str, shapes: &[Shape], most: f6
     shapes.iter().map(measured).collect()
 }
 
+/// A change makes no call slower, beyond what a run tells.
+const NOT_SLOWER: f64 = 1.15;
+
 /// Ours to the other archive's, on the largest grid: for a part, or for a single call.
-fn against_before(found: &[Found], took: &[Took], word: &str, shapes: &[Shape], most: f64) -> Vec<Demand> {
+fn against_before(found: &[Found], took: &[Took], word: &str, shapes: &[Shape]) -> Vec<Demand> {
     let part = |shape: Shape| found.iter().find(|f| f.word == word && f.sides == LARGEST && f.shape == shape).map(|f| &f.times);
     let single = |shape: Shape| took.iter().find(|t| t.word == word && t.sides == LARGEST && t.shape == shape).map(|t| &t.times);
     let measured = |&shape: &Shape| {
@@ -223,7 +226,7 @@ fn against_before(found: &[Found], took: &[Took], word: &str, shapes: &[Shape], 
             (_, Some(times)) => (times[0], *times.get(1)?),
             _ => return None,
         };
-        Some(Demand(format!("{word}, {} {}, ours/before", named(LARGEST), shape.name()), ours / before, most))
+        Some(Demand(format!("{word}, {} {}, ours/before", named(LARGEST), shape.name()), ours / before, NOT_SLOWER))
     };
     shapes.iter().filter_map(measured).collect()
 }
@@ -264,21 +267,21 @@ fn main() {
     let found = if parts.is_empty() { Vec::new() } else { measure_all(&parts) };
     let took = if wanted("single") { singles::measure(case) } else { Vec::new() };
     if wanted("begin") {
-        demands.extend(against_before(&found, &took, "begin", &Shape::ALL, 0.65));
+        demands.extend(against_before(&found, &took, "begin", &Shape::ALL));
         demands.extend(against_plain(&found, "begin", &[Shape::Sphere, Shape::Noise], 0.5));
     }
     if wanted("carve") {
-        demands.extend(against_before(&found, &took, "carve", &[Shape::Sphere, Shape::Torus], 0.8));
-        demands.extend(against_before(&found, &took, "carve", &[Shape::Noise], 0.95));
+        demands.extend(against_before(&found, &took, "carve", &Shape::ALL));
         demands.extend(against_plain(&found, "carve", &Shape::ALL, 0.8));
         demands.push(Demand("carve, growth".into(), growth(), 1.3));
     }
     if wanted("turns") {
-        demands.extend(against_before(&found, &took, "turns", &[Shape::Noise], 0.4));
+        demands.extend(against_before(&found, &took, "turns", &[Shape::Noise]));
     }
     if wanted("single") {
-        demands.extend(against_before(&found, &took, "check", &Shape::ALL, 0.45));
-        demands.extend(against_before(&found, &took, "open", &Shape::ALL, 0.45));
+        for word in ["check", "open", "finish", "points", "read", "write"] {
+            demands.extend(against_before(&found, &took, word, &Shape::ALL));
+        }
         let points = took.iter().filter(|t| t.word == "points" && t.sides == LARGEST);
         let each = points.map(|t| 1e3 * t.times[0] / (3 * size(LARGEST)) as f64).fold(0.0, f64::max);
         demands.push(Demand(format!("all points, {}, ns per position", named(LARGEST)), each, 15.0));

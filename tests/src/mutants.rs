@@ -161,14 +161,16 @@ fn compile(folder: &Path) -> Result<PathBuf, String> {
 
 /// The conformance scripts, what is quick first: a mutant is done with at the first file that tells it apart.
 pub fn given(folder: &Path) -> Result<Vec<(&'static str, Vec<Script>)>, String> {
-    let (last, first): (Vec<&str>, Vec<&str>) = WRITTEN.into_iter().partition(|kind| ["points", "shapes"].contains(kind));
+    let (last, first): (Vec<&str>, Vec<&str>) = WRITTEN.into_iter().partition(|kind| ["long", "points", "shapes"].contains(kind));
     let kinds = first.into_iter().chain(SEEDED).chain(last);
     kinds.map(|kind| read_kind(folder, kind).map(|scripts| (kind, scripts))).collect()
 }
 
-/// The first kind of scripts on which a tool's answers are not the wanted ones.
-pub fn caught_by(tool: &Tool, given: &[(&'static str, Vec<Script>)]) -> Result<Option<&'static str>, String> {
-    for (kind, scripts) in given {
+/// A kind of scripts on which a tool's answers are not the wanted ones. Those that begin as its name does are likely to tell, and come first.
+pub fn caught_by(tool: &Tool, name: &str, given: &[(&'static str, Vec<Script>)]) -> Result<Option<&'static str>, String> {
+    let likely = |kind: &str| name.len() >= 4 && kind.starts_with(&name[..4]);
+    let (first, others): (Vec<_>, Vec<_>) = given.iter().partition(|(kind, _)| likely(kind));
+    for (kind, scripts) in first.into_iter().chain(others) {
         if !tool.agrees(scripts)? {
             return Ok(Some(kind));
         }

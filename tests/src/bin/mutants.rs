@@ -39,20 +39,20 @@ impl Setting {
     /// The fates of mutants that are built together; where that fails, of each by itself, so that the one at fault is named.
     fn fates(&self, mutants: &[&Mutant], folder: &Path) -> Fates {
         match build(&self.sources, mutants, folder) {
-            Ok(program) => mutants.iter().map(|(name, _)| (name.clone(), self.fate(&Tool::of(&program, name)))).collect(),
+            Ok(program) => mutants.iter().map(|(name, _)| (name.clone(), self.fate(&Tool::of(&program, name), name))).collect(),
             Err(wrong) if mutants.len() == 1 => vec![(mutants[0].0.clone(), Err(wrong))],
             Err(_) => mutants.iter().flat_map(|&mutant| self.fates(&[mutant], &folder.join("alone"))).collect(),
         }
     }
 
-    fn fate(&self, tool: &Tool) -> Fate {
-        caught_by(tool, &self.given)?.ok_or("conformance/ does not catch it".to_string())
+    fn fate(&self, tool: &Tool, name: &str) -> Fate {
+        caught_by(tool, name, &self.given)?.ok_or("conformance/ does not catch it".to_string())
     }
 
     /// The reference itself, built the same way, must not be caught: or nothing that is caught would tell anything.
     fn reference_agrees(&self) -> Result<(), String> {
         let program = build(&self.sources, &[], &Path::new(WORK).join("reference"))?;
-        match caught_by(&Tool::of(&program, ""), &self.given)? {
+        match caught_by(&Tool::of(&program, ""), "", &self.given)? {
             None => Ok(()),
             Some(kind) => Err(format!("the reference itself differs from conformance/{kind}.answers")),
         }
