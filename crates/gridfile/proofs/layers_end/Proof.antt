@@ -1,6 +1,4 @@
 -- `gridfile::layers_end` meets its contract.
-use mathlib.Core.Path.{ap}
-use Prim.Native.Nat.{ℕ, _+_, _*_}
 use native.Mathlib.Omega.{arith}
 use borrow.Author.Needs.{needs}
 use Rattle.gridfile.proofs.Headers.{layers-end-small}
@@ -17,7 +15,7 @@ add-result : tie.Need-add-result
 add-result c = let l = c .before in rw (l .layer-length .ensures) (omega (arith, layers-end-small _ (l .before .pre)))
 
 returns : tie.Need-returns
-returns c = let l = c .before in ap (λ (n : ℕ). 7 + l .before .args .sides .c * n) (l .layer-length .ensures)
+returns c = rw (c .before .layer-length .ensures) (omega arith)
 
 pub layers-end-spec : {M : Type 1} → statement M
 layers-end-spec = tie.close (tie.spec layer-length-requires mul-result add-result returns)

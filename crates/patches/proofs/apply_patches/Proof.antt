@@ -1,10 +1,11 @@
 -- `patches::apply_patches` meets its contract.
-use mathlib.Core.Path.{_∙_}
+use mathlib.Core.Path.{ap, _∙_}
 use Prim.Native.Nat.{_-_}
 use native.Mathlib.Omega.{arith}
 use lib.ListN.{length}
 use mir.Facts.{toZ-ofZ}
 use borrow.Author.Needs.{sfits-of}
+use Rattle.words.specs.Words.{valueOf}
 use Rattle.patches.proofs.Patching.{Fit, Applying, applying-start, applying-fit, applying-next, applying-done}
 use Rattle.patches.proofs.apply_patches.Statement.{statement}
 use Rattle.patches.proofs.apply_patches.Tie as tie
@@ -48,7 +49,7 @@ loop-again : tie.Need-loop-again Inv-loop μ-loop
 loop-again c =
     let t = c .before .before in
     applying-next _ _ _ _ _ (t .before .loop .inv) (t .loop-test .taken) _ _ (c .before .index-at .ensures .0)
-    (toZ-ofZ (sfits-of (c .value .ok)) ∙ c .value .ensures)
+    (toZ-ofZ (sfits-of (c .value .ok)) ∙ c .value .ensures ∙ ap (valueOf 2 _) (omega arith))
 
 same-length : tie.Need-same-length Inv-loop μ-loop
 same-length c = c .before .loop .inv .long

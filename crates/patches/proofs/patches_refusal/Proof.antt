@@ -1,5 +1,5 @@
 -- `patches::patches_refusal` meets its contract.
-use mathlib.Core.Path.{_≡_, refl, sym, _∙_}
+use mathlib.Core.Path.{_≡_, refl}
 use Prim.Native.Nat.{_-_}
 use native.Mathlib.Omega.{arith}
 use lib.ListN.{length}
@@ -20,7 +20,7 @@ abbrev μ-loop : tie.MeasureT-loop
 -- behind the branch
 held : (c : tie.Else1 Inv-loop μ-loop) → let l = c .before .before .before in let a = l .before .before .args in
     firstFailing (patchChecks (a .n) (a .file .now) (l .loop .at)) ≡ 0
-held c = sym (c .before .patch-refusal .ensures) ∙ c .if1 .left
+held c = omega (arith, c .before .patch-refusal .ensures, c .if1 .left)
 
 right : (c : tie.Else1 Inv-loop μ-loop) → let l = c .before .before .before in let a = l .before .before .args in Fit (a .n) (a .file .now) (l .loop .at)
 right c = fit _ _ _ (all-hold _ refl (held c))
@@ -34,7 +34,7 @@ patch-refusal-requires c κs = search needs
 returns : tie.Need-returns Inv-loop μ-loop
 returns c =
     let t = c .before .before in
-    deciding-refused _ _ _ _ (t .before .loop .inv) (t .loop-test .taken) _ (c .before .patch-refusal .ensures) (c .if1 .taken)
+    deciding-refused _ _ _ _ (t .before .loop .inv) (t .loop-test .taken) _ (c .before .patch-refusal .ensures) (λ e. omega arith)
 
 add-at : tie.Need-add-at Inv-loop μ-loop
 add-at c = omega (arith, right c .whole)

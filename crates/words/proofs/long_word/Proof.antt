@@ -1,6 +1,5 @@
 -- `words::long_word` meets its contract.
-use mathlib.Core.Path.{ap₂, _∙_}
-use Prim.Native.Nat.{ℕ, _+_, _*_}
+use native.Mathlib.Omega.{arith}
 use borrow.Author.Needs.{needs}
 use Rattle.words.proofs.Bytes.{word-four}
 use Rattle.words.proofs.long_word.Statement.{statement}
@@ -30,7 +29,7 @@ add-result c = search needs
 returns : tie.Need-returns
 returns c =
     let a = c .before .before .before .args in
-    ap₂ (λ (low high : ℕ). low + 65536 * high) (c .before .word .ensures) (c .word2 .ensures) ∙ word-four (a .bytes .now) (a .at)
+    omega (arith, c .before .word .ensures, c .word2 .ensures, word-four (a .bytes .now) (a .at))
 
 pub long-word-spec : {M : Type 1} → statement M
 long-word-spec =

@@ -1,8 +1,8 @@
 -- `words::put_word` meets its contract.
-use mathlib.Core.Path.{_≡_}
-use Prim.Native.Nat.{suc, _+_, _/_, _%_}
+use mathlib.Core.Path.{ap₂}
+use Prim.Native.Nat.{_%_}
 use native.Mathlib.Omega.{arith}
-use lib.ListN.{length-set}
+use lib.ListN.{set, length-set}
 use borrow.Author.Needs.{needs}
 use Rattle.words.proofs.put_word.Statement.{statement}
 use Rattle.words.proofs.put_word.Tie as tie
@@ -26,10 +26,7 @@ same-length : tie.Need-same-length
 same-length c = search needs
 
 returns : tie.Need-returns
-returns c =
-    let e : c .args .at + 1 ≡ suc (c .args .at) = omega arith in
-    let f : c .args .n / 256 % 256 ≡ c .args .n / 256 = omega (arith, c .fits .n .fits) in
-    rw (e, f)
+returns c = ap₂ (set (set (c .args .bytes .now) (c .args .at) (c .args .n % 256))) (omega arith) (omega (arith, c .fits .n .fits))
 
 pub put-word-spec : {M : Type 1} → statement M
 put-word-spec =
