@@ -1,10 +1,10 @@
 -- Bytes laid one after the other into a lent buffer: what is laid so far stands before what was lent.
 use mathlib.Core.Path.{_≡_, refl, sym, ap, _∙_}
 use mathlib.Core.List.{List, [], _∷_, _++_, flatMap, append-assoc, append-nil}
-use Prim.Native.Nat.{ℕ, _+_, _-_, _≤_}
+use Prim.Native.Nat.{ℕ, zero, suc, _+_, _≤_}
 use native.Mathlib.Omega.{arith}
-use lib.ListN.{length, take, drop, set}
-use lib.Seq.{sets, sets-eq, take-at, drop-at, drop-drop, drop-length}
+use lib.ListN.{length, take, drop, getD}
+use lib.Seq.{sets, sets-eq, take-at, drop-at, drop-drop}
 
 module _ {A B : Type 0} (f : A → List B) where
   pub flatMap-append : (xs ys : List A) → flatMap f (xs ++ ys) ≡ flatMap f xs ++ flatMap f ys
@@ -35,17 +35,13 @@ module _ {A : Type 0} (done new lent : List A) (at : ℕ) (e : length done ≡ a
   pub lay-sets : at + length new ≤ length (done ++ drop at lent) → sets (done ++ drop at lent) at new ≡ (done ++ new) ++ drop (at + length new) lent
   lay-sets h = sets-eq new (done ++ drop at lent) at h ∙ lay-on (length new)
 
-module _ {A : Type 0} where
-  -- a mark of three stores, then the rest as a part of the buffer
-  pub mark-then :
-      (bytes rest : List A) (x y z : A)
-      → 3 ≤ length bytes
-      → let b = set (set (set bytes 0 x) 1 y) 2 z in
-      take 3 b ++ (rest ++ drop (length b - 3) (drop 3 b)) ≡ x ∷ y ∷ z ∷ rest
-  mark-then [] rest x y z h = let w : ⊥ = omega arith in absurd w
-  mark-then (p ∷ []) rest x y z h = let w : ⊥ = omega arith in absurd w
-  mark-then (p ∷ q ∷ []) rest x y z h = let w : ⊥ = omega arith in absurd w
-  mark-then (p ∷ q ∷ r ∷ bytes) rest x y z h =
-      let e : length (p ∷ q ∷ r ∷ bytes) - 3 ≡ length bytes = omega arith in
-      ap (λ (l : List A). x ∷ y ∷ z ∷ (rest ++ l)) (ap (λ (n : ℕ). drop n bytes) e ∙ drop-length bytes)
-      ∙ ap (λ (l : List A). x ∷ y ∷ z ∷ l) (append-nil rest)
+module _ {A : Type 0} (d : A) where
+  -- a list whose first elements stand by themselves: stores at their indices then compute, in whatever order they are made
+  abbrev pub spread : ℕ → List A → List A
+  spread zero l = l
+  spread (suc k) l = getD l 0 d ∷ spread k (drop 1 l)
+
+  pub is-spread : (k : ℕ) (l : List A) → k ≤ length l → l ≡ spread k l
+  is-spread zero l h = refl
+  is-spread (suc k) [] h = let z : ⊥ = omega arith in absurd z
+  is-spread (suc k) (x ∷ l) h = ap (λ (r : List A). x ∷ r) (is-spread k l (omega arith))

@@ -1,13 +1,11 @@
 -- `writing::write_header` meets its contract.
-use mathlib.Core.Path.{_≡_, ap, _∙_}
-use mathlib.Core.List.{List}
-use Prim.Native.Nat.{ℕ, _≤_}
+use mathlib.Core.Path.{ap, _∙_}
+use Prim.Native.Nat.{_≤_}
 use native.Mathlib.Omega.{arith}
-use lib.ListN.{length, length-set}
-use lib.Seq.{sets, sets-eq, length-sets}
+use lib.ListN.{length, length-set, length-drop}
 use borrow.Author.Needs.{needs}
 use Rattle.rules.proofs.Places.{fit}
-use Rattle.writing.specs.Written.{headerForm}
+use Rattle.writing.proofs.Laying.{is-spread}
 use Rattle.writing.proofs.write_header.Statement.{statement}
 use Rattle.writing.proofs.write_header.Tie as tie
 
@@ -41,20 +39,16 @@ slice-write-file-5 c = simp length-set (omega (arith, room (c .before .before .b
 put-word-requires : tie.Need-put-word-requires
 put-word-requires c κs = simp length-set (omega (arith, room (c .before .before .before .before .before)))
 
-abbrev lent : tie.After-slice-known2 → List ℕ
-lent c = c .before .before .before .before .before .before .before .before .args .file .now
-
-abbrev form : tie.After-slice-known2 → List ℕ
-form c = let a = c .before .before .before .before .before .before .before .before .args in headerForm (a .sides) (a .allowed)
-
-written : (c : tie.After-slice-known2) → c .before .before .put-word .last .0 ≡ sets (lent c) 0 (form c)
-written c = c .before .before .put-word .ensures
+returns : tie.Need-returns
+returns c =
+    let w = c .before .before in
+    let s = w .before .before .before .before .before .before in
+    w .put-word .ensures ∙ rw (is-spread 0 7 (s .args .file .now) (room s))
 
 same-length : tie.Need-same-length
-same-length c = ap length (written c) ∙ length-sets (lent c) 0 (form c)
-
-returns : tie.Need-returns
-returns c = written c ∙ sets-eq (form c) (lent c) 0 (room (c .before .before .before .before .before .before .before .before))
+same-length c =
+    let s = c .before .before .before .before .before .before .before .before in
+    ap length (returns c) ∙ omega (arith, length-drop 7 (s .args .file .now), room s)
 
 pub write-header-spec : {M : Type 1} → statement M
 write-header-spec =

@@ -1,21 +1,16 @@
 -- `writing::write_layer` meets its contract.
 use mathlib.Core.Path.{_≡_, ap, _∙_}
-use mathlib.Core.List.{List}
-use Prim.Native.Nat.{ℕ, _-_}
+use mathlib.Core.List.{List, _∷_, _++_, append-nil}
+use Prim.Native.Nat.{ℕ, suc, _-_}
 use native.Mathlib.Omega.{arith}
-use lib.ListN.{length, set, length-set}
-use borrow.Rule.Slice.PartMut.{putMid}
+use lib.ListN.{length, drop, length-set, length-take, length-drop}
+use lib.Seq.{drop-length}
 use borrow.Author.Needs.{needs}
-use Rattle.layers.proofs.Sizes.{length-part}
-use Rattle.writing.specs.Written.{layerForm}
-use Rattle.writing.proofs.Laying.{mark-then}
+use Rattle.writing.specs.Written.{valuesForm}
+use Rattle.writing.proofs.Laying.{is-spread}
 use Rattle.writing.proofs.Forms.{length-valuesForm}
 use Rattle.writing.proofs.write_layer.Statement.{statement}
 use Rattle.writing.proofs.write_layer.Tie as tie
-
--- the buffer with the mark and z
-abbrev marked : List ℕ → ℕ → List ℕ
-marked bytes z = set (set (set bytes 0 0x56) 1 0x4C) 2 z
 
 slice-write-bytes : tie.Need-slice-write-bytes
 slice-write-bytes c = search needs
@@ -36,25 +31,25 @@ part-write-values-end : tie.Need-part-write-values-end
 part-write-values-end c = search needs
 
 write-values-requires : tie.Need-write-values-requires
-write-values-requires c κs =
-    let s = c .before .before in
-    let b = marked (s .args .bytes .now) (s .args .z) in
-    let e : length b ≡ length (s .args .bytes .now) = simp length-set in
-    length-part b 3 (length b) (omega (arith, e, s .pre)) (omega arith) ∙ omega (arith, e, s .pre)
+write-values-requires c κs = simp (length-take, length-drop, length-set) (omega (arith, c .before .before .pre))
 
--- the whole record, as the call leaves it
-stands : (c : tie.After-slice-known2) → let s = c .before .before .before .before .before in
-    putMid 3 (length (marked (s .args .bytes .now) (s .args .z)) - 3) (marked (s .args .bytes .now) (s .args .z)) (c .before .before .write-values .last .1 .0)
-    ≡ layerForm (s .args .z) (s .args .values .now)
-stands c =
-    let s = c .before .before .before .before .before in
-    rw (c .before .before .write-values .ensures) (mark-then (s .args .bytes .now) _ _ _ _ (omega (arith, s .pre)))
-
-same-length : tie.Need-same-length
-same-length c = let s = c .before .before .before .before .before in ap length (stands c) ∙ omega (arith, length-valuesForm (s .args .values .now), s .pre)
+-- nothing is left behind the values
+none-left : (form rest : List ℕ) → form ++ drop (suc (suc (suc (length rest))) - 3) rest ≡ form
+none-left form rest =
+    let e : suc (suc (suc (length rest))) - 3 ≡ length rest = omega arith in
+    ap (λ (n : ℕ). form ++ drop n rest) e ∙ ap (λ (l : List ℕ). form ++ l) (drop-length rest) ∙ append-nil form
 
 returns : tie.Need-returns
-returns c = stands c
+returns c =
+    let s = c .before .before .before .before .before in
+    let l = s .args .bytes .now in
+    rw (c .before .before .write-values .ensures, is-spread 0 3 l (omega (arith, s .pre)))
+    (ap (λ (m : List ℕ). 0x56 ∷ 0x4C ∷ s .args .z ∷ m) (none-left (valuesForm (s .args .values .now)) (drop 1 (drop 1 (drop 1 l)))))
+
+same-length : tie.Need-same-length
+same-length c =
+    let s = c .before .before .before .before .before in
+    ap length (returns c) ∙ omega (arith, length-valuesForm (s .args .values .now), s .pre)
 
 pub write-layer-spec : {M : Type 1} → statement M
 write-layer-spec =
