@@ -3,6 +3,7 @@ pub mod Lists
 pub mod Ranges
 pub mod Signs
 pub mod Integers
+pub mod Differences
 pub mod Counts
 pub mod Stores
 pub mod Filling

@@ -1,6 +1,5 @@
 -- Demand 3: what a removal does to the body, its background and its Euler number, and what holds after every list of calls.
 pub mod Sum
-pub mod Ints
 pub mod Cells
 pub mod Links
 pub mod Around

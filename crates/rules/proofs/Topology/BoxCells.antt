@@ -10,9 +10,9 @@ use lib.IntN.{pos}
 use borrow.Author.Tests.{leb-true, le-leb, lt-leb}
 use Rattle.cells.specs.Cells.{bit}
 use Rattle.prelude.proofs.Bools.{and-true, true-and, and-zero}
+use Rattle.prelude.proofs.Differences.{difference}
 use Rattle.rules.specs.declared.Sides.{Sides}
 use Rattle.rules.specs.Body.{Voxels, Piece, plane, stretch, some, covered, sum, sum3, corners, edges, faces, cubes, eulerOf, Has}
-use Rattle.rules.proofs.Topology.Ints.{difference-one}
 use Rattle.rules.proofs.Topology.Sum.{Off, local, sum-ext, win-all}
 use Rattle.rules.proofs.Topology.Cells.{some-out, some-none, some-ext, piece, extent, count}
 
@@ -185,7 +185,7 @@ module _ (s : Sides) (b : Bounds) where
   pub euler-box : b .x0 ≤ b .x1 → b .x1 < s .a → b .y0 ≤ b .y1 → b .y1 < s .b → b .z0 ≤ b .z1 → b .z1 < s .c → eulerOf s (box b) ≡ pos 1
   unfolding eulerOf corners edges faces count
   euler-box hx ix hy iy hz iz =
-      difference-one (corners s (box b)) (edges s (box b)) (faces s (box b)) (cubes s (box b))
+      difference 1 (corners s (box b)) (edges s (box b)) (faces s (box b)) (cubes s (box b))
       (omega (
         arith,
         cubes-count,

@@ -8,10 +8,10 @@ use native.Mathlib.Decide.{ℕ-discrete}
 use lib.IntN.{pos, _+ℤ_, _-ℤ_}
 use Rattle.cells.specs.Cells.{bit}
 use Rattle.prelude.proofs.Bools.{true-or, or-true}
+use Rattle.prelude.proofs.Differences.{add-difference}
 use Rattle.rules.specs.declared.Sides.{Sides}
 use Rattle.rules.specs.Body.{Voxels, Piece, plane, stretch, some, covered, Has, Holder, CoveredIsHeld, sum3, corners, edges, faces, cubes, eulerOf}
 use Rattle.rules.proofs.Topology.Sum.{win, win3, Off, local3, win3-all}
-use Rattle.rules.proofs.Topology.Ints.{add-difference}
 
 some-in : (p : Piece) (t : ℕ → Bool) → some p t ≡ true → (j : ℕ) × (Has j p) × (t j ≡ true)
 unfolding some

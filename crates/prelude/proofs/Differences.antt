@@ -55,8 +55,11 @@ add-difference c e f q k m c' e' f' q' h =
     ∙ cross (pos (c' + f')) (pos (e' + q')) (pos (c + f + k)) (pos (e + q + m)) (ap pos (sym h))
     ∙ sym (ap (λ (v : ℤ). add v (add (pos k) (neg (pos m)))) (shuffle (pos c) (pos e) (pos f) (pos q)) ∙ pair (pos (c + f)) (pos (e + q)) (pos k) (pos m))
 
-pub difference-one : (c e f q : ℕ) → c + f ≡ e + q + 1 → pos c -ℤ pos e +ℤ pos f -ℤ pos q ≡ pos 1
+-- a - b + c - d, where the sums tell what it is
+pub difference : (m a b c d : ℕ) → m + b + d ≡ a + c → pos a -ℤ pos b +ℤ pos c -ℤ pos d ≡ pos m
 unfolding add neg
-difference-one c e f q h =
-    let g : c + f + 0 ≡ 1 + (e + q) = omega arith in
-    shuffle (pos c) (pos e) (pos f) (pos q) ∙ cross (pos (c + f)) (pos (e + q)) (pos 1) (pos 0) (ap pos g)
+difference m a b c d h =
+    let g : a + c ≡ m + (b + d) = omega arith in
+    shuffle (pos a) (pos b) (pos c) (pos d)
+    ∙ ap (λ (x : ℕ). add (pos x) (neg (pos (b + d)))) g
+    ∙ sym (cancel (pos m) (pos (b + d)))
