@@ -12,7 +12,9 @@ use borrow.Author.Tests.{ltb-true, eqb-true}
 use Rattle.cells.specs.Groups.{any, filter, gather, groups}
 use Rattle.cells.specs.Cells.{spans, contains, joined, positions, facePositions, touched, groupCount, testOf, test}
 use Rattle.closed_sets.specs.Rank.{rank}
+use Rattle.closed_sets.specs.Formula.{Formula}
 use Rattle.prelude.proofs.Bools.{and-true, true-and, or-true, true-or, two, not-true, not-false, not-both}
+use Rattle.prelude.proofs.Differences.{difference}
 use Rattle.prelude.proofs.Lists.{Mem, any-true, true-any, any-false, any-ext, filter-ext}
 use Rattle.cells.proofs.GroupsAre.{contains-self}
 use Rattle.closed_sets.proofs.Closed.{ClosedSet}
@@ -79,6 +81,12 @@ test-ext kept kept′ h = ap (λ (t : ℕ → Bool). testOf (filter t positions)
 pub euler : (kept : ℕ → Bool) → test kept .m + test kept .corners + test kept .faces ≡ test kept .k + 1 + test kept .edges
 unfolding test testOf
 euler kept = closed-euler (touched kept) (touched-closed kept)
+
+-- the same as document 02 writes it
+pub formula : Formula
+formula kept =
+    let t = test kept in
+    sym (difference (t .m) (t .k + 1) (t .corners) (t .edges) (t .faces) (euler kept))
 
 pub k-by-rank : (kept : ℕ → Bool) → test kept .k + rank (touched kept) ≡ test kept .corners
 unfolding test testOf
