@@ -1,9 +1,10 @@
 -- The test of a block from the bits of its touched cells: kinds by masked counts of ones, groups by the rank.
-use mathlib.Core.Path.{_≡_, refl, sym, ap, _∙_, subst₂}
+use mathlib.Core.Path.{_≡_, refl, sym, ap, _∙_, subst}
 use mathlib.Core.Bool.{Bool, true, false, _&&_}
 use mathlib.Core.List.{List, [], _∷_, _++_}
 use Prim.Native.Nat.{ℕ, _+_, _≤_, _<_}
 use native.Mathlib.Nat.{lt-of-le-of-lt}
+use native.Mathlib.Omega.{arith}
 use lib.Dec.{eqb, lit<}
 use lib.Bits.{bitAnd, and-le-l}
 use lib.Count.{ones, ones-le}
@@ -74,11 +75,12 @@ face-mask = refl
 
 -- ---- the test
 
-pub record Counted (kept : ℕ → Bool) (t r : ℕ) : Type 0 where
+-- of the touched cells t
+pub record Counted (kept : ℕ → Bool) (t : ℕ) : Type 0 where
   pub corners : ones (bitAnd t 0o505000505) ≡ test kept .corners
   pub edges : ones (bitAnd t 0o252505252) ≡ test kept .edges
   pub faces : ones (bitAnd t 0o020252020) ≡ test kept .faces
-  pub groups : test kept .k + r ≡ test kept .corners
+  pub groups : test kept .k + rank (has t) ≡ ones (bitAnd t 0o505000505)
   pub law : test kept .m + test kept .corners + test kept .faces ≡ test kept .k + 1 + test kept .edges
   pub few-corners : ones (bitAnd t 0o505000505) ≤ 27
   pub few-edges : ones (bitAnd t 0o252505252) ≤ 27
@@ -92,21 +94,20 @@ rank-ext s s′ h = λ i.
     rankBy (h 1 (lit< tt) i) (h 3 (lit< tt) i) (h 9 (lit< tt) i) (h 7 (lit< tt) i) (h 5 (lit< tt) i) (h 17 (lit< tt) i)
     (h 19 (lit< tt) i) (h 23 (lit< tt) i) (h 11 (lit< tt) i) (h 25 (lit< tt) i) (h 21 (lit< tt) i) (h 15 (lit< tt) i)
 
-at-bits : (kept : ℕ → Bool) → Counted kept (bits 27 (touched kept)) (rank (touched kept))
+at-bits : (kept : ℕ → Bool) → Counted kept (bits 27 (touched kept))
 unfolding test testOf
 at-bits kept =
+    let corners-are = countOf-ones 0 (touched kept) corner-mask (touched-middle kept) in
     record {
-      corners = countOf-ones 0 (touched kept) corner-mask (touched-middle kept);
+      corners = corners-are;
       edges = countOf-ones 1 (touched kept) edge-mask (touched-middle kept);
       faces = countOf-ones 2 (touched kept) face-mask (touched-middle kept);
-      groups = k-by-rank kept;
+      groups =
+          omega (arith, k-by-rank kept, corners-are, rank-ext (has (bits 27 (touched kept))) (touched kept) (has-bits 27 (touched kept)));
       law = euler kept;
       few-corners = few (touched kept) 0o505000505;
       few-edges = few (touched kept) 0o252505252;
     }
 
-pub counted : (kept : ℕ → Bool) (t r : ℕ) → t ≡ bits 27 (touched kept) → r ≡ rank (has t) → Counted kept t r
-counted kept t r p q =
-    let e : r ≡ rank (touched kept) =
-    q ∙ ap (λ (t : ℕ). rank (has t)) p ∙ rank-ext (has (bits 27 (touched kept))) (touched kept) (has-bits 27 (touched kept)) in
-    subst₂ (λ (t r : ℕ). Counted kept t r) (sym p) (sym e) (at-bits kept)
+pub counted : (kept : ℕ → Bool) (t : ℕ) → t ≡ bits 27 (touched kept) → Counted kept t
+counted kept t p = subst (λ (t : ℕ). Counted kept t) (sym p) (at-bits kept)

@@ -1,11 +1,11 @@
--- The pass by two counts of ones: where the touched cells differ from the edges, and the touched corners.
+-- The pass by a count of ones, where the touched cells differ from the edges, and by k.
 use mathlib.Core.Path.{_≡_, refl, sym, ap, _∙_}
 use mathlib.Core.Bool.{Bool, true, false, not, _&&_, _||_, true≢false}
 use mathlib.Core.List.{List, [], _∷_}
 use Prim.Native.Nat.{ℕ, _+_}
 use native.Mathlib.Omega.{arith}
 use lib.Dec.{eqb}
-use lib.Bits.{bitAnd, bitXor}
+use lib.Bits.{bitXor}
 use lib.Count.{ones}
 use lib.ListN.{length}
 use borrow.Author.Tests.{eqb-true, eq-eqb}
@@ -13,10 +13,10 @@ use Rattle.cells.specs.Groups.{any, filter}
 use Rattle.cells.specs.Cells.{bit, positions, touched, dimension, countOf, testOf, test, passes}
 use Rattle.prelude.proofs.Bools.{and-true, true-and, both-ways}
 use Rattle.prelude.proofs.Lists.{Mem, here, there}
-use Rattle.closed_sets.proofs.EveryBlock.{all-in}
+use Rattle.closed_sets.proofs.EveryBlock.{all-in, euler}
 use Rattle.bits.specs.Bits.{bits}
 use Rattle.bits.proofs.Bits.{bits-xor, unlike, length-consIf}
-use Rattle.local_test.proofs.Counts.{touched-middle, ones-positions, isOf, filter-both, edge-mask, Counted}
+use Rattle.local_test.proofs.Counts.{touched-middle, ones-positions, isOf, filter-both, edge-mask}
 
 -- ---- a sum over cells, from the sum at each
 
@@ -109,25 +109,26 @@ unlike-edges kept =
 
 -- ---- the pass
 
-two-counts : (x v e f r k m : ℕ) → k + r ≡ v → m + v + f ≡ k + 1 + e → x + e ≡ v + f + 12 → (eqb x 13 && eqb v (r + 1)) ≡ (eqb k 1 && eqb m 1)
-two-counts x v e f r k m p q s =
-    both-ways (eqb x 13 && eqb v (r + 1)) (eqb k 1 && eqb m 1)
+two-counts : (x v e f k m : ℕ) → m + v + f ≡ k + 1 + e → x + e ≡ v + f + 12 → (eqb x 13 && eqb k 1) ≡ (eqb k 1 && eqb m 1)
+two-counts x v e f k m p q =
+    both-ways (eqb x 13 && eqb k 1) (eqb k 1 && eqb m 1)
     (λ h.
-    let g = and-true (eqb x 13) (eqb v (r + 1)) h in
+    let g = and-true (eqb x 13) (eqb k 1) h in
     let a : x ≡ 13 = eqb-true x 13 (g .0) in
-    let b : v ≡ r + 1 = eqb-true v (r + 1) (g .1) in
-    true-and (eqb k 1) (eqb m 1) (eq-eqb k 1 (omega arith)) (eq-eqb m 1 (omega arith)))
+    let b : k ≡ 1 = eqb-true k 1 (g .1) in
+    true-and (eqb k 1) (eqb m 1) (g .1) (eq-eqb m 1 (omega arith)))
     (λ h.
     let g = and-true (eqb k 1) (eqb m 1) h in
     let a : k ≡ 1 = eqb-true k 1 (g .0) in
     let b : m ≡ 1 = eqb-true m 1 (g .1) in
-    true-and (eqb x 13) (eqb v (r + 1)) (eq-eqb x 13 (omega arith)) (eq-eqb v (r + 1) (omega arith)))
+    true-and (eqb x 13) (eqb k 1) (eq-eqb x 13 (omega arith)) (g .0))
 
-pub pass-by-counts : (kept : ℕ → Bool) (t r : ℕ) → t ≡ bits 27 (touched kept) → Counted kept t r
-    → (eqb (ones (bitXor t 0o252505252)) 13 && eqb (ones (bitAnd t 0o505000505)) (r + 1)) ≡ passes (test kept)
+-- k is the groups of touched cells, however it was found
+pub pass-by-counts : (kept : ℕ → Bool) (t k : ℕ) → t ≡ bits 27 (touched kept) → k ≡ test kept .k
+    → (eqb (ones (bitXor t 0o252505252)) 13 && eqb k 1) ≡ passes (test kept)
 unfolding passes
-pass-by-counts kept t r p f =
+pass-by-counts kept t k p e =
     let x : ones (bitXor t 0o252505252) + test kept .edges ≡ test kept .corners + test kept .faces + 12 =
     ap (λ (t : ℕ). ones (bitXor t 0o252505252) + test kept .edges) p ∙ unlike-edges kept in
-    two-counts (ones (bitXor t 0o252505252)) (ones (bitAnd t 0o505000505)) (test kept .edges) (test kept .faces) r (test kept .k) (test kept .m)
-    (omega (arith, f .groups, f .corners)) (omega (arith, f .law, f .corners)) (omega (arith, x, f .corners))
+    ap (λ (k : ℕ). eqb (ones (bitXor t 0o252505252)) 13 && eqb k 1) e
+    ∙ two-counts (ones (bitXor t 0o252505252)) (test kept .corners) (test kept .edges) (test kept .faces) (test kept .k) (test kept .m) (euler kept) x

@@ -2,12 +2,21 @@
 // counts of ones give their kinds, and the rank of the touched edges gives their groups.
 ghost use mathlib.Core.Path.{_≡_};
 ghost use Prim.Native.Nat.{_+_, _≤_};
+ghost use lib.Bits.{bitAnd};
+ghost use lib.Count.{ones};
 ghost use Rattle.cells.specs.Cells.{bit, touched, test, passes};
 ghost use Rattle.closed_sets.specs.Rank.{rank, rankOf3, rankOf4};
 ghost use Rattle.bits.specs.Bits.{has, bits};
-ghost use Rattle.local_test.specs.Block.{keptIn, keptInLayer, asTest};
+ghost use Rattle.local_test.specs.Block.{keptIn, keptInLayer, asTest, GroupsOf};
 
-// The groups of touched cells and of bare ones, and the kinds of the touched cells.
+// The groups of touched cells and of bare ones.
+pub struct Groups {
+    pub k: u32,
+    pub m: u32,
+}
+
+// The same, and the kinds of the touched cells. It is laid out as C has it, so that a call from C hands it back as it is.
+#[repr(C)]
 pub struct Local {
     pub k: u32,
     pub m: u32,
@@ -89,18 +98,51 @@ fn rank(t: u32) -> u32
     at0 + at8 + at20 + at24 + odd
 }
 
-// The test of a block, from its kept voxels as bits.
+// k: the touched corners, less those that the touched edges save.
+fn touched_groups(t: u32) -> u32
+    requires { ⌜ rank (has t) ≤ ones (bitAnd t 0o505000505) ⌝ }
+    ensures { λ r. ⌜ r + rank (has t) ≡ ones (bitAnd t 0o505000505) ⌝ }
+{
+    u32::count_ones(t & 0o505000505) - rank(t)
+}
+
+// m from k and the counts, by document 02's formula: no bare cell is looked at.
+fn bare_groups(k: u32, corners: u32, edges: u32, faces: u32) -> u32
+    requires { ⌜ (corners + faces ≤ k + 1 + edges) × (k + edges ≤ 54) ⌝ }
+    ensures { λ r. ⌜ r + corners + faces ≡ k + 1 + edges ⌝ }
+{
+    k + 1 + edges - corners - faces
+}
+
+// k and m alone, of a block given by its kept voxels as bits.
+pub fn groups_of(kept: u32) -> Groups
+    ensures { λ r. ⌜ GroupsOf (test (has kept)) r ⌝ }
+{
+    let t = touched_bits(kept);
+    let k = touched_groups(t);
+    Groups {
+        k: k,
+        m: bare_groups(
+            k,
+            u32::count_ones(t & 0o505000505),
+            u32::count_ones(t & 0o252505252),
+            u32::count_ones(t & 0o020252020),
+        ),
+    }
+}
+
+// The whole test of it.
 pub fn local_test_of(kept: u32) -> Local
     ensures { λ r. ⌜ asTest r ≡ test (has kept) ⌝ }
 {
     let t = touched_bits(kept);
-    let r = rank(t);
+    let k = touched_groups(t);
     let corners = u32::count_ones(t & 0o505000505);
     let edges = u32::count_ones(t & 0o252505252);
     let faces = u32::count_ones(t & 0o020252020);
     Local {
-        k: corners - r,
-        m: edges + 1 - r - faces,
+        k: k,
+        m: bare_groups(k, corners, edges, faces),
         corners: corners,
         edges: edges,
         faces: faces,
@@ -115,7 +157,7 @@ pub fn passes(kept: u32) -> bool
     if u32::count_ones(t ^ 0o252505252) != 13 {
         return false;
     }
-    u32::count_ones(t & 0o505000505) == rank(t) + 1
+    touched_groups(t) == 1
 }
 
 // The test of a block of three layers of three rows.

@@ -6,9 +6,9 @@ ghost use Rattle.cells.specs.Cells.{passes};
 ghost use Rattle.rules.specs.Grid.{size};
 ghost use Rattle.rules.specs.Status.{testAt};
 ghost use Rattle.bits.specs.Bits.{has, bits};
-ghost use Rattle.local_test.specs.Block.{asTest};
+ghost use Rattle.local_test.specs.Block.{GroupsOf};
 ghost use Rattle.neighbourhood.specs.Neighbourhood.{Inner, firstAround, Room, rowBit, layerBit, cubeBit, codeOf, keptOf};
-use local_test::Local;
+use local_test::Groups;
 use rules::Sides;
 
 // What a status says of its voxel: bit 0 that it is kept, bit 1 that it is pending.
@@ -71,12 +71,12 @@ pub fn kept_bits(code: u64) -> u32
     ((x16 | x16 >> 16) & 0x7FFFFFF) as u32
 }
 
-// The local test of voxel i.
-pub fn test_at(s: Sides, status: &[u8], i: usize) -> Local
+// k and m of the local test of voxel i.
+pub fn groups_at(s: Sides, status: &[u8], i: usize) -> Groups
     requires { ⌜ Inner s i × (length (now status) ≡ size s) ⌝ }
-    ensures { λ r. ⌜ asTest r ≡ testAt s (now (status .entry)) i ⌝ }
+    ensures { λ r. ⌜ GroupsOf (testAt s (now (status .entry)) i) r ⌝ }
 {
-    local_test::local_test_of(kept_bits(gather(s, status, i)))
+    local_test::groups_of(kept_bits(gather(s, status, i)))
 }
 
 // Whether voxel i passes it.

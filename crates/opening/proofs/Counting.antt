@@ -4,6 +4,8 @@ use Prim.Native.Nat.{ℕ, _≤_}
 use native.Mathlib.Omega.{arith}
 use lib.IntN.{ℤ, pos, natAbs, _-ℤ_}
 use Rattle.cells.specs.Cells.{Test}
+use Rattle.local_test.specs.declared.Groups.{Groups}
+use Rattle.local_test.specs.Block.{GroupsOf}
 use Rattle.rules.specs.Grid.{neighbourhood}
 use Rattle.rules.specs.Status.{isKept, testAt}
 use Rattle.rules.specs.Machine.{State}
@@ -13,16 +15,16 @@ use Rattle.counting.proofs.Counting.{countable}
 use Rattle.opening.specs.Opening.{OpensAt}
 use Rattle.opening.proofs.Few.{k-few, m-few}
 
-module _ (g : State) (i : ℕ) (t : Test) (e : t ≡ testAt (g .rec .sides) (g .status) i) where
-  pub few : (t .k ≤ 26) × (t .m ≤ 26)
+module _ (g : State) (i : ℕ) (r : Groups) (e : GroupsOf (testAt (g .rec .sides) (g .status) i) r) where
+  pub few : (r .k ≤ 26) × (r .m ≤ 26)
   unfolding testAt
   few =
       let kept = neighbourhood (g .rec .sides) (isKept (g .status)) i in
       (subst (λ (x : Test). x .k ≤ 26) (sym e) (k-few kept), subst (λ (x : Test). x .m ≤ 26) (sym e) (m-few kept))
 
-  pub countable-open : OpensAt i g → (change : ℤ) → change ≡ pos (t .k) -ℤ pos (t .m) → Countable (g .rec) 1 change
+  pub countable-open : OpensAt i g → (change : ℤ) → change ≡ pos (r .k) -ℤ pos (r .m) → Countable (g .rec) 1 change
   countable-open o c h =
       let f = o .working .fit in
       let n = o .left in
       countable g f 1 c (omega (arith, f .openings))
-      (subst (λ (z : ℤ). natAbs z ≤ 52) (sym h) (difference-size (t .k) (t .m) (few .0) (few .1)))
+      (subst (λ (z : ℤ). natAbs z ≤ 52) (sym h) (difference-size (r .k) (r .m) (few .0) (few .1)))

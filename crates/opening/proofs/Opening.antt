@@ -9,6 +9,8 @@ use borrow.Author.Tests.{eqb-false}
 use lib.Dec.{eqb}
 use lib.IntN.{ℤ, pos, _-ℤ_}
 use Rattle.cells.specs.Cells.{Test}
+use Rattle.local_test.specs.declared.Groups.{Groups}
+use Rattle.local_test.specs.Block.{GroupsOf}
 use Rattle.prelude.proofs.Bools.{and-true}
 use Rattle.rules.specs.declared.Record.{Record}
 use Rattle.rules.specs.Answer.{done, Outcome, outcome, untouched, Buffers, buffers, Opening}
@@ -46,14 +48,14 @@ open-removable i g o =
 
 module _ (g : State) where
   pub opened-is :
-      (i : ℕ) (t : Test) (next : Record) (status : List ℕ) (change : ℤ)
-      → t ≡ testAt (g .rec .sides) (g .status) i
+      (i : ℕ) (r : Groups) (next : Record) (status : List ℕ) (change : ℤ)
+      → GroupsOf (testAt (g .rec .sides) (g .status) i) r
       → next ≡ count (g .rec) 0 1 1 change
-      → change ≡ pos (t .k) -ℤ pos (t .m)
+      → change ≡ pos (r .k) -ℤ pos (r .m)
       → status ≡ without (g .rec .sides) (outside (g .dist)) (g .status) i
-      → outcome (done (record { index = i; k = t .k; m = t .m; next = next })) (buffers (g .dist) status) ≡ opened i g
+      → outcome (done (record { index = i; k = r .k; m = r .m; next = next })) (buffers (g .dist) status) ≡ opened i g
   unfolding opened
-  opened-is i t next status change e f c h =
+  opened-is i r next status change e f c h =
       let n : next ≡ count (g .rec) 0 1 1 (pos (testAt (g .rec .sides) (g .status) i .k) -ℤ pos (testAt (g .rec .sides) (g .status) i .m)) =
       f ∙ ap (count (g .rec) 0 1 1) (c ∙ ap (λ (u : Test). pos (u .k) -ℤ pos (u .m)) e) in
       λ j. outcome (done (record { index = i; k = e j .k; m = e j .m; next = n j })) (buffers (g .dist) (h j))

@@ -41,7 +41,7 @@ fn open_at(given: Record, dist: &[i32], status: &mut [u8], i: usize) -> Opened
         ≡ opened i (state given (now (dist .entry)) (now (status .entry))) ⌝ }
 {
     let s = given.sides;
-    let t = neighbourhood::test_at(s, status, i);
+    let t = neighbourhood::groups_at(s, status, i);
     waking::remove(s, dist, status, i);
     Opened::Through {
         index: i,

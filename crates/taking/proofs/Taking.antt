@@ -3,7 +3,8 @@ use mathlib.Core.Path.{_≡_}
 use mathlib.Core.List.{List}
 use Prim.Native.Nat.{ℕ}
 use lib.IntN.{pos}
-use Rattle.cells.specs.Cells.{Test}
+use Rattle.local_test.specs.declared.Groups.{Groups}
+use Rattle.local_test.specs.Block.{GroupsOf}
 use Rattle.rules.specs.declared.Record.{Record}
 use Rattle.rules.specs.Answer.{done, outcome, buffers}
 use Rattle.rules.specs.Status.{testAt, without}
@@ -17,10 +18,10 @@ take-removable i g t = kept-removable g (t .working .fit) i (t .below) (t .kept)
 
 module _ (g : State) where
   pub taken-is :
-      (i : ℕ) (t : Test) (next : Record) (status : List ℕ)
-      → t ≡ testAt (g .rec .sides) (g .status) i
+      (i : ℕ) (r : Groups) (next : Record) (status : List ℕ)
+      → GroupsOf (testAt (g .rec .sides) (g .status) i) r
       → next ≡ count (g .rec) 0 1 0 (pos 0)
       → status ≡ without (g .rec .sides) (outside (g .dist)) (g .status) i
-      → outcome (done (record { k = t .k; m = t .m; next = next })) (buffers (g .dist) status) ≡ taken i g
+      → outcome (done (record { k = r .k; m = r .m; next = next })) (buffers (g .dist) status) ≡ taken i g
   unfolding taken
-  taken-is i t next status e f h = λ j. outcome (done (record { k = e j .k; m = e j .m; next = f j })) (buffers (g .dist) (h j))
+  taken-is i r next status e f h = λ j. outcome (done (record { k = e j .k; m = e j .m; next = f j })) (buffers (g .dist) (h j))

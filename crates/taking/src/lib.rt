@@ -47,7 +47,7 @@ fn take_fit(given: Record, dist: &[i32], status: &mut [u8], index: usize) -> Tak
         ≡ taken index (state given (now (dist .entry)) (now (status .entry))) ⌝ }
 {
     let s = given.sides;
-    let t = neighbourhood::test_at(s, status, index);
+    let t = neighbourhood::groups_at(s, status, index);
     waking::remove(s, dist, status, index);
     Taken::Gone {
         k: t.k,

@@ -6,7 +6,6 @@ use mir.Syntax.{w32}
 use mir.Val.{toZ, ofZ}
 use mir.Facts.{toZ-ofZ}
 use Rattle.rules.specs.Machine.{State, state}
-use Rattle.local_test.specs.Block.{asTest}
 use Rattle.opening.proofs.Opening.{open-removable, opened-is}
 use Rattle.opening.proofs.Counting.{few, countable-open}
 use Rattle.opening.proofs.open_at.Statement.{statement}
@@ -15,8 +14,8 @@ use Rattle.opening.proofs.open_at.Tie as tie
 abbrev lent-to : tie.Start → State
 lent-to c = state (c .args .given) (c .args .dist .now) (c .args .status .now)
 
-test-at-requires : tie.Need-test-at-requires
-test-at-requires c κs =
+groups-at-requires : tie.Need-groups-at-requires
+groups-at-requires c κs =
     let s = c .before .before .before in
     let r = open-removable (s .args .i) (lent-to s) (s .pre) in
     (r .voxel, r .statuses)
@@ -30,19 +29,19 @@ change-requires : tie.Need-change-requires
 change-requires c κs =
     let t = c .before .before .before .before in
     let s = t .before .before .before .before in
-    few (lent-to s) (s .args .i) (asTest (t .test-at .result)) (t .test-at .ensures)
+    few (lent-to s) (s .args .i) (t .groups-at .result) (t .groups-at .ensures)
 
 -- the change as the machine holds it
 changed :
     (c : tie.After-change)
-    → let t = c .before .before .before .before .before .test-at .result in toZ w32 (ofZ w32 (c .change .result)) ≡ pos (t .k) -ℤ pos (t .m)
+    → let t = c .before .before .before .before .before .groups-at .result in toZ w32 (ofZ w32 (c .change .result)) ≡ pos (t .k) -ℤ pos (t .m)
 changed c = toZ-ofZ (sfits-of (c .change .ok)) ∙ c .change .ensures
 
 counted-requires : tie.Need-counted-requires
 counted-requires c κs =
     let t = c .before .before .before .before .before in
     let s = t .before .before .before .before in
-    countable-open (lent-to s) (s .args .i) (asTest (t .test-at .result)) (t .test-at .ensures) (s .pre) _ (changed c)
+    countable-open (lent-to s) (s .args .i) (t .groups-at .result) (t .groups-at .ensures) (s .pre) _ (changed c)
 
 same-length : tie.Need-same-length
 same-length c = search needs
@@ -53,13 +52,13 @@ returns c =
     let r = h .before .before .before in
     let t = r .before .before in
     let s = t .before .before .before .before in
-    opened-is (lent-to s) (s .args .i) (asTest (t .test-at .result)) _ _ _ (t .test-at .ensures) (c .counted .ensures) (changed h) (r .remove .ensures)
+    opened-is (lent-to s) (s .args .i) (t .groups-at .result) _ _ _ (t .groups-at .ensures) (c .counted .ensures) (changed h) (r .remove .ensures)
 
 pub open-at-spec : {M : Type 1} → statement M
 open-at-spec =
     tie.close
     (tie.spec
-    test-at-requires
+    groups-at-requires
     remove-requires
     change-requires
     counted-requires

@@ -1,7 +1,6 @@
 -- `taking::take_fit` meets its contract.
 use borrow.Author.Needs.{needs}
 use Rattle.rules.specs.Machine.{State, state}
-use Rattle.local_test.specs.Block.{asTest}
 use Rattle.taking.proofs.Taking.{take-removable, taken-is}
 use Rattle.counting.proofs.Counting.{countable-still}
 use Rattle.taking.proofs.take_fit.Statement.{statement}
@@ -10,8 +9,8 @@ use Rattle.taking.proofs.take_fit.Tie as tie
 abbrev lent-to : tie.Start → State
 lent-to c = state (c .args .given) (c .args .dist .now) (c .args .status .now)
 
-test-at-requires : tie.Need-test-at-requires
-test-at-requires c κs =
+groups-at-requires : tie.Need-groups-at-requires
+groups-at-requires c κs =
     let s = c .before .before .before in
     let r = take-removable (s .args .index) (lent-to s) (s .pre) in
     (r .voxel, r .statuses)
@@ -36,8 +35,8 @@ returns c =
     let r = c .before .before .before in
     let t = r .before .before in
     let s = t .before .before .before .before in
-    taken-is (lent-to s) (s .args .index) (asTest (t .test-at .result)) _ _ (t .test-at .ensures) (c .counted .ensures) (r .remove .ensures)
+    taken-is (lent-to s) (s .args .index) (t .groups-at .result) _ _ (t .groups-at .ensures) (c .counted .ensures) (r .remove .ensures)
 
 pub take-fit-spec : {M : Type 1} → statement M
 take-fit-spec =
-    tie.close (tie.spec test-at-requires remove-requires counted-requires same-length returns)
+    tie.close (tie.spec groups-at-requires remove-requires counted-requires same-length returns)
