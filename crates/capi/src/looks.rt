@@ -13,8 +13,9 @@ ghost use Rattle.layers.specs.Layer.{readLayer};
 ghost use Rattle.writing.specs.Written.{write};
 ghost use Rattle.replies.specs.Reply.{returned, writtenOut};
 ghost use Rattle.replies.specs.Structs.{recordIn};
+ghost use Rattle.local_test.specs.Block.{asTest};
 ghost use Rattle.look_replies.specs.Looks.{crossingStruct, pointsStruct, readStruct, layerStruct, writeStruct};
-ghost use Rattle.capi.specs.Local.{localTest};
+use local_test::Local;
 use look_replies::CrossingAnswer;
 use look_replies::LayerReply;
 use look_replies::PointsAnswer;
@@ -81,26 +82,10 @@ pub extern "C" fn wattlerugby_write(
     look_replies::write_answer(writing::write(sides, allowed, values, file))
 }
 
-#[repr(C)]
-pub struct LocalAnswer {
-    pub k: u32,
-    pub m: u32,
-    pub corners: u32,
-    pub edges: u32,
-    pub faces: u32,
-}
-
 // The kept voxels are the bits of one number.
 #[no_mangle]
-pub extern "C" fn wattlerugby_local_test(kept: u32) -> LocalAnswer
-    ensures { λ r. ⌜ localTest r ≡ test (has kept) ⌝ }
+pub extern "C" fn wattlerugby_local_test(kept: u32) -> Local
+    ensures { λ r. ⌜ asTest r ≡ test (has kept) ⌝ }
 {
-    let t = local_test::local_test_of(kept);
-    LocalAnswer {
-        k: t.k,
-        m: t.m,
-        corners: t.corners,
-        edges: t.edges,
-        faces: t.faces,
-    }
+    local_test::local_test_of(kept)
 }
