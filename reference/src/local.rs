@@ -87,4 +87,20 @@ mod tests {
         assert_eq!(km(&of_kinds(&[0])), (8, 1));
         assert_eq!(km(&of_kinds(&[0, 1])), (1, 6));
     }
+
+    /// Document 02, CR 3: m = k + 1 - corners + edges - faces, here on blocks from a seed, of every density.
+    #[test]
+    fn m_by_the_formula() {
+        let mut state = 0x2545_F491_4F6C_DD1Du64;
+        for round in 0..20_000 {
+            let block: [bool; 27] = std::array::from_fn(|_| {
+                state ^= state << 13;
+                state ^= state >> 7;
+                state ^= state << 17;
+                state % 100 < round % 101
+            });
+            let Local { k, m, corners, edges, faces } = local_test(&block);
+            assert_eq!(i64::from(m), i64::from(k) + 1 - i64::from(corners) + i64::from(edges) - i64::from(faces), "{block:?}");
+        }
+    }
 }
