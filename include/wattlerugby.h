@@ -94,9 +94,9 @@
 /* ---- version */
 
 #define WATTLERUGBY_VERSION_MAJOR 0
-#define WATTLERUGBY_VERSION_MINOR 3
+#define WATTLERUGBY_VERSION_MINOR 4
 #define WATTLERUGBY_VERSION_PATCH 0
-#define WATTLERUGBY_VERSION "0.3.0"
+#define WATTLERUGBY_VERSION "0.4.0"
 
 #ifdef __cplusplus
 extern "C" {
@@ -466,7 +466,8 @@ typedef struct wattlerugby_local_answer {
 /* The test of a block of three by three by three voxels. Bit (dx + 1) + 3 (dy + 1) + 9 (dz + 1) of `kept` says whether the voxel at
  * (dx, dy, dz) from the middle is kept; the middle's own, bit 13, and bits 27 to 31 are not regarded. The middle voxel's surface has 26
  * cells: 8 corners, 12 edges, 6 faces. A cell is touched if a kept voxel other than the middle contains it, otherwise bare. The middle
- * voxel may go, without changing how the body hangs together, exactly when k and m are both 1. Never refused. */
+ * voxel may go, without changing how the body hangs together, exactly when k and m are both 1. For every block
+ * m = k + 1 - corners + edges - faces. Never refused. */
 wattlerugby_local_answer wattlerugby_local_test(uint32_t kept);
 
 #ifdef __cplusplus

@@ -425,7 +425,8 @@ pub fn written(sides: Sides, allowed: u16, values: &[i16]) -> Result<Vec<u8>, Re
 }
 
 /// The test of a block: bit (dx + 1) + 3 (dy + 1) + 9 (dz + 1) of `kept` says whether the voxel at (dx, dy, dz) from the middle is kept.
-/// The middle's own, bit 13, and bits from 27 on are not regarded. The middle voxel may go exactly when k and m are both 1.
+/// The middle's own, bit 13, and bits from 27 on are not regarded. The middle voxel may go exactly when k and m are both 1. For every block
+/// m = k + 1 - corners + edges - faces.
 ///
 /// ```
 /// use wattlerugby::local_test;
