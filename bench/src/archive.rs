@@ -34,6 +34,7 @@ macro_rules! archive {
 
             pub struct $type;
 
+            #[inline]
             pub fn local_test(kept: u32) -> Local {
                 // SAFETY: numbers alone cross.
                 unsafe { raw::wattlerugby_local_test(kept) }

@@ -115,8 +115,20 @@ pub fn pending(sides: Sides, distances: Distances) -> (Vec<i32>, Vec<u8>) {
     (dist, status)
 }
 
-/// Status bytes of random blocks, 27 to a block, so many in 100 kept.
-pub fn blocks(count: usize, kept: u64) -> Vec<u8> {
+/// Random status bytes, so many in 100 kept.
+pub fn statuses(count: usize, kept: u64) -> Vec<u8> {
     let mut random = Random(kept);
-    (0..27 * count).map(|_| if random.below(100) < kept { 1 + 2 * (random.word() & 1) as u8 } else { 0 }).collect()
+    (0..count).map(|_| if random.below(100) < kept { 1 + 2 * (random.word() & 1) as u8 } else { 0 }).collect()
+}
+
+/// The status bytes of random blocks, 27 to a block.
+pub fn blocks(count: usize, kept: u64) -> Vec<u8> {
+    statuses(27 * count, kept)
+}
+
+/// So many voxels of a grid that are not on its border, drawn one by one.
+pub fn inner(sides: Sides, count: usize) -> Vec<u32> {
+    let mut random = Random(count as u64);
+    let mut within = |side: usize| 1 + random.below(side as u64 - 2) as usize;
+    (0..count).map(|_| (within(sides.a) + sides.a * (within(sides.b) + sides.b * within(sides.c))) as u32).collect()
 }

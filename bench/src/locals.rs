@@ -1,113 +1,113 @@
 //! The local test on 1,000,000 random blocks.
 
-use bench::archive::now as ours;
-use bench::clock;
-use bench::grids::blocks;
-use bench::local::{joined, ranked, searched, Whole};
-use bench::types::Local;
+use crate::ways::{self, block_bits, over, over_bytes, Loop, Way};
+use crate::{named, Demand, GRIDS, NOT_SLOWER};
+use bench::grids::{blocks, inner, statuses};
+use bench::local::{joined, Whole};
+use bench::neighbourhood::{gather, kept_bits};
+use bench::race::{median, race, Contestant};
+use bench::types::{size, Sides};
+use std::hint::black_box;
 
 const COUNT: usize = 1_000_000;
-const KEPT: [u64; 3] = [20, 50, 80];
+const KEPT: [u64; 4] = [10, 25, 50, 80];
 
-/// The 27 status bytes of a block as bits.
-fn gather(bytes: &[u8]) -> u32 {
-    let bytes: &[u8; 27] = bytes.try_into().expect("27 bytes");
-    let row = |at: usize| u32::from(bytes[at] & 1) | u32::from(bytes[at + 1] & 1) << 1 | u32::from(bytes[at + 2] & 1) << 2;
-    let plane = |at: usize| row(at) | row(at + 3) << 3 | row(at + 6) << 6;
-    plane(0) | plane(9) << 9 | plane(18) << 18
+/// A grid whose status bytes stay in the first cache.
+const SMALL: Sides = GRIDS[1];
+
+/// Medians of rounds in ns per block, of blocks with so many in 100 kept.
+struct Found {
+    kept: u64,
+    gathered: Vec<f64>,
+    given: Vec<f64>,
+    passing: Vec<f64>,
+    in_place: Vec<f64>,
 }
 
-/// A number that tells apart sequences of answers.
-fn mix(sum: u64, answer: u64) -> u64 {
-    sum.rotate_left(7) ^ answer
+fn medians(rounds: usize, contestants: Vec<Contestant>) -> Vec<f64> {
+    race(rounds, &contestants).iter().map(|times| median(times) / COUNT as f64).collect()
 }
 
-fn packed(l: Local) -> u64 {
-    u64::from(l.k) | u64::from(l.m) << 8 | u64::from(l.corners) << 16 | u64::from(l.edges) << 24 | u64::from(l.faces) << 32
+/// As carve does it, of the blocks around voxels of a small grid: their kept bits given, and gathered from the grid.
+fn in_place(rounds: usize, kept: u64) -> Vec<f64> {
+    let sides = black_box(SMALL);
+    let (status, voxels) = (statuses(size(sides), kept), inner(sides, COUNT));
+    // SAFETY: these are inner voxels of the grid, and there is a status byte for each voxel.
+    let bits_at = |i: u32| kept_bits(unsafe { gather(sides, &status, i as usize) });
+    let bits: Vec<u32> = voxels.iter().map(|&i| bits_at(i)).collect();
+    let given = || over(&bits, |b| u64::from(joined::passes(b)));
+    let gathered = || over(&voxels, |i| u64::from(joined::passes(bits_at(i))));
+    medians(rounds, vec![Box::new(given), Box::new(gathered)])
 }
 
-fn passes(l: Local) -> bool {
-    (l.k == 1) & (l.m == 1)
+/// All ways over the same blocks.
+fn over_all<T>(blocks: &[T], of: fn(&Way) -> Loop<T>) -> Vec<Contestant<'_>> {
+    ways::ALL.iter().map(|way| Box::new(move || of(way)(blocks)) as Contestant).collect()
 }
 
-/// The least of some rounds of each contestant, in ns per block; all must come to the same number.
-fn race(rounds: usize, contestants: &[&dyn Fn() -> u64]) -> Vec<f64> {
-    let mut least = vec![f64::INFINITY; contestants.len()];
-    let mut expected = None;
-    for _ in 0..rounds {
-        for (run, least) in contestants.iter().zip(&mut least) {
-            let from = clock::now();
-            let sum = run();
-            *least = least.min((clock::now() - from) / COUNT as f64);
-            assert_eq!(*expected.get_or_insert(sum), sum, "other answers");
+fn find(rounds: usize, kept: u64, whole: &Whole) -> Found {
+    let bytes = blocks(COUNT, kept);
+    let bits: Vec<u32> = bytes.chunks_exact(27).map(block_bits).collect();
+    let mut passing = over_all(&bytes, |way| way.passing);
+    passing.push(Box::new(|| over_bytes(&bytes, |b| u64::from(whole.passes(b)))));
+    Found {
+        kept,
+        gathered: medians(rounds, over_all(&bytes, |way| way.gathered)),
+        given: medians(rounds, over_all(&bits, |way| way.given)),
+        passing: medians(rounds, passing),
+        in_place: in_place(rounds, kept),
+    }
+}
+
+fn table(title: &str, names: &[&str], found: &[Found], times: fn(&Found) -> &[f64]) {
+    let heads: Vec<String> = found.iter().map(|f| f.kept.to_string()).collect();
+    println!("\n{title}:\n\n| test | {} |\n|---|{}", heads.join(" | "), "---|".repeat(heads.len()));
+    for (k, name) in names.iter().enumerate() {
+        let cells: Vec<String> = found.iter().map(|f| format!("{:.1}", times(f)[k])).collect();
+        println!("| {name} | {} |", cells.join(" | "));
+    }
+}
+
+/// Prints the tables; the answer is what is asked of the figures.
+pub fn measure(rounds: usize) -> Vec<Demand> {
+    let heads = KEPT.map(|kept| kept.to_string()).join(", ");
+    println!("\n## Local test, ns per block: 1,000,000 random blocks with {heads} in 100 kept, medians of {rounds} rounds");
+    let whole = Whole::build();
+    let found = KEPT.map(|kept| find(rounds, kept, &whole));
+    let mut names: Vec<&str> = ways::ALL.iter().map(|way| way.name).collect();
+    table("k, m and counts, the 27 status bytes gathered", &names, &found, |f| &f.gathered);
+    table("k, m and counts, the block given as bits", &names, &found, |f| &f.given);
+    names.push("(c) the table of 2^26 bits, 8 MB");
+    table("Passes or not, the 27 status bytes gathered", &names, &found, |f| &f.passing);
+    let title = format!("Passes or not, in place: as carve does it, of blocks in a grid of {}", named(SMALL));
+    table(&title, &["Rust, the kept bits given", "Rust, gathered from the grid"], &found, |f| &f.in_place);
+    demands(&found)
+}
+
+/// Where no density is named, at worst.
+fn demands(found: &[Found]) -> Vec<Demand> {
+    let worst = |of: &dyn Fn(&Found) -> f64| found.iter().map(of).fold(0.0, f64::max);
+    let mut asked = vec![
+        Demand("local test, its bytes gathered, ns".into(), worst(&|f| f.gathered[ways::OURS]), 20.0),
+        // the 20 ns were asked for where the same body takes Rust 13
+        Demand("local test, ours/the same body in Rust".into(), worst(&|f| f.gathered[ways::OURS] / f.gathered[ways::SAME]), 20.0 / 13.0),
+        Demand(
+            "local test, a call, ours/the same body in Rust as a call".into(),
+            worst(&|f| f.given[ways::OURS] / f.given[ways::CALLED]),
+            1.1,
+        ),
+        Demand("local test, in place as carve does it, in Rust, ns".into(), worst(&|f| f.in_place[0]), 14.0),
+    ];
+    // a block scanned once takes less time
+    for (touched, both, how) in ways::SEARCHES {
+        for (what, way) in [("ours", ways::OURS), ("a search of touched cells", touched)] {
+            let ratio = |f: &Found| f.given[way] / f.given[both];
+            let told = |f: &Found| format!("local test, {} in 100 kept, {what}/a search of both, {how}", f.kept);
+            asked.extend(found.iter().map(|f| Demand(told(f), ratio(f), 1.0)));
         }
     }
-    least
-}
-
-#[inline(never)]
-fn over_bytes(bytes: &[u8], test: impl Fn(u32) -> u64) -> u64 {
-    bytes.chunks_exact(27).fold(0, |sum, block| mix(sum, test(gather(block))))
-}
-
-#[inline(never)]
-fn over_bits(bits: &[u32], test: impl Fn(u32) -> u64) -> u64 {
-    bits.iter().fold(0, |sum, &block| mix(sum, test(block)))
-}
-
-fn row(name: &str, times: &[Vec<f64>], k: usize) {
-    let cells: Vec<String> = times.iter().map(|t| format!("{:.1}", t[k])).collect();
-    println!("| {name} | {} |", cells.join(" | "));
-}
-
-fn head(title: &str) {
-    println!("\n{title}\n\n| test | 20 | 50 | 80 |\n|---|---|---|---|");
-}
-
-/// Prints the tables; the answer is our time with the bytes gathered, and how it stands to that of the same body in Rust, each at worst.
-pub fn measure(rounds: usize) -> (f64, f64) {
-    println!("\n## Local test, ns per block: 1,000,000 random blocks with 20, 50, 80 in 100 kept");
-    let table = Whole::build();
-    let (mut gathered, mut given, mut passing) = (Vec::new(), Vec::new(), Vec::new());
-    for kept in KEPT {
-        let bytes = blocks(COUNT, kept);
-        let bits: Vec<u32> = bytes.chunks_exact(27).map(gather).collect();
-        gathered.push(race(
-            rounds,
-            &[
-                &|| over_bytes(&bytes, |b| packed(ours::local_test(b))),
-                &|| over_bytes(&bytes, |b| packed(joined::test(b))),
-                &|| over_bytes(&bytes, |b| packed(ranked::test(b))),
-                &|| over_bytes(&bytes, |b| packed(searched::test(b))),
-            ],
-        ));
-        given.push(race(
-            rounds,
-            &[
-                &|| over_bits(&bits, |b| packed(ours::local_test(b))),
-                &|| over_bits(&bits, |b| packed(joined::test(b))),
-                &|| over_bits(&bits, |b| packed(ranked::test(b))),
-                &|| over_bits(&bits, |b| packed(searched::test(b))),
-            ],
-        ));
-        passing.push(race(
-            rounds,
-            &[
-                &|| over_bytes(&bytes, |b| u64::from(passes(ours::local_test(b)))),
-                &|| over_bytes(&bytes, |b| u64::from(joined::passes(b))),
-                &|| over_bytes(&bytes, |b| u64::from(ranked::passes(b))),
-                &|| over_bytes(&bytes, |b| u64::from(table.passes(b))),
-            ],
-        ));
+    if ways::ALL.len() > ways::BEFORE {
+        asked.push(Demand("local test, a call, ours/before".into(), worst(&|f| f.given[ways::OURS] / f.given[ways::BEFORE]), NOT_SLOWER));
     }
-    let names = ["ours, a call for each block", "Rust, the same body", "(b) Rust, rank table", "Rust, search over cells"];
-    head("k, m and counts, the 27 status bytes gathered:");
-    (0..4).for_each(|k| row(names[k], &gathered, k));
-    head("k, m and counts, the block given as bits:");
-    (0..4).for_each(|k| row(names[k], &given, k));
-    head("Passes or not, the 27 status bytes gathered:");
-    (0..3).for_each(|k| row(names[k], &passing, k));
-    row("(c) the table of 2^26 bits, 8 MB", &passing, 3);
-    let worst = |of: fn(&Vec<f64>) -> f64| gathered.iter().map(of).fold(0.0, f64::max);
-    (worst(|t| t[0]), worst(|t| t[0] / t[1]))
+    asked
 }

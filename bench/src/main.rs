@@ -6,6 +6,7 @@ mod locals;
 mod patches;
 mod singles;
 mod stacks;
+mod ways;
 mod writes;
 
 use bench::archive;
@@ -261,7 +262,9 @@ fn main() {
         _ => {}
     }
     let wanted = |word: &str| words.is_empty() || words.iter().any(|w| w == word);
-    println!("Processor time, least of {ROUNDS} rounds or more; in each round every implementation once, all answers and buffers equal.");
+    println!(
+        "Processor time, least of {ROUNDS} rounds or more, or as told; every implementation once a round, all answers and buffers equal."
+    );
     let mut demands = Vec::new();
     let parts: Vec<&Part> = PARTS.iter().filter(|part| wanted(part.word)).collect();
     let found = if parts.is_empty() { Vec::new() } else { measure_all(&parts) };
@@ -300,10 +303,7 @@ fn main() {
         demands.extend(worst_case().map(|ratio| Demand("carve, every inner voxel pending, ours/before".into(), ratio, 1.3)));
     }
     if wanted("local") {
-        let (time, ratio) = locals::measure(3 * ROUNDS);
-        demands.push(Demand("local test, its bytes gathered, ns".into(), time, 20.0));
-        // the 20 ns were asked for where the same body takes Rust 13
-        demands.push(Demand("local test, ours/the same body in Rust".into(), ratio, 20.0 / 13.0));
+        demands.extend(locals::measure(3 * ROUNDS));
     }
     if wanted("stack") {
         demands.push(Demand("stack of a call at most, KB".into(), stacks::measure() / 1024.0, 18.0));

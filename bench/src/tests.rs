@@ -1,12 +1,17 @@
-//! The two Rust implementations against the reference, on small grids and on random calls.
+//! The two Rust implementations against the reference, on small grids and on random calls; the local tests, and the race.
 
 use crate::contest::Calls;
-use crate::grids::{blocks, patches, Random};
-use crate::local::{joined, ranked, searched, Whole};
+use crate::grids::{blocks, inner, patches, statuses, Random};
+use crate::local::searched::{both, by_cells, by_frontiers, touched};
+use crate::local::{joined, passes, ranked, Whole};
+use crate::neighbourhood::{gather, kept_bits};
 use crate::plain::{indexed, read, write, zipped, Plain, CHUNKED, INDEXED};
+use crate::race::{median, race, Contestant};
 use crate::tuned::Tuned;
 use crate::types::{begun, size, Record, Sides, MISSING};
 use reference::{file, grid, local, machine};
+use std::cell::RefCell;
+use std::collections::BTreeSet;
 use wattlerugby::patch;
 
 fn theirs(r: Record) -> grid::Record {
@@ -190,7 +195,7 @@ fn spoil_file(random: &mut Random, file: &mut Vec<u8>, n: usize, record: usize) 
 #[test]
 fn read_as_the_reference() {
     let mut random = Random(4);
-    let mut numbers = std::collections::BTreeSet::new();
+    let mut numbers = BTreeSet::new();
     for seed in 0..20_000 {
         let file = random_file(&mut random);
         let side = |i: usize| usize::from(*file.get(i).unwrap_or(&0));
@@ -216,14 +221,68 @@ fn local_tests_as_the_reference() {
             let block: [bool; 27] = std::array::from_fn(|p| bytes[p] != 0);
             let bits = (0..27).fold(0, |bits, p| bits | u32::from(block[p]) << p);
             let expected = local::local_test(&block);
-            for found in [joined::test(bits), ranked::test(bits), searched::test(bits)] {
+            let all = [
+                joined::test(bits),
+                joined::call(bits),
+                ranked::test(bits),
+                touched(bits, by_frontiers),
+                both(bits, by_frontiers),
+                touched(bits, by_cells),
+                both(bits, by_cells),
+            ];
+            for found in all {
+                assert_eq!(passes(found), expected.passes());
                 let found = local::Local { k: found.k, m: found.m, corners: found.corners, edges: found.edges, faces: found.faces };
                 assert_eq!(found, expected);
             }
-            let passes = [joined::passes(bits), ranked::passes(bits), whole.passes(bits)];
-            assert_eq!(passes, [expected.passes(); 3]);
+            let passing = [joined::passes(bits), ranked::passes(bits), whole.passes(bits)];
+            assert_eq!(passing, [expected.passes(); 3]);
         }
     }
+}
+
+/// The kept voxels around a voxel, against a look at each of the 27 by its coordinates.
+#[test]
+fn neighbourhoods_by_coordinates() {
+    let sides = Sides { a: 5, b: 4, c: 6 };
+    let status = statuses(size(sides), 50);
+    for i in inner(sides, 1000) {
+        let i = i as usize;
+        let (x, y, z) = (i % sides.a, i / sides.a % sides.b, i / (sides.a * sides.b));
+        assert!((1..4).contains(&x) && (1..3).contains(&y) && (1..5).contains(&z));
+        let kept = |p: usize| status[(x + p % 3 - 1) + sides.a * ((y + p / 3 % 3 - 1) + sides.b * (z + p / 9 - 1))] & 1;
+        let expected = (0..27).fold(0, |bits, p| bits | u32::from(kept(p)) << p);
+        // SAFETY: an inner voxel, and a status byte for each voxel.
+        assert_eq!(kept_bits(unsafe { gather(sides, &status, i) }), expected);
+    }
+}
+
+/// Every contestant runs once a round, and follows every other at some time.
+#[test]
+fn races_in_changing_order() {
+    let ran = RefCell::new(Vec::new());
+    let run = |k: u64| {
+        ran.borrow_mut().push(k);
+        7u64
+    };
+    let contestants: Vec<Contestant> = (0..4).map(|k| Box::new(move || run(k)) as Contestant).collect();
+    let times = race(27, &contestants);
+    assert!(times.len() == 4 && times.iter().all(|of_one| of_one.len() == 27));
+    let ran = ran.borrow();
+    assert!(ran.chunks(4).all(|round| (0..4).all(|k| round.contains(&k))));
+    let follows: BTreeSet<_> = ran.chunks(4).flat_map(|round| round.windows(2)).collect();
+    assert_eq!(follows.len(), 4 * 3);
+}
+
+#[test]
+fn median_of_rounds() {
+    assert_eq!(median(&[5.0, 1.0, 4.0, 2.0, 3.0]), 3.0);
+}
+
+#[test]
+#[should_panic = "other answers"]
+fn another_number_stops_a_race() {
+    race(1, &[Box::new(|| 1), Box::new(|| 2)]);
 }
 
 #[test]
