@@ -1,9 +1,8 @@
 -- The worked files, by computation.
 use mathlib.Core.Path.{refl}
-use Rattle.prelude.specs.Lists.{any, range}
+use Rattle.prelude.specs.Lists.{range}
 use Rattle.rules.specs.Grid.{fitSides, size}
 use Rattle.rules.specs.Checks.{unless}
-use Rattle.rules.specs.Begin.{isIn}
 use Rattle.words.specs.Words.{signed, valueOf, valuesOf}
 use Rattle.layers.specs.Layer.{withLayer}
 use Rattle.patches.specs.Patch.{checksOf, appliedOf}
@@ -11,11 +10,10 @@ use Rattle.gridfile.specs.File.{fitUpTo, layersChecks, layersFilled, fil
 use Rattle.gridfile.specs.Examples.{Examples}
 
 pub examples : Examples
-unfolding any range fitSides size unless isIn signed valueOf valuesOf withLayer checksOf appliedOf fitUpTo layersChecks layersFilled filled readUpTo read
+unfolding range fitSides size unless signed valueOf valuesOf withLayer checksOf appliedOf fitUpTo layersChecks layersFilled filled readUpTo read
 examples =
     record {
       grid = refl;
-      turned = refl;
       case-d = refl;
       short-header = refl;
       wrong-header = refl;
@@ -27,6 +25,10 @@ examples =
       wrong-record = refl;
       no-such-layer = refl;
       came-before = refl;
+      came-just-before = refl;
+      turned = refl;
+      first-is-1 = refl;
+      skipped = refl;
       patched = refl;
       bytes-after = refl;
       wrong-patch = refl;
@@ -43,4 +45,8 @@ examples =
       layer-before-next = refl;
       repeat-before-next = refl;
       repeat-before-patch = refl;
+      skip-before-next = refl;
+      short-before-skip = refl;
+      mark-before-skip = refl;
+      layer-before-skip = refl;
     }

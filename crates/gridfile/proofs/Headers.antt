@@ -1,7 +1,7 @@
 -- The header: what holds where none of its checks fails; and that no check of read has the number 0.
 use mathlib.Core.Path.{_≡_, refl}
 use mathlib.Core.Bool.{true}
-use mathlib.Core.List.{List, [], _∷_}
+use mathlib.Core.List.{List}
 use Prim.Native.Nat.{ℕ, zero, suc, _+_, _*_, _≤_}
 use native.Mathlib.Nat.{mul-le-mul}
 use native.Mathlib.Omega.{arith}
@@ -12,7 +12,7 @@ use Rattle.rules.specs.Grid.{fitSides, size}
 use Rattle.rules.specs.Checks.{numbered, AllHold}
 use Rattle.rules.proofs.Places.{fit}
 use Rattle.rules.proofs.Checks.{numbered-append, hold-append}
-use Rattle.layers.specs.Layer.{layerLength, zAt}
+use Rattle.layers.specs.Layer.{layerLength}
 use Rattle.layers.proofs.Sizes.{area-small}
 use Rattle.patches.specs.Patch.{patchesChecks}
 use Rattle.patches.proofs.Patching.{patches-numbered}
@@ -30,16 +30,16 @@ layers-end-small s e =
     let m : s .c * layerLength s ≤ 64 * 8195 = mul-le-mul (f .c-high) l in
     omega arith
 
-pub layers-numbered : (s : Sides) (file : List ℕ) (left start : ℕ) (seen : List ℕ) → numbered (layersChecks s file left start seen) ≡ true
+pub layers-numbered : (s : Sides) (file : List ℕ) (left start next : ℕ) → numbered (layersChecks s file left start next) ≡ true
 unfolding layersChecks
-layers-numbered s file zero start seen = refl
-layers-numbered s file (suc left) start seen = layers-numbered s file left (start + layerLength s) (zAt file start ∷ seen)
+layers-numbered s file zero start next = refl
+layers-numbered s file (suc left) start next = layers-numbered s file left (start + layerLength s) (suc next)
 
 module _ (greatest : ℕ) (file : List ℕ) (lent : ℕ) where
   pub read-numbered : numbered (readChecks greatest file lent) ≡ true
   read-numbered =
       let s = sidesIn file in
-      numbered-append (layersChecks s file (s .c) headerLength []) _ (layers-numbered s file (s .c) headerLength [])
+      numbered-append (layersChecks s file (s .c) headerLength 0) _ (layers-numbered s file (s .c) headerLength 0)
       (patches-numbered (size s) file _ (layersEnd s))
 
   pub header-fits : AllHold (headerChecks greatest file lent) → fitSides (sidesIn file) ≡ true
@@ -52,7 +52,7 @@ module _ (greatest : ℕ) (file : List ℕ) (lent : ℕ) where
   is-accepted h =
       let s = sidesIn file in
       let p = hold-append (headerChecks greatest file lent) (recordsChecks s file) h in
-      let r = hold-append (layersChecks s file (s .c) headerLength []) (patchesChecks (size s) file (layersEnd s)) (p .1) in
+      let r = hold-append (layersChecks s file (s .c) headerLength 0) (patchesChecks (size s) file (layersEnd s)) (p .1) in
       let own = p .0 in
       record {
         whole = ltb-false _ _ (own .0);

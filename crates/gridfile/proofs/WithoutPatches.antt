@@ -1,6 +1,6 @@
 -- A file without patches: no byte is left behind the layers, so no check and no value comes from there.
 use mathlib.Core.Path.{_≡_, ap, ap₂, _∙_}
-use mathlib.Core.List.{List, [], _++_, append-nil}
+use mathlib.Core.List.{List, _++_, append-nil}
 use Prim.Native.Nat.{ℕ, _≤_}
 use lib.ListN.{length}
 use lib.IntN.{ℤ}
@@ -20,7 +20,7 @@ module _ (greatest : ℕ) (file : List ℕ) (lent : List ℤ) (h : length file �
   header = headerChecks greatest file (length lent)
 
   abbrev layers : List Check
-  layers = layersChecks s file (s .c) headerLength []
+  layers = layersChecks s file (s .c) headerLength 0
 
   abbrev values : List ℤ → Outcome (List ℤ) Header
   values v = outcome (done (record { sides = s; allowed = allowedIn file })) v

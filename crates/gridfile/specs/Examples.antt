@@ -40,9 +40,8 @@ abbrev pub valuesD : List ℤ
 valuesD = replicate 21 (pos 6) ++ (negsuc 5 ∷ replicate 4 (pos 6)) ++ (negsuc 5 ∷ replicate 21 (pos 6))
 
 pub record Examples : Type 0 where
-  -- sides, T = 258, and each layer's values in its place, in whatever order the layers come
+  -- sides, T = 258, and each layer's values in its place
   pub grid : read (file 0 1 2) lent ≡ outcome (done (record { sides = sides 3 3 3; allowed = 0x0102 })) (layer ++ layer ++ layer)
-  pub turned : read (file 2 0 1) lent ≡ outcome (done (record { sides = sides 3 3 3; allowed = 0x0102 })) (layer ++ layer ++ layer)
   pub case-d : read fileD (replicate 48 (pos 0)) ≡ outcome (done (record { sides = sides 4 4 3; allowed = 0 })) valuesD
   -- each number; what was lent stays
   pub short-header : read (take 6 (file 0 1 2)) lent ≡ outcome (refused 21) lent
@@ -54,7 +53,12 @@ pub record Examples : Type 0 where
   pub no-record : read (header 0x48 3 3 3) lent ≡ outcome (refused 21) lent
   pub wrong-record : read (header 0x48 3 3 3 ++ layerRecord 0x56 0x48 0) lent ≡ outcome (refused 22) lent
   pub no-such-layer : read (file 0 1 3) lent ≡ outcome (refused 23) lent
+  -- a repeat is 24, of the layer just before or of one further back; a layer that is not the next is 27, be it the first or a later one
   pub came-before : read (file 0 1 0) lent ≡ outcome (refused 24) lent
+  pub came-just-before : read (file 0 0 1) lent ≡ outcome (refused 24) lent
+  pub turned : read (file 2 0 1) lent ≡ outcome (refused 27) lent
+  pub first-is-1 : read (file 1 1 2) lent ≡ outcome (refused 27) lent
+  pub skipped : read (file 0 2 1) lent ≡ outcome (refused 27) lent
   -- patches: a later one stands; each number, and nothing is written before the last is looked at
   pub patched : read (file 0 1 2 ++ (patch 26 0 5 ++ (patch 0 0 8 ++ patch 26 0 6))) lent
       ≡ outcome (done (record { sides = sides 3 3 3; allowed = 0x0102 })) (set (set (layer ++ layer ++ layer) 0 (pos 8)) 26 (pos 6))
@@ -74,5 +78,10 @@ pub record Examples : Type 0 where
   pub buffer-before-records : read (header 0x48 3 3 3) [] ≡ outcome (refused 2) []
   -- and among records: each has its own checks before the next is looked at
   pub layer-before-next : read (header 0x48 3 3 3 ++ (layerRecord 0x56 0x4C 3 ++ layerRecord 0x56 0x48 0)) lent ≡ outcome (refused 23) lent
-  pub repeat-before-next : read (header 0x48 3 3 3 ++ (layerRecord 0x56 0x4C 1 ++ layerRecord 0x56 0x4C 1)) lent ≡ outcome (refused 24) lent
-  pub repeat-before-patch : read (file 0 2 2 ++ (0 ∷ [])) lent ≡ outcome (refused 24) lent
+  pub repeat-before-next : read (header 0x48 3 3 3 ++ (layerRecord 0x56 0x4C 0 ++ layerRecord 0x56 0x4C 0)) lent ≡ outcome (refused 24) lent
+  pub repeat-before-patch : read (file 0 1 1 ++ (0 ∷ [])) lent ≡ outcome (refused 24) lent
+  pub skip-before-next : read (header 0x48 3 3 3 ++ (layerRecord 0x56 0x4C 1 ++ layerRecord 0x56 0x48 0)) lent ≡ outcome (refused 27) lent
+  -- of a record that is not the next, the first of two
+  pub short-before-skip : read (header 0x48 3 3 3 ++ take 20 (layerRecord 0x56 0x4C 1)) lent ≡ outcome (refused 21) lent
+  pub mark-before-skip : read (header 0x48 3 3 3 ++ layerRecord 0x56 0x48 1) lent ≡ outcome (refused 22) lent
+  pub layer-before-skip : read (file 3 0 1) lent ≡ outcome (refused 23) lent

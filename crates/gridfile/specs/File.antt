@@ -1,4 +1,4 @@
--- Document 01, "The grid file", with document 02's CR 2: the header, the layer records one after the other, the patches behind them, and read.
+-- Document 01, "The grid file", with document 02's CR 2 and CR 4: the header, the layer records from the bottom up, the patches behind them, and read.
 use mathlib.Core.Path.{_≡_}
 use mathlib.Core.Bool.{Bool, true, not, _&&_}
 use mathlib.Core.List.{List, [], _∷_, _++_}
@@ -10,7 +10,6 @@ use Rattle.rules.specs.declared.Sides.{Sides}
 use Rattle.rules.specs.Grid.{fitSides, size}
 use Rattle.rules.specs.Checks.{Check, _when_, unless, AllHold}
 use Rattle.rules.specs.Answer.{Reply, refused, done, Outcome, outcome, untouched}
-use Rattle.rules.specs.Begin.{isIn}
 use Rattle.words.specs.Words.{byteAt, word, tagged}
 use Rattle.layers.specs.Layer.{layerLength, zAt, layerChecks, layerAt, withLayer}
 use Rattle.patches.specs.Patch.{patchesChecks, patched}
@@ -42,18 +41,21 @@ headerChecks greatest file lent =
 
 -- ---- the layer records: each has its own checks before the next is looked at
 
--- seen are the z that came before
-abbrev pub orderChecks : List ℕ → ℕ → List ℕ → List Check
-orderChecks file start seen = 24 when isIn seen (zAt file start) ∷ []
+-- layer z + 1 follows layer z, from 0, none skipped; so the z that came before are those below the next. 24 for a repeat, then 27 for all but the next
+abbrev pub orderChecks : List ℕ → ℕ → ℕ → List Check
+orderChecks file start next =
+    24 when ltb (zAt file start) next
+    ∷ 27 when not (eqb (zAt file start) next)
+    ∷ []
 
-abbrev pub recordChecks : Sides → List ℕ → ℕ → List ℕ → List Check
-recordChecks s file start seen = layerChecks s file start ++ orderChecks file start seen
+abbrev pub recordChecks : Sides → List ℕ → ℕ → ℕ → List Check
+recordChecks s file start next = layerChecks s file start ++ orderChecks file start next
 
--- as many records as are left, from a byte of the file on
-unfoldable pub layersChecks : Sides → List ℕ → ℕ → ℕ → List ℕ → List Check
-layersChecks s file zero start seen = []
-layersChecks s file (suc left) start seen =
-    recordChecks s file start seen ++ layersChecks s file left (start + layerLength s) (zAt file start ∷ seen)
+-- as many records as are left, from a byte of the file and layer next on
+unfoldable pub layersChecks : Sides → List ℕ → ℕ → ℕ → ℕ → List Check
+layersChecks s file zero start next = []
+layersChecks s file (suc left) start next =
+    recordChecks s file start next ++ layersChecks s file left (start + layerLength s) (suc next)
 
 -- the values after them
 unfoldable pub layersFilled : Sides → List ℕ → ℕ → ℕ → List ℤ → List ℤ
@@ -69,7 +71,7 @@ layersEnd s = headerLength + s .c * layerLength s
 -- ---- read
 
 abbrev pub recordsChecks : Sides → List ℕ → List Check
-recordsChecks s file = layersChecks s file (s .c) headerLength [] ++ patchesChecks (size s) file (layersEnd s)
+recordsChecks s file = layersChecks s file (s .c) headerLength 0 ++ patchesChecks (size s) file (layersEnd s)
 
 abbrev pub readChecks : ℕ → List ℕ → ℕ → List Check
 readChecks greatest file lent = headerChecks greatest file lent ++ recordsChecks (sidesIn file) file
@@ -79,7 +81,7 @@ pub record Accepted (s : Sides) (file : List ℕ) (lent : ℕ) : Type 0 where
   pub whole : headerLength ≤ length file
   pub fits : fitSides s ≡ true
   pub long : lent ≡ size s
-  pub layers : AllHold (layersChecks s file (s .c) headerLength [])
+  pub layers : AllHold (layersChecks s file (s .c) headerLength 0)
   pub patches : AllHold (patchesChecks (size s) file (layersEnd s))
 
 -- the layers with the patches applied in file order

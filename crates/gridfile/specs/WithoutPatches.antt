@@ -1,6 +1,6 @@
 -- A file without patches is read as document 01 has it: the layers alone (proofs/WithoutPatches.antt).
 use mathlib.Core.Path.{_≡_}
-use mathlib.Core.List.{List, [], _++_}
+use mathlib.Core.List.{List, _++_}
 use Prim.Native.Nat.{ℕ, _≤_}
 use lib.ListN.{length}
 use lib.IntN.{ℤ}
@@ -19,4 +19,4 @@ pub record WithoutPatches : Type 0 where
       → let s = sidesIn file in
       length file ≤ layersEnd s
       → readUpTo greatest file lent
-      ≡ unless (headerChecks greatest file (length lent) ++ layersChecks s file (s .c) headerLength []) (untouched lent) (layersAlone file lent)
+      ≡ unless (headerChecks greatest file (length lent) ++ layersChecks s file (s .c) headerLength 0) (untouched lent) (layersAlone file lent)

@@ -1,6 +1,5 @@
 // Read, of documents 01 and 02: the header, the layer records, then the patches. A refusal is known before the first value is written.
 ghost use mathlib.Core.Path.{_≡_};
-ghost use mathlib.Core.List.{[]};
 ghost use mathlib.Core.Bool.{true};
 ghost use Prim.Native.Nat.{_≤_};
 ghost use lib.ListN.{length};
@@ -8,8 +7,8 @@ ghost use Rattle.rules.specs.Grid.{fitSides};
 ghost use Rattle.rules.specs.Checks.{firstFailing};
 ghost use Rattle.rules.specs.Answer.{outcome};
 ghost use Rattle.gridfile.specs.File as spec;
-ghost use Rattle.gridfile.specs.File.{headerLength, sidesIn, fitUpTo, headerChecks, layersChecks, layersFilled, layersEnd, filled, readChecks};
-ghost use Rattle.gridfile.specs.File.{Accepted, readAnswer, readUpTo};
+ghost use Rattle.gridfile.specs.File.{headerLength, sidesIn, fitUpTo, headerChecks, recordChecks, layersChecks, layersFilled, layersEnd, filled};
+ghost use Rattle.gridfile.specs.File.{readChecks, Accepted, readAnswer, readUpTo};
 use rules::Sides;
 
 // What reading a file answers.
@@ -61,26 +60,39 @@ fn header_refusal(file: &[u8], lent: usize, greatest: usize) -> u8
 
 // ---- the layer records
 
-// The number that they are refused with, or 0.
+// The number that the record at start is refused with where layer next is due, or 0.
+fn record_refusal(sides: Sides, file: &[u8], start: usize, next: usize) -> u8
+    requires { ⌜ fitSides sides ≡ true ⌝ }
+    ensures { λ r. ⌜ r ≡ firstFailing (recordChecks sides (now (file .entry)) start next) ⌝ }
+{
+    let n = layers::layer_refusal(sides, file, start);
+    if n != 0 {
+        return n;
+    }
+    let z = file[start + 2] as usize;
+    if z < next {
+        return 24;
+    }
+    if z != next {
+        return 27;
+    }
+    0
+}
+
+// That of all records, each before the next.
 fn layers_refusal(sides: Sides, file: &[u8]) -> u8
     requires { ⌜ fitSides sides ≡ true ⌝ }
-    ensures { λ r. ⌜ r ≡ firstFailing (layersChecks sides (now (file .entry)) (sides .c) headerLength []) ⌝ }
+    ensures { λ r. ⌜ r ≡ firstFailing (layersChecks sides (now (file .entry)) (sides .c) headerLength 0) ⌝ }
 {
-    let mut seen = [false; 64];
     let mut start = 7;
-    let mut left = sides.c;
-    while 0 < left {
-        let n = layers::layer_refusal(sides, file, start);
+    let mut next = 0;
+    while next < sides.c {
+        let n = record_refusal(sides, file, start, next);
         if n != 0 {
             return n;
         }
-        let z = file[start + 2] as usize;
-        if seen[z] {
-            return 24;
-        }
-        seen[z] = true;
         start += layers::layer_length(sides);
-        left -= 1;
+        next += 1;
     }
     0
 }

@@ -1,6 +1,6 @@
 -- The next of the written records in a file: its checks hold, and its values come to stand where they belong.
 use mathlib.Core.Path.{_≡_, refl, ap, ap₂, sym, _∙_}
-use mathlib.Core.Bool.{true, false, not, _&&_}
+use mathlib.Core.Bool.{true, not, _&&_}
 use mathlib.Core.List.{List, [], _++_, flatMap, append-assoc, append-nil}
 use Prim.Native.Nat.{ℕ, suc, _+_, _-_, _*_, _≤_, _<_}
 use native.Mathlib.Omega.{arith}
@@ -12,12 +12,13 @@ use borrow.Author.Tests.{le-ltb, lt-leb}
 use Rattle.prelude.specs.Lists.{range}
 use Rattle.rules.specs.declared.Sides.{Sides}
 use Rattle.rules.specs.Checks.{AllHold}
-use Rattle.rules.specs.Begin.{isIn}
+use Rattle.rules.proofs.Checks.{append-hold}
 use Rattle.words.specs.Words.{byteAt, tagged, valuesOf}
 use Rattle.words.proofs.Bytes.{Narrow, valuesOf-valuesBytes}
-use Rattle.layers.specs.Layer.{width, area, layerLength, zAt, layerAt, stretch, withLayer}
+use Rattle.layers.specs.Layer.{width, area, layerLength, zAt, layerChecks, layerAt, stretch, withLayer}
 use Rattle.layers.proofs.Sizes.{layer-room}
-use Rattle.gridfile.specs.File.{recordChecks}
+use Rattle.gridfile.specs.File.{orderChecks, recordChecks}
+use Rattle.gridfile.proofs.Checking.{order-holds}
 use Rattle.writing.specs.Written.{layerValues, valuesForm}
 use Rattle.writing.specs.RoundTrip.{Writable}
 use Rattle.writing.proofs.Forms.{recordForm, recordsFrom, length-valuesForm, length-layerValues, length-recordForm}
@@ -76,8 +77,10 @@ module _ {s : Sides} {T : ℕ} {values : List ℤ} (w : Writable s T values) whe
         let e : start + 0 ≡ start = omega arith in
         ap₂ (λ (x y : ℕ). eqb x 0x56 && eqb y 0x4C) (ap (byteAt file) (sym e) ∙ byte-ahead 0) (byte-ahead 1)
 
-    pub record-holds : (seen : List ℕ) → isIn seen z ≡ false → AllHold (recordChecks s file start seen)
-    record-holds seen new = (le-ltb _ _ whole-ahead, (ap not tag-ahead, (rw z-ahead (lt-leb _ _ z-below), (rw z-ahead new, tt))))
+    pub record-holds : AllHold (recordChecks s file start z)
+    record-holds =
+        append-hold (layerChecks s file start) (orderChecks file start z)
+        (le-ltb _ _ whole-ahead, (ap not tag-ahead, (rw z-ahead (lt-leb _ _ z-below), tt))) (order-holds file start z z-ahead)
 
     -- ---- its values
 

@@ -1,25 +1,24 @@
 -- Reading what was written gives the grid back; so two grids with one form are one grid.
 use mathlib.Core.Path.{_≡_, refl, ap, ap₂, sym, subst, _∙_}
-use mathlib.Core.Bool.{true, false, not, _||_}
-use mathlib.Core.List.{List, [], _∷_, flatMap}
+use mathlib.Core.Bool.{true, not}
+use mathlib.Core.List.{List, flatMap}
 use Prim.Native.Nat.{ℕ, zero, suc, _+_, _-_, _*_, _≤_, _<_}
 use native.Mathlib.Omega.{arith}
 use lib.ListN.{length, take, drop}
 use lib.Seq.{take-all, take-at}
 use lib.IntN.{ℤ}
-use borrow.Author.Tests.{le-ltb, le-leb, eq-eqb, ne-eqb}
-use Rattle.prelude.specs.Lists.{any, range}
+use borrow.Author.Tests.{le-ltb, le-leb, eq-eqb}
+use Rattle.prelude.specs.Lists.{range}
 use Rattle.prelude.proofs.Bools.{true-and}
 use Rattle.rules.specs.declared.Sides.{Sides}
 use Rattle.rules.specs.Grid.{size}
 use Rattle.rules.specs.Checks.{AllHold}
 use Rattle.rules.specs.Answer.{untouched}
-use Rattle.rules.specs.Begin.{isIn}
 use Rattle.rules.proofs.Checks.{append-hold, unless-held}
 use Rattle.rules.proofs.Places.{fit}
 use Rattle.words.proofs.Bytes.{word-drop, word-wordBytes}
 use Rattle.layers.specs.declared.LayerSpan.{LayerSpan}
-use Rattle.layers.specs.Layer.{area, layerLength, zAt, layerAt, withLayer}
+use Rattle.layers.specs.Layer.{area, layerLength, layerAt, withLayer}
 use Rattle.layers.proofs.Sizes.{length-withLayer}
 use Rattle.gridfile.specs.File.{headerLength, sidesIn, allowedIn, fitUpTo, headerChecks, recordChecks, layersChecks, layersFilled}
 use Rattle.gridfile.specs.File.{layersEnd, recordsChecks, readChecks, filled, accepted, readUpTo, read}
@@ -29,18 +28,6 @@ use Rattle.writing.specs.Written.{layerValues, layerForm, layersForm, wr
 use Rattle.writing.specs.RoundTrip.{Writable, grid, RoundTrip}
 use Rattle.writing.proofs.Forms.{recordForm, length-layersForm}
 use Rattle.writing.proofs.Reading.{Ahead, own-length, starts, z-below, z-ahead, ahead-next, record-holds, withLayer-ahead}
-
--- no layer from z on came before
-abbrev Fresh : ℕ → List ℕ → Type 0
-Fresh z seen = (i : ℕ) → z ≤ i → isIn seen i ≡ false
-
-fresh-start : Fresh 0 []
-unfolding isIn any
-fresh-start i h = refl
-
-fresh-next : (z : ℕ) (seen : List ℕ) → Fresh z seen → Fresh (suc z) (z ∷ seen)
-unfolding isIn any
-fresh-next z seen f i h = ap₂ _||_ (ne-eqb i z (λ e. omega arith)) (f i (omega arith))
 
 module _ {s : Sides} {T : ℕ} {values : List ℤ} (w : Writable s T values) where
   abbrev form : List ℕ
@@ -73,14 +60,12 @@ module _ {s : Sides} {T : ℕ} {values : List ℤ} (w : Writable s T values) whe
       ap (take (layerLength s)) (starts w (ahead-at z (suc (s .c - 1 - z)) (omega arith)))
       ∙ take-at (recordForm s values z) _ (layerLength s) (own-length w z h)
 
-  layers-hold : (left start z : ℕ) (seen : List ℕ) → Ahead s values form start z left → Fresh z seen → AllHold (layersChecks s form left start seen)
+  layers-hold : (left start z : ℕ) → Ahead s values form start z left → AllHold (layersChecks s form left start z)
   unfolding layersChecks flatMap range
-  layers-hold zero start z seen r f = tt
-  layers-hold (suc left) start z seen r f =
+  layers-hold zero start z r = tt
+  layers-hold (suc left) start z r =
       let next : ℕ = start + layerLength s in
-      let seen' : List ℕ = zAt form start ∷ seen in
-      append-hold (recordChecks s form start seen) (layersChecks s form left next seen') (record-holds w r seen (f z (omega arith)))
-      (layers-hold left next (suc z) seen' (ahead-next w r) (rw (z-ahead w r) (fresh-next z seen f)))
+      append-hold (recordChecks s form start z) (layersChecks s form left next (suc z)) (record-holds w r) (layers-hold left next (suc z) (ahead-next w r))
 
   layers-filled :
       (left start z : ℕ) (buffer : List ℤ) → Ahead s values form start z left → length buffer ≡ size s
@@ -115,8 +100,8 @@ module _ {s : Sides} {T : ℕ} {values : List ℤ} (w : Writable s T values) whe
     read-holds : AllHold (readChecks 64 form (length lent))
     read-holds =
         append-hold (headerChecks 64 form (length lent)) (recordsChecks s form) header-holds
-        (append-hold (layersChecks s form (s .c) headerLength []) (patchesChecks (size s) form (layersEnd s))
-        (layers-hold (s .c) headerLength 0 [] records-ahead fresh-start)
+        (append-hold (layersChecks s form (s .c) headerLength 0) (patchesChecks (size s) form (layersEnd s))
+        (layers-hold (s .c) headerLength 0 records-ahead)
         (subst AllHold (sym (checks-none (size s) form (layersEnd s) form-ends)) tt))
 
     read-back : read form lent ≡ grid s T values

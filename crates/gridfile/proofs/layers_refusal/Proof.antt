@@ -1,91 +1,62 @@
 -- `gridfile::layers_refusal` meets its contract.
-use mathlib.Core.Path.{_≡_, refl, sym, _∙_}
-use Prim.Native.Nat.{_+_, _<_}
+use mathlib.Core.Path.{refl, sym, _∙_}
+use Prim.Native.Nat.{_-_}
 use native.Mathlib.Omega.{arith}
-use Rattle.rules.specs.Checks.{firstFailing}
 use Rattle.rules.proofs.Places.{fit}
 use Rattle.rules.proofs.Checks.{all-hold}
-use Rattle.layers.specs.Layer.{zAt, layerChecks, Readable}
-use Rattle.layers.proofs.Reading.{readable}
-use Rattle.gridfile.proofs.Checking.{Checking, checking-start, checking-refused, checking-seen, checking-next, checking-done}
+use Rattle.layers.specs.Layer.{Readable}
+use Rattle.gridfile.proofs.Checking.{record-readable, Deciding, deciding-start, deciding-refused, deciding-next, deciding-done}
 use Rattle.gridfile.proofs.layers_refusal.Statement.{statement}
 use Rattle.gridfile.proofs.layers_refusal.Tie as tie
 
 abbrev Inv-loop : tie.InvT-loop
-Inv-loop sides file seen₀ start₀ left₀ seen start left = Checking sides file seen start left
+Inv-loop sides file start₀ next₀ start next = Deciding sides file start next
 
 abbrev μ-loop : tie.MeasureT-loop
-μ-loop sides file seen₀ start₀ left₀ seen start left = left
+μ-loop sides file start₀ next₀ start next = sides .c - next
 
--- behind the first branch
-none-failing : (c : tie.Else1 Inv-loop μ-loop) → let l = c .before .before .before in let a = l .before .before .args in
-    firstFailing (layerChecks (a .sides) (a .file .now) (l .loop .start)) ≡ 0
-none-failing c = sym (c .before .layer-refusal .ensures) ∙ c .if1 .left
-
-right : (c : tie.Else1 Inv-loop μ-loop) → let l = c .before .before .before in let a = l .before .before .args in
+-- behind the branch
+right : (c : tie.Else2 Inv-loop μ-loop) → let l = c .before .before .before .before in let a = l .before .before .args in
     Readable (a .sides) (a .file .now) (l .loop .start)
-right c = let l = c .before .before .before in readable _ _ _ (l .before .before .pre) (all-hold _ refl (none-failing c))
-
-z-below : (c : tie.Else1 Inv-loop μ-loop) → let l = c .before .before .before in let a = l .before .before .args in
-    zAt (a .file .now) (l .loop .start) < 64
-z-below c = omega (arith, right c .z-below, fit _ (right c .fits) .c-high)
+right c =
+    let r = c .before in
+    let l = r .before .before .before in
+    record-readable _ _ _ (l .loop .next) (l .before .before .pre) (all-hold _ refl (sym (r .record-refusal .ensures) ∙ c .if2 .left))
 
 loop-holds : tie.Need-loop-holds Inv-loop μ-loop
-loop-holds c = checking-start _ _
+loop-holds c = deciding-start _ _
 
-layer-refusal-requires : tie.Need-layer-refusal-requires Inv-loop μ-loop
-layer-refusal-requires c κs = c .before .before .before .pre
+record-refusal-requires : tie.Need-record-refusal-requires Inv-loop μ-loop
+record-refusal-requires c κs = let l = c .before .before in l .before .before .pre
 
 returns : tie.Need-returns Inv-loop μ-loop
 returns c =
-    let t = c .before .before in
-    checking-refused _ _ _ _ _ (t .before .loop .inv) (t .loop-test .taken) _ (c .before .layer-refusal .ensures) (c .if1 .taken)
-
-add-z : tie.Need-add-z Inv-loop μ-loop
-add-z c = omega (arith, right c .whole)
-
-shared-slice-read-z : tie.Need-shared-slice-read-z Inv-loop μ-loop
-shared-slice-read-z c = omega (arith, right (c .before) .whole)
-
-cast-z : tie.Need-cast-z Inv-loop μ-loop
-cast-z c =
-    let l = c .before .before .before .before in
-    omega (arith, c .shared-slice-known2 .given (l .loop .start + 2))
-
-array-read-if2 : tie.Need-array-read-if2 Inv-loop μ-loop
-array-read-if2 c = z-below (c .before)
-
-returns-2 : tie.Need-returns-2 Inv-loop μ-loop
-returns-2 c =
-    let r = c .before .before in
-    let t = r .before .before in
-    checking-seen _ _ _ _ _ (t .before .loop .inv) (t .loop-test .taken) (none-failing r) (z-below r) (c .if2 .taken)
-
-array-write-seen : tie.Need-array-write-seen Inv-loop μ-loop
-array-write-seen c = z-below (c .before .before)
+    let r = c .before in
+    let t = r .before in
+    deciding-refused _ _ _ _ (t .before .before .loop .inv) (t .if1 .taken) _ (r .record-refusal .ensures) (c .if2 .taken)
 
 layer-length-requires : tie.Need-layer-length-requires Inv-loop μ-loop
-layer-length-requires c κs = right (c .before .before) .fits
+layer-length-requires c κs = right c .fits
 
 add-start : tie.Need-add-start Inv-loop μ-loop
-add-start c = omega (arith, right (c .before .before .before) .whole, c .layer-length .ensures)
+add-start c = omega (arith, right (c .before) .whole, c .layer-length .ensures)
 
-sub-left : tie.Need-sub-left Inv-loop μ-loop
-sub-left c = omega (arith, c .before .before .before .before .before .loop-test .taken)
+add-next : tie.Need-add-next Inv-loop μ-loop
+add-next c = omega (arith, fit _ (right (c .before) .fits) .c-high)
 
 loop-less : tie.Need-loop-less Inv-loop μ-loop
-loop-less c = omega (arith, c .before .before .before .before .before .loop-test .taken)
+loop-less c = omega arith
 
 loop-again : tie.Need-loop-again Inv-loop μ-loop
 loop-again c =
-    let r = c .before .before .before in
-    let t = r .before .before in
-    rw (c .layer-length .ensures) (
-    checking-next _ _ _ _ _ (t .before .loop .inv) (t .loop-test .taken) (none-failing r) (z-below r) (c .before .if2 .left)
-    )
+    let e = c .before in
+    let r = e .before in
+    let t = r .before in
+    deciding-next _ _ _ _ (t .before .before .loop .inv) (t .if1 .taken) _ _ _ (r .record-refusal .ensures) (e .if2 .left)
+    (omega (arith, c .layer-length .ensures)) (omega arith)
 
-returns-3 : tie.Need-returns-3 Inv-loop μ-loop
-returns-3 c = checking-done _ _ _ _ _ (c .before .loop .inv) (c .loop-test .left)
+returns-2 : tie.Need-returns-2 Inv-loop μ-loop
+returns-2 c = deciding-done _ _ _ _ (c .before .before .loop .inv) (c .if1 .left)
 
 pub layers-refusal-spec : {M : Type 1} → statement M
 layers-refusal-spec =
@@ -94,17 +65,11 @@ layers-refusal-spec =
     Inv-loop
     μ-loop
     loop-holds
-    layer-refusal-requires
+    record-refusal-requires
     returns
-    add-z
-    shared-slice-read-z
-    cast-z
-    array-read-if2
-    returns-2
-    array-write-seen
     layer-length-requires
     add-start
-    sub-left
+    add-next
     loop-less
     loop-again
-    returns-3)
+    returns-2)

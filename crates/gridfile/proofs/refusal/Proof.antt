@@ -1,7 +1,7 @@
 -- `gridfile::refusal` meets its contract.
 use mathlib.Core.Path.{_≡_, refl, ap, ap₂, sym, _∙_}
 use mathlib.Core.Bool.{true}
-use mathlib.Core.List.{[], _++_}
+use mathlib.Core.List.{_++_}
 use Prim.Native.Nat.{ℕ}
 use borrow.Author.Needs.{needs}
 use borrow.Author.Tests.{ltb-false}
@@ -26,10 +26,10 @@ fits c =
 
 -- the number of the layers, and of the patches, of the sides that the header has
 layers : (c : tie.After-layers-refusal) → let a = c .before .before .before .before .before .args in let s = sidesIn (a .file .now) in
-    c .layers-refusal .result ≡ firstFailing (layersChecks s (a .file .now) (s .c) headerLength [])
+    c .layers-refusal .result ≡ firstFailing (layersChecks s (a .file .now) (s .c) headerLength 0)
 layers c =
     let a = c .before .before .before .before .before .args in
-    c .layers-refusal .ensures ∙ ap (λ (s : Sides). firstFailing (layersChecks s (a .file .now) (s .c) headerLength [])) (c .before .sides-in .ensures)
+    c .layers-refusal .ensures ∙ ap (λ (s : Sides). firstFailing (layersChecks s (a .file .now) (s .c) headerLength 0)) (c .before .sides-in .ensures)
 
 -- the header's checks hold, and then the records' decide
 behind : (c : tie.Else1) (n : ℕ) → let a = c .before .before .before .args in let records = recordsChecks (sidesIn (a .file .now)) (a .file .now) in
@@ -73,7 +73,7 @@ returns-3 c =
     let long = header-long (a .greatest) (a .file .now) (a .lent) (held (i .before)) in
     let end = n .layers-end .ensures ∙ ap layersEnd (i .sides-in .ensures) in
     behind (i .before) _
-    (held-first (layersChecks s (a .file .now) (s .c) headerLength []) _ _ (layers l) (layers-numbered s (a .file .now) (s .c) headerLength []) (e .if2 .left) _
+    (held-first (layersChecks s (a .file .now) (s .c) headerLength 0) _ _ (layers l) (layers-numbered s (a .file .now) (s .c) headerLength 0) (e .if2 .left) _
     (c .patches-refusal .ensures ∙ ap₂ (λ (n start : ℕ). firstFailing (patchesChecks n (a .file .now) start)) long end))
 
 pub refusal-spec : {M : Type 1} → statement M

@@ -1,0 +1,71 @@
+-- `gridfile::record_refusal` meets its contract.
+use mathlib.Core.Path.{_≡_, refl, sym, _∙_}
+use Prim.Native.Nat.{ℕ, _+_}
+use native.Mathlib.Omega.{arith}
+use borrow.Author.Needs.{needs}
+use Rattle.rules.specs.Checks.{firstFailing}
+use Rattle.rules.proofs.Checks.{all-hold, refused-first, held-first}
+use Rattle.layers.specs.Layer.{Readable}
+use Rattle.layers.proofs.Reading.{readable}
+use Rattle.gridfile.specs.File.{orderChecks, recordChecks}
+use Rattle.gridfile.proofs.Checking.{order-repeat, order-skip, order-next}
+use Rattle.gridfile.proofs.record_refusal.Statement.{statement}
+use Rattle.gridfile.proofs.record_refusal.Tie as tie
+
+-- behind the first branch: the record can be read, and its z decides
+right : (c : tie.Else1) → let a = c .before .before .before .args in Readable (a .sides) (a .file .now) (a .start)
+right c =
+    let l = c .before in
+    readable _ _ _ (l .before .before .pre) (all-hold _ refl (sym (l .layer-refusal .ensures) ∙ c .if1 .left))
+
+behind : (c : tie.Else1) (n : ℕ) → let a = c .before .before .before .args in
+    n ≡ firstFailing (orderChecks (a .file .now) (a .start) (a .next)) → n ≡ firstFailing (recordChecks (a .sides) (a .file .now) (a .start) (a .next))
+behind c n e = held-first _ _ _ (c .before .layer-refusal .ensures) refl (c .if1 .left) n e
+
+layer-refusal-requires : tie.Need-layer-refusal-requires
+layer-refusal-requires c κs = search needs
+
+returns : tie.Need-returns
+returns c = refused-first _ _ _ (c .before .layer-refusal .ensures) (c .if1 .taken)
+
+add-z : tie.Need-add-z
+add-z c = omega (arith, right c .whole)
+
+shared-slice-read-z : tie.Need-shared-slice-read-z
+shared-slice-read-z c = omega (arith, right (c .before) .whole)
+
+cast-z : tie.Need-cast-z
+cast-z c =
+    let a = c .before .before .before .before .args in
+    omega (arith, c .shared-slice-known2 .given (a .start + 2))
+
+returns-2 : tie.Need-returns-2
+returns-2 c =
+    let e = c .before .before in
+    let a = e .before .before .before .args in
+    behind e 24 (order-repeat (a .file .now) (a .start) (a .next) (omega arith))
+
+returns-3 : tie.Need-returns-3
+returns-3 c =
+    let e = c .before .before .before in
+    let a = e .before .before .before .args in
+    behind e 27 (order-skip (a .file .now) (a .start) (a .next) (omega arith))
+
+returns-4 : tie.Need-returns-4
+returns-4 c =
+    let e = c .before .before .before in
+    let a = e .before .before .before .args in
+    behind e 0 (order-next (a .file .now) (a .start) (a .next) (omega arith))
+
+pub record-refusal-spec : {M : Type 1} → statement M
+record-refusal-spec =
+    tie.close
+    (tie.spec
+    layer-refusal-requires
+    returns
+    add-z
+    shared-slice-read-z
+    cast-z
+    returns-2
+    returns-3
+    returns-4)
