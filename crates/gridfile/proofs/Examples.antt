@@ -1,16 +1,23 @@
 -- The worked files, by computation.
 use mathlib.Core.Path.{refl}
-use Rattle.prelude.specs.Lists.{range}
+use Rattle.prelude.specs.Lists.{any, range}
 use Rattle.rules.specs.Grid.{fitSides, size}
 use Rattle.rules.specs.Checks.{unless}
+use Rattle.rules.specs.Begin.{isIn}
 use Rattle.words.specs.Words.{signed, valueOf, valuesOf}
 use Rattle.layers.specs.Layer.{withLayer}
 use Rattle.patches.specs.Patch.{checksOf, appliedOf}
 use Rattle.gridfile.specs.File.{fitUpTo, layersChecks, layersFilled, filled, readUpTo, read}
+use Rattle.gridfile.specs.BottomUp.{layersInAnyOrder, readInAnyOrder}
 use Rattle.gridfile.specs.Examples.{Examples}
 
+-- all that read computes with
+unfoldable pub reading-rules : Unit {0}
+unfolding signed valueOf valuesOf withLayer checksOf appliedOf fitUpTo layersChecks layersFilled filled readUpTo read
+reading-rules = tt
+
 pub examples : Examples
-unfolding range fitSides size unless signed valueOf valuesOf withLayer checksOf appliedOf fitUpTo layersChecks layersFilled filled readUpTo read
+unfolding any range fitSides size unless isIn reading-rules layersInAnyOrder readInAnyOrder
 examples =
     record {
       grid = refl;
@@ -27,6 +34,7 @@ examples =
       came-before = refl;
       came-just-before = refl;
       turned = refl;
+      turned-before = refl;
       first-is-1 = refl;
       skipped = refl;
       patched = refl;

@@ -1,4 +1,4 @@
--- The header: what holds where none of its checks fails; and that no check of read has the number 0.
+-- The header: what holds where none of its checks fails; that no check of read has the number 0; and what holds of a file that read takes.
 use mathlib.Core.Path.{_≡_, refl}
 use mathlib.Core.Bool.{true}
 use mathlib.Core.List.{List}
@@ -6,17 +6,21 @@ use Prim.Native.Nat.{ℕ, zero, suc, _+_, _*_, _≤_}
 use native.Mathlib.Nat.{mul-le-mul}
 use native.Mathlib.Omega.{arith}
 use borrow.Author.Tests.{ltb-false, eqb-true}
+use lib.ListN.{length}
+use lib.IntN.{ℤ}
 use Rattle.prelude.proofs.Bools.{and-true, not-false}
 use Rattle.rules.specs.declared.Sides.{Sides}
 use Rattle.rules.specs.Grid.{fitSides, size}
-use Rattle.rules.specs.Checks.{numbered, AllHold}
+use Rattle.rules.specs.Checks.{Check, unless, numbered, AllHold}
+use Rattle.rules.specs.Answer.{Reply, refused, done, untouched}
 use Rattle.rules.proofs.Places.{fit}
-use Rattle.rules.proofs.Checks.{numbered-append, hold-append}
+use Rattle.rules.proofs.Checks.{by-checks, unless-held, numbered-append, hold-append}
 use Rattle.layers.specs.Layer.{layerLength}
 use Rattle.layers.proofs.Sizes.{area-small}
 use Rattle.patches.specs.Patch.{patchesChecks}
 use Rattle.patches.proofs.Patching.{patches-numbered}
-use Rattle.gridfile.specs.File.{headerLength, sidesIn, fitUpTo, headerChecks, layersChecks, layersEnd, recordsChecks, readChecks, Accepted}
+use Rattle.gridfile.specs.File.{headerLength, sidesIn, allowedIn, fitUpTo, headerChecks, layersChecks, layersEnd, recordsChecks, readChecks}
+use Rattle.gridfile.specs.File.{Accepted, Header, accepted, readUpTo}
 
 pub fitUpTo-fits : (greatest : ℕ) (s : Sides) → fitUpTo greatest s ≡ true → fitSides s ≡ true
 unfolding fitUpTo
@@ -61,3 +65,25 @@ module _ (greatest : ℕ) (file : List ℕ) (lent : ℕ) where
         layers = r .0;
         patches = r .1;
       }
+
+-- ---- a file that read takes
+
+-- a refusal is no answer
+pub no-answer : {A P : Type 0} (n : ℕ) (a : A) → _≡_ {A = Reply A} (refused n) (done a) → P
+no-answer n a e = let z : _≡_ {A = ℕ} 0 1 = cc in let y : ⊥ = omega arith in absurd y
+
+module _ (cs : List Check) (file : List ℕ) (lent : List ℤ) (h : Header) (e : unless cs (untouched lent) (accepted file lent) .answer ≡ done h) where
+  pub done-checked : AllHold cs
+  done-checked = by-checks (untouched lent) (accepted file lent) (λ o. o .answer ≡ done h → AllHold cs) cs (λ n f. no-answer n h f) (λ p f. p) e
+
+  pub done-sides : h .sides ≡ sidesIn file
+  done-sides =
+      let works = unless-held (untouched lent) (accepted file lent) cs done-checked in
+      let same : record { sides = sidesIn file; allowed = allowedIn file } ≡ h = cc in
+      cc
+
+pub taken : (greatest : ℕ) (file : List ℕ) (lent : List ℤ) (h : Header) → readUpTo greatest file lent .answer ≡ done h → Accepted (h .sides) file (length lent)
+unfolding readUpTo
+taken greatest file lent h e =
+    let cs = readChecks greatest file (length lent) in
+    rw (done-sides cs file lent h e) (is-accepted greatest file (length lent) (done-checked cs file lent h e))

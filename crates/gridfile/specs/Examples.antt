@@ -8,6 +8,7 @@ use Rattle.rules.specs.Answer.{refused, done, outcome}
 use Rattle.layers.specs.Examples.{sides, layerRecord}
 use Rattle.patches.specs.Examples.{patch}
 use Rattle.gridfile.specs.File.{readUpTo, read}
+use Rattle.gridfile.specs.BottomUp.{readInAnyOrder}
 
 abbrev pub header : ℕ → ℕ → ℕ → ℕ → List ℕ
 header kind a b c = 0x56 ∷ kind ∷ a ∷ b ∷ c ∷ 0x02 ∷ 0x01 ∷ []
@@ -57,6 +58,7 @@ pub record Examples : Type 0 where
   pub came-before : read (file 0 1 0) lent ≡ outcome (refused 24) lent
   pub came-just-before : read (file 0 0 1) lent ≡ outcome (refused 24) lent
   pub turned : read (file 2 0 1) lent ≡ outcome (refused 27) lent
+  pub turned-before : readInAnyOrder 64 (file 2 0 1) lent ≡ outcome (done (record { sides = sides 3 3 3; allowed = 0x0102 })) (layer ++ layer ++ layer)
   pub first-is-1 : read (file 1 1 2) lent ≡ outcome (refused 27) lent
   pub skipped : read (file 0 2 1) lent ≡ outcome (refused 27) lent
   -- patches: a later one stands; each number, and nothing is written before the last is looked at

@@ -1,3 +1,4 @@
 pub mod File
 pub mod WithoutPatches
+pub mod BottomUp
 pub mod Examples

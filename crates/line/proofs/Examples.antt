@@ -6,20 +6,13 @@ use Prim.Native.Nat.{ℕ, _<_}
 use lib.ListN.{length}
 use borrow.Author.Tests.{lt-ltb}
 use Rattle.rules.proofs.Cases.{all-rules}
-use Rattle.words.specs.Words.{signed, valueOf, valuesOf}
-use Rattle.layers.specs.Layer.{withLayer}
-use Rattle.patches.specs.Patch.{checksOf, appliedOf}
-use Rattle.gridfile.specs.File.{fitUpTo, layersChecks, layersFilled, filled, readUpTo}
+use Rattle.gridfile.proofs.Examples.{reading-rules}
 use Rattle.text.specs.Line.{refusedLine}
 use Rattle.line.specs.Program.{afterCarve, afterOpen, opens, afterFinish, carveAndOpen, lineOf, carvedToEnd, lineFrom, lineAfterRead}
 use Rattle.line.specs.Program.{fileLine, longestInput, programLine}
 use Rattle.line.specs.Examples.{Examples}
 
 -- all that the program computes with
-unfoldable reading-rules : Unit {0}
-unfolding signed valueOf valuesOf withLayer checksOf appliedOf fitUpTo layersChecks layersFilled filled readUpTo
-reading-rules = tt
-
 unfoldable whole-program : Unit {0}
 unfolding all-rules reading-rules afterCarve afterOpen opens afterFinish carveAndOpen lineOf carvedToEnd lineFrom lineAfterRead fileLine programLine
 whole-program = tt

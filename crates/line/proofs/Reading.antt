@@ -4,7 +4,6 @@ use mathlib.Core.Bool.{Bool, true, false, not, cond}
 use mathlib.Core.List.{List, _∷_}
 use Prim.Native.Nat.{ℕ, _*_, _≤_, _<_}
 use native.Mathlib.Nat.{mul-le-mul}
-use native.Mathlib.Omega.{arith}
 use borrow.Author.Tests.{leb-true, lt-ltb, le-ltb}
 use lib.Dec.{leb, ltb, eqb}
 use lib.ListN.{length, take, replicate, length-replicate}
@@ -18,27 +17,22 @@ use Rattle.rules.specs.declared.Record.{Record}
 use Rattle.rules.specs.declared.Begun.{Begun}
 use Rattle.rules.specs.Grid.{fitSides, size, voxels}
 use Rattle.rules.specs.Checks.{_when_, unless}
-use Rattle.rules.specs.Answer.{Reply, refused, done, Outcome, outcome, untouched, Buffers, buffers, begunAnswer}
+use Rattle.rules.specs.Answer.{done, Outcome, outcome, untouched, Buffers, buffers, begunAnswer}
 use Rattle.rules.specs.Begin.{inside, inBox, statusAt, startStatus, begin}
 use Rattle.rules.specs.Meaning.{found}
 use Rattle.rules.specs.Status.{isKept}
 use Rattle.rules.specs.Machine.{State, state}
-use Rattle.rules.proofs.Checks.{by-checks}
 use Rattle.rules.proofs.Demand.{by-begin}
 use Rattle.words.specs.Words.{tagged}
 use Rattle.gridfile.specs.declared.ReadAnswer.{ReadAnswer}
-use Rattle.gridfile.specs.File.{sidesIn, fitUpTo, recordsChecks, readChecks, Header, readAnswer, accepted, readUpTo}
-use Rattle.gridfile.proofs.Headers.{is-accepted}
+use Rattle.gridfile.specs.File.{sidesIn, fitUpTo, recordsChecks, Header, readAnswer, accepted, readUpTo}
+use Rattle.gridfile.proofs.Headers.{taken}
 use Rattle.text.specs.declared.Text.{Text}
 use Rattle.text.specs.Line.{refusedLine, carvedLine}
 use Rattle.text.specs.Written.{printed}
 use Rattle.line.specs.Program.{afterFinish, roundsLeft, allRounds, lineOf, carvedToEnd, lineFrom, zeros, lineAfterRead}
 use Rattle.line.specs.Program.{greatestSide, fileLine, lentFor}
 use Rattle.line.proofs.Rounds.{finish-unmoved, rounds-sides}
-
--- a refusal is no answer
-no-answer : {A P : Type 0} (n : ℕ) (a : A) → _≡_ {A = Reply A} (refused n) (done a) → P
-no-answer n a e = let z : _≡_ {A = ℕ} 0 1 = cc in let y : ⊥ = omega arith in absurd y
 
 -- ---- what begin leaves: as many status bytes as voxels
 
@@ -150,18 +144,7 @@ module _ (file : List ℕ) where
       ∙ sym (ap lineAfterRead (read-tests (zeros (lentFor file))))
 
   read-done : (lent : List ℤ) (h : Header) → readUpTo greatestSide file lent .answer ≡ done h → size (h .sides) ≡ length lent
-  unfolding readUpTo
-  read-done lent h =
-      by-checks (untouched lent) (accepted file lent) (λ o. o .answer ≡ done h → size (h .sides) ≡ length lent) (readChecks greatestSide file (length lent))
-      (λ n e. no-answer n h e)
-      (λ p e. ap size (sides-of e) ∙ sym (is-accepted greatestSide file (length lent) p .long))
-    where
-      sides-of : accepted file lent .answer ≡ done h → h .sides ≡ s
-      sides-of e = sym (ap given e)
-        where
-          given : Reply Header → Sides
-          given (refused n) = s
-          given (done h) = h .sides
+  read-done lent h e = sym (taken greatestSide file lent h e .long)
 
   -- ---- the line by what read answered
 
