@@ -46,11 +46,12 @@ fn main() {
     print_changed(0, 0x56, 6);
     print_changed(1, 0x4C, 70);
     print_changed(2, 25, 70);
-    // 21, 22, 23 and 24: a layer
+    // 21, 22, 23, 24 and 27: a layer
     print_changed(0, 0x56, 69);
     print_changed(29, 0x48, 70);
     print_changed(30, 3, 70);
     print_changed(30, 0, 70);
+    print_changed(30, 2, 70);
     // 21, 22 and 5: a patch
     print_changed(0, 0x56, 77);
     print_changed(71, 0x4C, 78);

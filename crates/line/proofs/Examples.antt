@@ -32,6 +32,7 @@ examples =
       side-25 = refl;
       side-24 = refl;
       layer-repeated = refl;
+      layer-skipped = refl;
       border = refl;
       mended = refl;
       too-long = too-long;

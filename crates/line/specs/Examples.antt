@@ -39,6 +39,7 @@ pub record Examples : Type 0 where
   pub side-25 : programLine (header 0x48 25 3 3) ≡ refusedLine 1
   pub side-24 : programLine (header 0x48 24 3 3) ≡ refusedLine 21
   pub layer-repeated : programLine (file 0 1 1) ≡ refusedLine 24
+  pub layer-skipped : programLine (file 0 2 1) ≡ refusedLine 27
   -- begin's: a border voxel is negative
   pub border : programLine (file 0 1 2) ≡ refusedLine 3
   -- a patch gives case C its middle: no hole, and nothing to carve
