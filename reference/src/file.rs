@@ -1,5 +1,5 @@
-//! Grid files and the line of the program carve (document 01, "The grid file"); the writer of such files and patch records in them (document 02,
-//! CR 1 and CR 2).
+//! Grid files and the line of the program carve (document 01, "The grid file"); the writer of such files, patch records in them, and the order of
+//! their layers (document 02, CR 1, CR 2 and CR 4).
 
 use crate::grid::{begin, Refused, Sides};
 use crate::machine::{carve, finish, open};
@@ -63,10 +63,13 @@ pub fn read(file: &[u8], lent: &mut [i16], greatest_side: u64) -> Result<(Sides,
     let mut values = vec![0i16; lent.len()];
     let mut seen = vec![false; sides.c as usize];
     let mut at = 7;
-    for _ in 0..sides.c {
+    for next in 0..sides.c {
         let found = layer(&sides, file, at as u64)?;
         if seen[found.z as usize] {
             return Err(24);
+        }
+        if found.z != next {
+            return Err(27);
         }
         seen[found.z as usize] = true;
         let first = (found.z * sides.a * sides.b) as usize;

@@ -77,7 +77,8 @@ fn broken_files() {
     assert_eq!(changed(3, 25), "refused 1");
     assert_eq!(changed(8, 0), "refused 22");
     assert_eq!(changed(9, 3), "refused 23");
-    assert_eq!(changed(9, 1), "refused 24");
+    assert_eq!(changed(44, 0), "refused 24");
+    assert_eq!(changed(9, 1), "refused 27");
     assert_eq!(changed(11, 0x80), "refused 3");
     let longer: Vec<u8> = file.iter().copied().chain([0]).collect();
     assert_eq!(program_line(&longer), "refused 21");
