@@ -122,7 +122,7 @@ mod tests {
 
     #[test]
     fn an_answer_for_a_later_patch_is_told() {
-        let layers = file_of(&Grid { sides: [3, 3, 3], allowed: 0, values: vec![6; 27] }, &[2, 0, 1]);
+        let layers = file_of(&Grid { sides: [3, 3, 3], allowed: 0, values: vec![6; 27] }, &[0, 1, 2]);
         let patches = [patch(0, 1), patch(27, 1), vec![0; 8]].concat();
         let mut state = Replay::new();
         state.line(&format!("file {}{}", hex(&layers), hex(&patches))).expect("a line of the language");
@@ -130,6 +130,29 @@ mod tests {
         assert!(entries("read refused 5").is_ok_and(|met| met.contains(&"read: 5 before a later record's patch 22".to_string())));
         for other in ["read refused 21", "read refused 22", "read refused 25", "read ok sides 3 3 3 T 0"] {
             assert!(entries(other).is_err());
+        }
+    }
+
+    #[test]
+    fn an_answer_for_another_order_is_told() {
+        let grid = Grid { sides: [3, 3, 4], allowed: 0, values: vec![6; 36] };
+        let all = [
+            ([0, 2, 1, 3], "27", "read: 27 before a later record's 27"),
+            ([0, 2, 2, 3], "27", "read: 27 before a later record's 24"),
+            ([0, 1, 0, 3], "24", "read refused: 24, an earlier record has it alone"),
+            ([0, 0, 3, 2], "24", "read: 24 before a later record's 27"),
+        ];
+        for (order, number, met) in all {
+            let mut state = Replay::new();
+            for line in ["sides 3 3 4".to_string(), format!("file {}", hex(&file_of(&grid, &order)))] {
+                state.line(&line).expect("a line of the language");
+            }
+            let entries = |answer: &str| Before::of(&state, "read").entries(answer);
+            assert!(entries(&format!("read refused {number}")).is_ok_and(|all| all.contains(&met.to_string())), "{order:?}");
+            let others = ["read refused 23", "read refused 24", "read refused 27", "read ok sides 3 3 4 T 0"];
+            for other in others.into_iter().filter(|other| !other.ends_with(number)) {
+                assert!(entries(other).is_err(), "{order:?}: {other}");
+            }
         }
     }
 }

@@ -19,6 +19,7 @@ const IMPOSSIBLE: &[(&str, Check, Check, &str)] = &[
     ("read", "header 21", "22", "a file shorter than its header has no records"),
     ("read", "header 21", "23", "a file shorter than its header has no records"),
     ("read", "header 21", "24", "a file shorter than its header has no records"),
+    ("read", "header 21", "27", "a file shorter than its header has no records"),
     ("read", "header 21", "patch 21", "a file shorter than its header has no records"),
     ("read", "header 21", "patch 22", "a file shorter than its header has no records"),
     ("read", "header 21", "5", "a file shorter than its header has no records"),
@@ -26,11 +27,13 @@ const IMPOSSIBLE: &[(&str, Check, Check, &str)] = &[
     ("read", "21", "patch 22", "after a record that is cut off nothing is left"),
     ("read", "21", "5", "after a record that is cut off nothing is left"),
     ("read", "23", "24", "a z that is too large was refused where it came before"),
+    ("read", "24", "27", "27 is for a layer that is no repeat"),
     ("program", "25", "header 21", "a file of so many bytes is longer than its header"),
     ("program", "header 21", "21", "a file shorter than its header has no records"),
     ("program", "header 21", "22", "a file shorter than its header has no records"),
     ("program", "header 21", "23", "a file shorter than its header has no records"),
     ("program", "header 21", "24", "a file shorter than its header has no records"),
+    ("program", "header 21", "27", "a file shorter than its header has no records"),
     ("program", "header 21", "patch 21", "a file shorter than its header has no records"),
     ("program", "header 21", "patch 22", "a file shorter than its header has no records"),
     ("program", "header 21", "5", "a file shorter than its header has no records"),
@@ -40,11 +43,12 @@ const IMPOSSIBLE: &[(&str, Check, Check, &str)] = &[
     ("program", "21", "patch 22", "after a record that is cut off nothing is left"),
     ("program", "21", "5", "after a record that is cut off nothing is left"),
     ("program", "23", "24", "a z that is too large was refused where it came before"),
+    ("program", "24", "27", "27 is for a layer that is no repeat"),
     ("program", "3", "4", "a negative border voxel is a negative voxel"),
 ];
 
 /// The checks of a layer record and of a patch record. One that is too short is the last of a file, so it is no earlier one's fault.
-const RECORDS: [&[Check]; 2] = [&["21", "22", "23", "24"], &PATCH];
+const RECORDS: [&[Check]; 2] = [&["21", "22", "23", "24", "27"], &PATCH];
 
 const SIDES: &[&str] = &["a under 3", "a over 64", "b under 3", "b over 64", "c under 3", "c over 64"];
 const FILE_SIDES: &[&str] = &[
@@ -96,6 +100,8 @@ fn causes(call: &str, check: Check) -> &'static [&'static str] {
         (_, "22" | "header 22" | "patch 22") => MARK,
         (_, "patch 21") => &["1 byte", "2 bytes", "3 bytes", "4 bytes", "5 bytes", "6 bytes", "7 bytes"],
         (_, "23") => Z,
+        (_, "24") => &["the record before has it", "an earlier record has it"],
+        (_, "27") => &["the first is not 0", "one skipped", "more than one skipped"],
         (_, "25") => &["a byte over", "more than a byte over"],
         (_, "26") => &["nothing lent", "a byte short", "more than a byte short"],
         _ => &[],
@@ -183,7 +189,6 @@ const ALSO: &[(&str, usize)] = &[
     // files
     ("read: a side of 64", 3),
     ("read: three different sides", 5),
-    ("read: layers out of order", 5),
     ("read: T over 255", 2),
     ("readlayer: not the first record", 5),
     ("program: a side of 24", 3),
@@ -191,6 +196,42 @@ const ALSO: &[(&str, usize)] = &[
     ("program: an opening", 2),
     ("program: two openings", 1),
     ("program: a removal", 5),
+    // the order of layers
+    ("read refused: 27, in falling order", 5),
+    ("read refused: 27, two neighbours exchanged", 10),
+    ("read refused: 27, two others exchanged", 5),
+    ("read refused: 27, the first layer last", 5),
+    ("read refused: 27, the last layer first", 5),
+    ("read refused: 27, numbered from 1", 5),
+    ("read refused: 27, rising but for one skipped", 10),
+    ("read refused: 27, every layer there", 50),
+    ("read refused: 27, a layer twice", 50),
+    ("read refused: 27, after good layers", 50),
+    ("read refused: 27, the last record but one", 20),
+    ("read refused: 27, past layer 7", 5),
+    ("read refused: 27, past layer 15", 5),
+    ("read refused: 27, past layer 31", 5),
+    ("read refused: 27, patches behind", 10),
+    ("read refused: 24, past layer 31", 2),
+    ("read refused: 24, a later layer out of order", 5),
+    ("program refused: 27, in falling order", 5),
+    ("program refused: 27, two neighbours exchanged", 10),
+    ("program refused: 27, two others exchanged", 5),
+    ("program refused: 27, the first layer last", 5),
+    ("program refused: 27, the last layer first", 5),
+    ("program refused: 27, numbered from 1", 5),
+    ("program refused: 27, rising but for one skipped", 10),
+    ("program refused: 27, every layer there", 50),
+    ("program refused: 27, a layer twice", 50),
+    ("program refused: 27, after good layers", 50),
+    ("program refused: 27, the last record but one", 20),
+    ("program refused: 27, past layer 7", 5),
+    ("program refused: 27, past layer 15", 5),
+    ("program refused: 27, patches behind", 10),
+    ("program refused: 24, a later layer out of order", 5),
+    ("program refused: 27, 65536 bytes", 1),
+    ("readlayer: a layer that is not the next", 50),
+    ("readlayer: a layer that came before", 20),
     // patch records
     ("read: a patch", 50),
     ("read: a patch in every layer", 5),
@@ -243,8 +284,7 @@ const ALSO: &[(&str, usize)] = &[
     ("write: the record has another T", 5),
     ("write: dist and status of other lengths", 2),
     ("write: a longer file before", 2),
-    ("write: the file's own grid, its layers out of order", 5),
-    ("write: the file's own grid, its layers in order", 5),
+    ("write: the file's own grid, without patches", 5),
     // the local test
     ("local", 2400),
     ("local: bits from 27 on", 1),
@@ -339,5 +379,6 @@ pub fn worked_case(case: &str, line: &str) -> String {
     worked(case, line)
 }
 
+mod ordered;
 mod patched;
 mod sights;

@@ -1,6 +1,6 @@
 //! Every fault that a call has, each by itself and whether or not another one is answered first. From document 01's numbers, document 02's for
-//! `write` and for patch records, and docs/RULES.md for `points`, which is ours, with the order of
-//! checks beside them, and not from the reference's code: so the kit can be asked for every pair of faults, and the reference is held to the order.
+//! `write`, for patch records and for the order of layers, and docs/RULES.md for `points`, which is ours, with the order of checks beside them, and
+//! not from the reference's code: so the kit can be asked for every pair of faults, and the reference is held to the order.
 
 use reference::grid::Sides;
 use reference::local::local_test;
@@ -40,8 +40,8 @@ pub const PATCH_LENGTH: usize = 8;
 /// The most bytes that the program takes.
 pub const LONGEST_INPUT: usize = 65_536;
 
-/// A call's checks in their order (document 01, the last two sentences of "Numbers that come from the state"; document 02, CR 1 for `write` and CR 2
-/// for what follows the layers of a file and for the program's 25).
+/// A call's checks in their order (document 01, the last two sentences of "Numbers that come from the state"; document 02, CR 1 for `write`, CR 2
+/// for what follows the layers of a file and for the program's 25, and CR 4 for 27).
 pub fn order(call: &str) -> Option<&'static [Check]> {
     Some(match call {
         "begin" => &["1", "2", "3", "4"],
@@ -52,8 +52,8 @@ pub fn order(call: &str) -> Option<&'static [Check]> {
         "crossing" => &["1", "2", "7", "9", "5", "6"],
         "points" => &["1", "2", "7", "9", "5"],
         "readlayer" => &["1", "21", "22", "23"],
-        "read" => &["header 21", "header 22", "1", "2", "21", "22", "23", "24", "patch 21", "patch 22", "5"],
-        "program" => &["25", "header 21", "header 22", "1", "21", "22", "23", "24", "patch 21", "patch 22", "5", "3", "4"],
+        "read" => &["header 21", "header 22", "1", "2", "21", "22", "23", "24", "27", "patch 21", "patch 22", "5"],
+        "program" => &["25", "header 21", "header 22", "1", "21", "22", "23", "24", "27", "patch 21", "patch 22", "5", "3", "4"],
         "write" => &["1", "2", "26"],
         _ => return None,
     })
@@ -387,14 +387,31 @@ impl Found {
         for (record, start) in (0..sides.c as usize).map(|i| (i, 7 + i * length)) {
             let left = &file[start..];
             self.mark_and_z(left, sides.c, |found, check, cause| found.add_record(record, check, cause));
-            if left.get(2).is_some_and(|z| seen.contains(z)) {
-                self.add_record(record, "24", "");
+            if let Some(&z) = left.get(2) {
+                self.layer_due(record, z, &seen);
             }
             if left.len() < length {
                 let cause = if left.is_empty() { "nothing left" } else { "cut off" };
                 return self.add_record(record, "21", cause);
             }
             seen.push(left[2]);
+        }
+    }
+
+    /// 24 and 27. Layers come from 0 up and none is skipped, so a record's place says which layer is the next.
+    fn layer_due(&mut self, record: usize, z: u8, seen: &[u8]) {
+        let z_of_next = record as u8;
+        if seen.contains(&z) {
+            let again = if seen.last() == Some(&z) { "the record before has it" } else { "an earlier record has it" };
+            self.add_record(record, "24", again);
+        } else if z != z_of_next {
+            let skipped = match z.checked_sub(z_of_next) {
+                None => "skipped before",
+                Some(_) if record == 0 => "the first is not 0",
+                Some(1) => "one skipped",
+                Some(_) => "more than one skipped",
+            };
+            self.add_record(record, "27", skipped);
         }
     }
 

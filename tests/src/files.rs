@@ -1,4 +1,4 @@
-//! Grid files: whole ones with layers in any order, with patch records or without, and every kind of broken one.
+//! Grid files: whole ones, with patch records or without, and every kind of broken one; some with their layers in another order than rising.
 
 use crate::faults::{LONGEST_INPUT, PATCH_LENGTH};
 use crate::grids::{grid, Grid, MISSING};
@@ -37,6 +37,14 @@ pub fn shuffled(r: &mut Random, n: usize) -> Vec<usize> {
     order
 }
 
+/// The order that was drawn for a seed's layers, or rising, as read wants it: nine times in ten, by a draw of its own.
+pub fn mostly_rising(seed: u64, mut drawn: Vec<usize>) -> Vec<usize> {
+    if Random::new(seed.rotate_left(32)).chance(90) {
+        drawn.sort_unstable();
+    }
+    drawn
+}
+
 /// Damage of a random kind to a file whose layers have this length.
 fn damaged(r: &mut Random, mut file: Vec<u8>, layer: usize, layers: usize) -> Vec<u8> {
     let record = 7 + layer * r.below(layers as u64) as usize;
@@ -63,7 +71,7 @@ pub fn file(seed: u64, greatest_side: i64) -> Vec<u8> {
     let g = grid(&mut r, greatest_side);
     let [a, b, c] = g.sides;
     let order = if r.chance(50) { (0..c).collect() } else { shuffled(&mut r, c) };
-    let whole = file_of(&g, &order);
+    let whole = file_of(&g, &mostly_rising(seed, order));
     if r.chance(30) {
         damaged(&mut r, whole, 3 + 2 * a * b, c)
     } else {
@@ -134,7 +142,7 @@ pub fn patched_file(seed: u64, greatest_side: i64) -> Vec<u8> {
     let g = to_be_patched(&mut r, greatest_side);
     let [a, b, c] = g.sides;
     let order = if r.chance(50) { (0..c).collect() } else { shuffled(&mut r, c) };
-    let mut layers = file_of(&g, &order);
+    let mut layers = file_of(&g, &mostly_rising(seed, order));
     let count = r.pick(&[1, 1, 2, 3, 5, 9, 20, 60, 300]);
     let mut records = patches(&mut r, &g, count, 20);
     if r.chance(8) {
@@ -152,7 +160,8 @@ pub fn long_file(seed: u64) -> Vec<u8> {
     let full = r.chance(50);
     let (g, layers) = loop {
         let g = to_be_patched(&mut r, 24);
-        let layers = file_of(&g, &shuffled(&mut r, g.sides[2]));
+        let order = shuffled(&mut r, g.sides[2]);
+        let layers = file_of(&g, &mostly_rising(seed, order));
         if !full || (LONGEST_INPUT - layers.len()).is_multiple_of(PATCH_LENGTH) {
             break (g, layers);
         }

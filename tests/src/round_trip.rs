@@ -1,5 +1,5 @@
 //! Every good file at hand is read, written and read again: sides, T and values are the same both times, and what is written is the file with its
-//! patches in the layers and these in rising z, so the same bytes where they rise in it and there is no patch.
+//! patches in the layers, so the same bytes where there is no patch.
 
 use crate::compare::{bears_on_the_file, read_kind, reference_lines, Script};
 use crate::conformance::kinds;
@@ -59,14 +59,11 @@ fn values_in(file: &[u8]) -> Option<usize> {
     read(file, &mut vec![0; n], 64).ok().map(|_| n)
 }
 
-/// A good file with its layers in rising z, its patches among their values.
-fn rising(file: &[u8]) -> Vec<u8> {
+/// A good file with its patches among the layers' values.
+fn written_form(file: &[u8]) -> Vec<u8> {
     let [a, b, c] = [file[2], file[3], file[4]].map(u64::from);
     let (sides, layer) = (Sides { a, b, c }, (a * b) as usize);
-    let (header, layers) = file[..written_length(&sides) as usize].split_at(7);
-    let mut layers: Vec<&[u8]> = layers.chunks(3 + 2 * layer).collect();
-    layers.sort_by_key(|layer| layer[2]);
-    let mut written = [header, &layers.concat()].concat();
+    let mut written = file[..written_length(&sides) as usize].to_vec();
     for (index, value) in patches(file, &sides) {
         let (z, place) = (index as usize / layer, index as usize % layer);
         let at = 7 + z * (3 + 2 * layer) + 3 + 2 * place;
@@ -85,12 +82,12 @@ fn commands(file: &[u8], n: usize) -> String {
 /// Holds the lines of these commands to what the file has.
 fn held(file: &[u8], lines: &[String]) -> Result<(), String> {
     let [sides, values, written, shown, sides_again, values_again] = lines else { return Err("other lines than wanted".to_string()) };
-    let rising = rising(file);
-    if !written.starts_with(&format!("write ok length {} ", rising.len())) {
+    let form = written_form(file);
+    if !written.starts_with(&format!("write ok length {} ", form.len())) {
         return Err(format!("it is not written: {written}"));
     }
-    if shown.to_lowercase() != hex(&rising) {
-        return Err("what is written is not the file with its patches in its layers and these in rising z".to_string());
+    if shown.to_lowercase() != hex(&form) {
+        return Err("what is written is not the file with its patches in its layers".to_string());
     }
     if (sides, values) != (sides_again, values_again) {
         return Err(format!("{sides} at first, then {sides_again}, and the values are the same: {}", values == values_again));
@@ -123,7 +120,7 @@ mod tests {
         let scripts = scripts(&root.join("conformance"), &root.join("samples")).expect("each file is written as it should be");
         let from = |what: &str| scripts.iter().filter(|script| script.text.lines().next().is_some_and(|line| line.contains(what))).count();
         assert_eq!(from(".grid"), std::fs::read_dir(root.join("samples")).expect("samples").filter(is_grid).count());
-        let kinds = [("files", 20), ("damage", 20), ("writes", 40), ("writing", 40), ("patches", 40), ("patching", 40)];
+        let kinds = [("files", 20), ("damage", 20), ("orders", 20), ("writes", 40), ("writing", 30), ("patches", 40), ("patching", 40)];
         for (kind, least) in kinds.into_iter().chain([("seed", 600), ("patched", 400), ("long", 5)]) {
             assert!(from(&format!(": {kind} ")) >= least, "{kind}: {}", from(&format!(": {kind} ")));
         }
@@ -135,18 +132,9 @@ mod tests {
 
     #[test]
     fn what_does_not_come_back_is_told() {
-        let shuffled = (1..).map(|seed| file(seed, 5)).find(|file| values_in(file).is_some() && rising(file) != *file);
-        told_of(&shuffled.expect("a shuffled file"));
-        let patched = (1..).map(|seed| patched_file(seed, 5)).find(|file| values_in(file).is_some() && only_patched(file));
-        told_of(&patched.expect("a file that its patches alone change"));
-    }
-
-    fn only_patched(file: &[u8]) -> bool {
-        let layers = &file[..rising(file).len()];
-        rising(layers) == layers && rising(file) != layers
-    }
-
-    fn told_of(file: &[u8]) {
+        let patched =
+            (1..).map(|seed| patched_file(seed, 5)).find(|file| values_in(file).is_some() && !file.starts_with(&written_form(file)));
+        let file = &patched.expect("a file that its patches change")[..];
         let lines = reference_lines(&commands(file, values_in(file).expect("it is good"))).expect("a script");
         assert_eq!(held(file, &lines), Ok(()));
         let told = |line: usize, instead: String| {
@@ -155,7 +143,10 @@ mod tests {
             held(file, &lines).is_err()
         };
         assert!(told(2, "write refused 26 buffer 0000000000000000".to_string()));
-        assert!(told(3, hex(&file[..rising(file).len()]).to_uppercase()));
+        assert!(told(3, hex(&file[..written_form(file).len()]).to_uppercase()), "its layers without the patches");
+        let (header, layers) = lines[3].split_at(2 * 7);
+        let falling: Vec<&[u8]> = layers.as_bytes().chunks(layers.len() / usize::from(file[4])).rev().collect();
+        assert!(told(3, header.to_string() + &String::from_utf8_lossy(&falling.concat())), "its layers in falling z");
         assert!(told(4, lines[4].replace(" T ", " T 1")));
         assert!(told(5, lines[5].replacen('[', "[0, ", 1)));
         assert!(held(file, &lines[..5]).is_err());

@@ -1,5 +1,5 @@
-//! Call scripts (docs/CALL-SCRIPTS.md). Those from seeds: lists of calls from begin, crafted records, unfit ones, finished grids, files read, patched
-//! and written, blocks; each is made along with a run of the reference, so that it can choose voxels by what they are at that moment. And those
+//! Call scripts (docs/CALL-SCRIPTS.md). Those from seeds: lists of calls from begin, crafted records, unfit ones, finished grids, files read, patched,
+//! written and out of order, blocks; each is made along with a run of the reference, so that it can choose voxels by what they are at that moment. And those
 //! written out, in the modules below: every fault, every worked case, and what chance leaves out.
 
 pub mod cases;
@@ -7,6 +7,7 @@ mod crafted;
 mod damage;
 pub mod language;
 mod long;
+mod ordering;
 mod patching;
 mod points;
 mod refusals;
@@ -21,10 +22,11 @@ use reference::machine::{carve, finish, open, take};
 use std::fmt::{Display, Write};
 
 /// The kinds of scripts from seeds.
-pub const SEEDED: [&str; 10] = ["lists", "takes", "openings", "crafted", "unfit", "crossings", "files", "patches", "writes", "blocks"];
+pub const SEEDED: [&str; 11] =
+    ["lists", "takes", "openings", "crafted", "unfit", "crossings", "files", "orders", "patches", "writes", "blocks"];
 
 /// The kinds of scripts that are written out. What takes longest stands last.
-pub const WRITTEN: [&str; 9] = ["cases", "language", "refusals", "damage", "patching", "writing", "long", "points", "shapes"];
+pub const WRITTEN: [&str; 10] = ["cases", "language", "refusals", "damage", "ordering", "patching", "writing", "long", "points", "shapes"];
 
 /// How many scripts of each seeded kind a second supplier is given.
 const GIVEN: u64 = 40;
@@ -41,6 +43,7 @@ pub fn conformance(kind: &str) -> Vec<String> {
         "language" => language::scripts(),
         "refusals" => refusals::scripts(),
         "damage" => damage::scripts(),
+        "ordering" => ordering::scripts(),
         "writing" => writing::scripts(),
         "patching" => patching::scripts(),
         "long" => long::scripts(),
@@ -64,8 +67,9 @@ pub fn script(kind: &str, seed: u64, greatest: i64) -> String {
         "unfit" => m.unfit(greatest),
         "crossings" => m.crossings(greatest),
         "files" => m.file(seed, greatest),
+        "orders" => m.orders(greatest),
         "patches" => m.patches(seed, greatest),
-        "writes" => m.writes(greatest),
+        "writes" => m.writes(seed, greatest),
         "large" => m.large(),
         _ => m.blocks(),
     }

@@ -1,6 +1,6 @@
 //! What a call is about, besides its faults: the entries of `ALSO` that it meets if it is done.
 
-use super::patched;
+use super::{ordered, patched};
 use crate::faults::{written_length, LONGEST_INPUT};
 use reference::file::read;
 use reference::grid::Sides;
@@ -17,7 +17,7 @@ pub fn of(state: &Replay, call: &str, words: &[&str]) -> Vec<String> {
         "crossing" => crossing(state, number(1), number(2)),
         "points" => points(state, number(1), number(2)),
         "read" | "program" => file(call, &state.file),
-        "readlayer" => readlayer(&state.file, number(1)),
+        "readlayer" => readlayer(state, number(1)),
         "write" => write(state, number(1)),
         "local" => local(words),
         _ => Vec::new(),
@@ -196,18 +196,15 @@ fn crosses(state: &Replay, position: u64) -> bool {
     sides.index(there).is_some_and(|next| (state.dist[index] < 0) != (state.dist[next] < 0))
 }
 
-/// Whether the z of a file's layers rise; its header is whole.
-fn layers_rise(bytes: &[u8]) -> bool {
-    let layer = 3 + 2 * usize::from(bytes[2]) * usize::from(bytes[3]);
-    bytes[7..].chunks_exact(layer).take(bytes[4].into()).map(|record| record[2]).is_sorted()
-}
-
-fn readlayer(bytes: &[u8], start: u64) -> Vec<String> {
+fn readlayer(state: &Replay, start: u64) -> Vec<String> {
+    let bytes = &state.file;
     let mark = usize::try_from(start).ok().and_then(|start| bytes.get(start..)?.get(..2));
-    chosen(&[
+    let mut seen = chosen(&[
         (start > 7, "readlayer: not the first record"),
         (mark == Some(&[0x56, 0x50]), "if refused 22: readlayer refused: 22, a patch record"),
-    ])
+    ]);
+    seen.extend(ordered::of_layer(&state.sides, bytes, start));
+    seen
 }
 
 fn file(call: &str, bytes: &[u8]) -> Vec<String> {
@@ -218,11 +215,11 @@ fn file(call: &str, bytes: &[u8]) -> Vec<String> {
         (greatest == 64, format!("{call}: a side of 64")),
         (greatest == 24, format!("{call}: a side of 24")),
         (different(&sides), format!("{call}: three different sides")),
-        (!layers_rise(bytes), format!("{call}: layers out of order")),
         (u16::from_le_bytes([*low, *high]) > 255, format!("{call}: T over 255")),
         (bytes.len() > LONGEST_INPUT, format!("{call}: over {LONGEST_INPUT} bytes")),
         (bytes.len() == LONGEST_INPUT, format!("{call}: {LONGEST_INPUT} bytes")),
     ]);
+    seen.extend(ordered::of(call, &sides, bytes));
     seen.extend(patched::of(call, &sides, bytes));
     seen
 }
@@ -259,8 +256,7 @@ fn write(state: &Replay, lent: u64) -> Vec<String> {
         (state.record.t != state.t, "write: the record has another T"),
         (state.dist.len() != sides.n() && state.status.len() != sides.n(), "write: dist and status of other lengths"),
         (state.file.len() as u64 > length, "write: a longer file before"),
-        (own && !layers_rise(&state.file), "write: the file's own grid, its layers out of order"),
-        (own && layers_rise(&state.file), "write: the file's own grid, its layers in order"),
+        (own && state.file.len() as u64 == length, "write: the file's own grid, without patches"),
         (own && state.file.len() as u64 > length, "write: the file's own grid, its patches among the layers"),
     ])
 }

@@ -17,7 +17,7 @@ pub(super) enum Damage {
     Cut(usize, usize),
     Mark(usize, usize),
     Z(usize, u8),
-    /// The record's z is that of the first record.
+    /// The record's z is 0, that of the first record.
     Again(usize),
     /// So many bytes of 0 after the layers: a patch that is cut off, or that has a wrong mark.
     Extra(usize),
@@ -31,8 +31,7 @@ use Damage::*;
 const SIDES: [usize; 3] = [4, 3, 3];
 pub(super) const VOXELS: usize = 36;
 const RECORD: usize = 3 + 2 * 12;
-/// The z of each record, in the order of the file.
-const LAYERS: [usize; 3] = [1, 0, 2];
+const LAYERS: [usize; 3] = [0, 1, 2];
 
 fn start(record: usize) -> usize {
     7 + RECORD * record
@@ -67,7 +66,7 @@ pub(super) fn damaged(damages: &[Damage]) -> (Vec<u8>, i64) {
             Cut(record, bytes) => end = start(record) + bytes,
             Mark(record, byte) => file[start(record) + byte] ^= 0x10,
             Z(record, z) => file[start(record) + 2] = z,
-            Again(record) => file[start(record) + 2] = LAYERS[0] as u8,
+            Again(record) => file[start(record) + 2] = 0,
             Extra(bytes) => file.extend(vec![0; bytes]),
             BorderNegative(_) | NoneNegative | OnlyMissing => continue,
         }
@@ -109,7 +108,7 @@ const ALONE: &[(&str, &[Damage])] = &[
     ("21: a record cut off", &[Cut(0, 0), Cut(0, 1), Cut(0, 2), Cut(0, 3), Cut(1, 0), Cut(1, 20), Cut(2, 0), Cut(2, 26)]),
     ("22: a record's mark", &[Mark(0, 0), Mark(0, 1), Mark(1, 0), Mark(1, 1), Mark(2, 0), Mark(2, 1)]),
     ("23", &[Z(0, 3), Z(0, 255), Z(1, 3), Z(2, 3), Z(2, 255)]),
-    ("24", &[Again(1), Again(2), Z(2, 0)]),
+    ("24", &[Again(1), Again(2), Z(2, 1)]),
     ("bytes of 0 after the layers", &[Extra(1), Extra(2), Extra(RECORD)]),
     ("3", &[BorderNegative(16), BorderNegative(19), BorderNegative(13), BorderNegative(21), BorderNegative(5), BorderNegative(29)]),
     ("4", &[NoneNegative, OnlyMissing]),
@@ -256,7 +255,7 @@ const PAIRS: &[(&str, &[[Damage; 2]])] = &[
             [Again(2), BorderNegative(0)],
             [Again(2), BorderNegative(5)],
             [Again(2), NoneNegative],
-            [Z(2, 0), NoneNegative],
+            [Z(2, 1), NoneNegative],
         ],
     ),
     (
@@ -265,7 +264,7 @@ const PAIRS: &[(&str, &[[Damage; 2]])] = &[
     ),
 ];
 
-/// A body of two voxels that touch at an edge, with a voxel of 0 between, in a grid of these sides, its layers last first.
+/// A body of two voxels that touch at an edge, with a voxel of 0 between, in a grid of these sides.
 fn ends(sides: [usize; 3]) -> Vec<u8> {
     let [a, b, c] = sides;
     let mut values: Vec<i16> = (0..a * b * c).map(|i| 3 + (i % 7) as i16).collect();
@@ -274,8 +273,7 @@ fn ends(sides: [usize; 3]) -> Vec<u8> {
         let voxel = at(1 + k.min(a - 3), 1 + k.min(b - 3), 1 + k.min(c - 3));
         values[voxel] = if k % 4 == 2 { 0 } else { -2 - (k % 3) as i16 };
     }
-    let order: Vec<usize> = (0..c).rev().collect();
-    file_of(&Grid { sides, allowed: 65535, values }, &order)
+    file_of(&Grid { sides, allowed: 65535, values }, &(0..c).collect::<Vec<_>>())
 }
 
 /// A file of 24 voxels a side with a ring in it, which the program opens.
@@ -307,7 +305,7 @@ fn rings() -> String {
     let frame = [49, 50, 51, 52, 53, 54, 57, 60, 62, 65, 66, 67, 68, 69, 70];
     let file = |sides: [usize; 3], body: &[usize], allowed: u16| {
         let values = (0..sides.iter().product()).map(|i| if body.contains(&i) { -4 } else { 4 }).collect();
-        file_of(&Grid { sides, allowed, values }, &[2, 0, 1])
+        file_of(&Grid { sides, allowed, values }, &LAYERS)
     };
     let rings: String = [0, 1, 256].map(|t| calls(&file([5, 5, 3], &ring, t), 75)).concat();
     let frames: String = [1, 2, 65535].map(|t| calls(&file([8, 5, 3], &frame, t), 120)).concat();

@@ -1,4 +1,5 @@
-//! Files with thousands of patches, with indices that two bytes do not hold, and of as many bytes as the program takes, or more (document 02, CR 2).
+//! Files with thousands of patches, with indices that two bytes do not hold, and of as many bytes as the program takes, or more (document 02, CR 2),
+//! and such as have their layers out of order (CR 4).
 
 use super::patching::{appended, many, marked};
 use crate::faults::{written_length, LONGEST_INPUT, PATCH_LENGTH};
@@ -97,6 +98,18 @@ fn whatever_it_is() -> String {
     format!("# 25 before all else, but not at 65,536 bytes\n{}", each.concat())
 }
 
+/// Layers out of order in a file of 65,536 bytes, and a byte more: 27, and then 25 for the program alone.
+fn out_of_order() -> String {
+    let values = (0..48).map(|i| if i == 21 { -6 } else { 6 + i as i16 }).collect();
+    let g = Grid { sides: [4, 4, 3], allowed: 0, values };
+    let each = [[2, 1, 0], [0, 2, 1], [1, 2, 0]].map(|order| {
+        let layers = file_of(&g, &order);
+        let most = [&layers[..], &many((LONGEST_INPUT - layers.len()) / PATCH_LENGTH, 12)].concat();
+        format!("file {}\nprogram\nread\nappend 56\nprogram\nread\n", hex(&most))
+    });
+    format!("# 27, and 25 before it\nvalues len 48\nvalues fill 77\n{}", each.concat())
+}
+
 pub fn scripts() -> Vec<String> {
-    vec![two_thousand(), over_16_bits(), full(), a_byte_over(), whatever_it_is(), over_65_535_patches()]
+    vec![two_thousand(), over_16_bits(), full(), a_byte_over(), whatever_it_is(), over_65_535_patches(), out_of_order()]
 }

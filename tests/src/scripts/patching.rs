@@ -156,7 +156,7 @@ fn bodies() -> String {
     let ring = [31, 32, 33, 36, 38, 41, 42, 43];
     let file = |allowed: u16, rest: &[u8]| {
         let values = (0..75).map(|i| if ring.contains(&i) { -4 } else { 4 }).collect();
-        calls(&[&file_of(&Grid { sides: [5, 5, 3], allowed, values }, &[2, 0, 1])[..], rest].concat(), 75)
+        calls(&[&file_of(&Grid { sides: [5, 5, 3], allowed, values }, &[0, 1, 2])[..], rest].concat(), 75)
     };
     let closed = patch(37, -4);
     let broken = [patch(31, 4), patch(43, MISSING)].concat();
@@ -191,11 +191,11 @@ fn in_file_order() -> String {
     format!("# the later patch to a voxel stands\n{}", all.map(|rest| given(&[], &rest) + "dump values\n").concat())
 }
 
-/// Three different sides, layers in another order, and a patch for every voxel, the last first; then a second round over some of them.
+/// Three different sides, and a patch for every voxel, the last first; then a second round over some of them.
 fn every_voxel() -> String {
     let sides = [5, 7, 6];
     let values = (0..210).map(|i| if i == 87 { -3 } else { 3 + (i % 7) as i16 }).collect();
-    let layers = file_of(&Grid { sides, allowed: 1, values }, &[3, 1, 5, 0, 2, 4]);
+    let layers = file_of(&Grid { sides, allowed: 1, values }, &[0, 1, 2, 3, 4, 5]);
     let round: Vec<u8> = (0..210).rev().flat_map(|i| patch(i, 301 * (i as i16 % 100))).collect();
     let again: Vec<u8> = (0..210).step_by(4).flat_map(|i| patch(i, [MISSING, 1, 2][i as usize % 3])).collect();
     let one_each = [patch(17, 9), patch(52, -5), patch(87, -5), patch(122, -5), patch(157, -5), patch(192, 9)].concat();
@@ -244,7 +244,7 @@ fn read_then_begin() -> String {
 /// The writer writes layers alone: what is read from a file with patches comes out with them among the values.
 fn written() -> String {
     let values = (0..48).map(|i| 100 * i - 2400).collect();
-    let layers = file_of(&Grid { sides: [4, 3, 4], allowed: 770, values }, &[2, 0, 3, 1]);
+    let layers = file_of(&Grid { sides: [4, 3, 4], allowed: 770, values }, &[0, 1, 2, 3]);
     let all = [patch(0, 1), patch(47, MISSING), [patch(17, 5), patch(30, -32767), patch(17, -5)].concat(), many(60, 48)];
     let length = layers.len();
     let each = all.map(|patches| {

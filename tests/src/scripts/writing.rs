@@ -4,7 +4,7 @@
 use super::refusals::{at, state, Subject};
 use super::Maker;
 use crate::faults::written_length;
-use crate::files::{file_of, hex, shuffled};
+use crate::files::{file_of, hex, mostly_rising, shuffled};
 use crate::grids::{grid, Grid};
 use reference::grid::Sides;
 
@@ -144,7 +144,8 @@ fn ends_of_values() -> String {
     format!("# values at their ends\n{}write 70\nshowfile\n{again}dump values\nbegin\n{}", given([3, 3, 3], 1, &ENDS), each.concat())
 }
 
-/// A grid read from a file with its layers in some order: the first file written has them rising, and the next is the same.
+/// Files with their layers in some order: but for the last, read refuses them, and values, sides and T stay. What is written has its layers rising,
+/// and is read.
 fn other_orders() -> String {
     let orders = [[3, 2, 1, 0], [1, 0, 2, 3], [0, 1, 3, 2], [2, 3, 0, 1], [0, 1, 2, 3]];
     let each = orders.map(|order| {
@@ -153,7 +154,7 @@ fn other_orders() -> String {
         let again = read_again([4, 3, 4]);
         format!("sides 4 3 4\nfile {}\nread\nwrite {length}\nshowfile\n{again}write {length}\nshowfile\nreadlayer 88\n", hex(&file))
     });
-    format!("# layers in another order are written rising\n{}", each.concat())
+    format!("# layers in another order are refused, and never written\n{}", each.concat())
 }
 
 /// What becomes of the file: a refused write leaves it, another one is in its place whole.
@@ -225,8 +226,8 @@ impl Maker {
         self.say(format!("program\nreadlayer 7\nT {t}\nvalues fill {fill}\nread"));
     }
 
-    /// A grid as a list of values or as a file with its layers in any order, and writes between other calls on it.
-    pub(super) fn writes(&mut self, greatest: i64) {
+    /// A grid as a list of values or as a file, and writes between other calls on it.
+    pub(super) fn writes(&mut self, seed: u64, greatest: i64) {
         let mut g = grid(&mut self.r, greatest);
         if self.r.chance(30) {
             g.values.iter_mut().for_each(|v| *v = self.r.word() as i16);
@@ -238,7 +239,7 @@ impl Maker {
         self.say("file");
         if self.r.chance(50) {
             let order = shuffled(&mut self.r, g.sides[2]);
-            self.say(format!("file {}\nread", hex(&file_of(&g, &order))));
+            self.say(format!("file {}\nread", hex(&file_of(&g, &mostly_rising(seed, order)))));
         } else {
             self.list_of("values", &g.values);
         }
