@@ -144,15 +144,16 @@ fn repeats() -> String {
     format!("# a repeat before a layer that is not the next, and after one\n{}", each(5, &orders))
 }
 
-/// As many layers as a file of the program may have, or of read: a set of 8, 16 or 32 bits does not hold them.
+/// As many layers as a file of the program may have, or of read: a set of 8, 16 or 32 bits does not hold them, and 3, 4 or 5 bits do not tell them
+/// apart.
 fn of_many() -> String {
     let body = |c: usize| Grid { sides: [3, 3, c], allowed: 0, values: (0..9 * c).map(|i| if i == 13 { -5 } else { 5 }).collect() };
     let mut text = "# 24 layers and 64\n".to_string();
     for (c, places) in [(24, &[0, 7, 8, 9, 15, 16, 17, 20, 21, 22][..]), (64, &[0, 8, 15, 16, 31, 32, 33, 47, 61, 62])] {
         let mut wrong: Vec<Vec<usize>> = vec![(0..c).collect(), (0..c).rev().collect()];
-        for &place in places {
+        for (place, other) in places.iter().map(|&place| (place, place + 1)).chain([(5, 13), (5, 21), (11, 43)]) {
             let mut z: Vec<usize> = (0..c).collect();
-            z.swap(place, place + 1);
+            z.swap(place, other.min(c - 1));
             wrong.push(z);
         }
         for (place, again) in [(c - 1, 0), (c - 1, c - 2), (c / 2 + 1, c / 2 - 7), (c / 2 + 2, 1)] {
