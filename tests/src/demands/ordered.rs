@@ -30,7 +30,11 @@ pub fn of(call: &str, sides: &Sides, bytes: &[u8]) -> Vec<String> {
         ((bytes.len() as u128) >= written_length(sides) + PATCH_LENGTH as u128, "patches behind"),
         (bytes.len() == LONGEST_INPUT, "65536 bytes"),
     ]));
-    let again = chosen(&[(first > 31, "past layer 31"), ((first..c).any(|k| z[k] > k), "a later layer out of order")]);
+    let again = chosen(&[
+        (z[first] > 15, "of a layer past 15"),
+        (z[first] > 31, "of a layer past 31"),
+        ((first..c).any(|k| z[k] > k), "a later layer out of order"),
+    ]);
     let of_27 = seen.iter().map(|shape| format!("if refused 27: {call} refused: 27, {shape}"));
     of_27.chain(again.iter().map(|shape| format!("if refused 24: {call} refused: 24, {shape}"))).collect()
 }

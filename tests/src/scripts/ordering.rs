@@ -156,7 +156,7 @@ fn of_many() -> String {
             z.swap(place, other.min(c - 1));
             wrong.push(z);
         }
-        for (place, again) in [(c - 1, 0), (c - 1, c - 2), (c / 2 + 1, c / 2 - 7), (c / 2 + 2, 1)] {
+        for (place, again) in [(c - 1, 0), (c - 1, c - 2), (c - 2, c - 4), (c / 2 + 1, c / 2 - 7), (c / 2 + 2, 1)] {
             let mut z: Vec<usize> = (0..c).collect();
             z[place] = again;
             wrong.push(z.clone());
