@@ -94,9 +94,9 @@
 /* ---- version */
 
 #define WATTLERUGBY_VERSION_MAJOR 0
-#define WATTLERUGBY_VERSION_MINOR 4
+#define WATTLERUGBY_VERSION_MINOR 5
 #define WATTLERUGBY_VERSION_PATCH 0
-#define WATTLERUGBY_VERSION "0.4.0"
+#define WATTLERUGBY_VERSION "0.5.0"
 
 #ifdef __cplusplus
 extern "C" {
@@ -139,7 +139,8 @@ enum {
     WATTLERUGBY_LAYER = 23,            /* a layer's z is c or more */
     WATTLERUGBY_LAYER_TWICE = 24,      /* a layer's z came before */
     WATTLERUGBY_BYTES_LEFT = 25,       /* no call answers it any more: the program carve alone prints it, for input over 65,536 bytes */
-    WATTLERUGBY_ROOM = 26              /* write: the buffer is shorter than the written file */
+    WATTLERUGBY_ROOM = 26,             /* write: the buffer is shorter than the written file */
+    WATTLERUGBY_LAYER_ORDER = 27       /* a layer's z did not come before, and is not the next: layers go from 0 up, none skipped */
 };
 
 /* What a refusal number says, in English, without a full stop. Any number gets a text. */
@@ -168,6 +169,7 @@ static inline const char *wattlerugby_reason(uint8_t refusal)
     case WATTLERUGBY_LAYER_TWICE: return "a layer's z came before";
     case WATTLERUGBY_BYTES_LEFT: return "the input is over 65,536 bytes";
     case WATTLERUGBY_ROOM: return "the lent buffer is shorter than the file";
+    case WATTLERUGBY_LAYER_ORDER: return "a layer's z is not the next";
     default: return "no number of this library";
     }
 }
@@ -380,9 +382,12 @@ wattlerugby_points_answer wattlerugby_points(
 
 /* ---- the grid file
  *
- * Low byte first. A header of 7 bytes: hex 56 48, a, b, c in a byte each, T in two bytes. Then c layer records in any order, each of
- * 3 + 2 a b bytes: hex 56 4C, z in a byte, and a * b values of 16 bits, in index order. Then any number of patch records, none at all
- * included, each of 8 bytes: hex 56 50, a voxel's index in four bytes, and its value of 16 bits.
+ * Low byte first. A header of 7 bytes: hex 56 48, a, b, c in a byte each, T in two bytes. Then c layer records, each of 3 + 2 a b bytes:
+ * hex 56 4C, z in a byte, and a * b values of 16 bits, in index order. Then any number of patch records, none at all included, each of 8
+ * bytes: hex 56 50, a voxel's index in four bytes, and its value of 16 bits.
+ *
+ * Layers come from the bottom up: z is 0 in the first record and one more in each that follows. So a display that is sent a file has layer
+ * z before layer z + 1, and layer z begins at byte 7 + z (3 + 2 a b).
  *
  * A patch is a single voxel measured again. Its value stands in place of the layer's, and of two patches to a voxel the later one stands.
  * So to correct a file, append to it. */
@@ -400,8 +405,11 @@ typedef struct wattlerugby_read_answer {
  * All bytes after the last layer are taken as patch records. There is no limit to their number, so none to the file's length, and the time
  * is in proportion to that length. Any 16-bit value may be patched in, WATTLERUGBY_MISSING too.
  *
- * Checks: of the header 21 (fewer than 7 bytes), 22, 1, 2; of each layer record in turn 21, 22, 23, 24; of each patch record in turn 21
- * (fewer than 8 bytes are left), 22, 5 (the index is n or more). */
+ * A file with its layers in another order is refused, with 24 for a z that came before and with 27 for one that skips the next. To put an
+ * old file right, find its records by wattlerugby_read_layer and write them in rising z.
+ *
+ * Checks: of the header 21 (fewer than 7 bytes), 22, 1, 2; of each layer record in turn 21, 22, 23, 24, 27; of each patch record in turn
+ * 21 (fewer than 8 bytes are left), 22, 5 (the index is n or more). */
 wattlerugby_read_answer wattlerugby_read(
     const uint8_t *file, size_t file_len,
     int16_t *values, size_t values_len);
@@ -414,8 +422,9 @@ typedef struct wattlerugby_read_layer_answer {
 } wattlerugby_read_layer_answer;
 
 /* Finds the values of the layer record that begins at byte `start`, without copying: they stay where they are in your file. The first
- * record begins at byte 7, and the next one where the one before it ends. `start` may be any number. Patches are not looked at: who reads
- * by layers applies them, from byte wattlerugby_written_length on.
+ * record begins at byte 7, and the next one where the one before it ends. `start` may be any number. What the other records are is not
+ * looked at, so a layer is found whatever the order of the file. Nor are patches: who reads by layers applies them, from byte
+ * wattlerugby_written_length on.
  *
  * Checks: 1, 21, 22, 23. */
 wattlerugby_read_layer_answer wattlerugby_read_layer(

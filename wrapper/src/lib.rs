@@ -310,24 +310,29 @@ pub fn points(given: impl Into<raw::Record>, dist: &[i32], status: &[u8], positi
 /// Reads a whole grid file into n values, the layers with the patches applied in the order of the file, and answers sides and T. Bytes 2, 3
 /// and 4 of the file tell how many values to lend.
 ///
+/// Layers come from the bottom up: z is 0 in the first record and one more in each that follows. In a file with another order the first record
+/// that is not so is refused, with 24 where its z came before and with 27 where not. [`read_layer`] finds the records of such a file.
+///
 /// All bytes after the last layer are taken as patch records, which [`patch`] makes. There is no limit to their number, and the time is in
 /// proportion to the file's length. Every check is made before the first value is written.
 ///
-/// Checks: of the header 21 (fewer than 7 bytes), 22, 1, 2; of each layer record in turn 21, 22, 23, 24; of each patch record in turn 21
+/// Checks: of the header 21 (fewer than 7 bytes), 22, 1, 2; of each layer record in turn 21, 22, 23, 24, 27; of each patch record in turn 21
 /// (fewer than 8 bytes are left), 22, 5 (the index is n or more).
 ///
 /// ```
-/// use wattlerugby::{read, Sides};
+/// use wattlerugby::{read, Refusal, Sides};
 ///
-/// let mut file = vec![0x56, 0x48, 3, 3, 3, 2, 0];
-/// for z in [0, 2, 1] {
-///     file.extend([0x56, 0x4C, z]);
-///     file.extend([z, 0].repeat(9));
-/// }
+/// let file = |order: [u8; 3]| {
+///     let layers = order.map(|z| [&[0x56, 0x4C, z], &[z, 0].repeat(9)[..]].concat());
+///     [&[0x56, 0x48, 3, 3, 3, 2, 0], &layers.concat()[..]].concat()
+/// };
 /// let mut values = [0; 27];
-/// assert_eq!(read(&file, &mut values)?, (Sides { a: 3, b: 3, c: 3 }, 2));
+/// assert_eq!(read(&file([0, 1, 2]), &mut values)?, (Sides { a: 3, b: 3, c: 3 }, 2));
 /// assert_eq!((values[0], values[9], values[18]), (0, 1, 2));
-/// # Ok::<(), wattlerugby::Refusal>(())
+///
+/// assert_eq!(read(&file([0, 2, 1]), &mut values), Err(Refusal::LAYER_ORDER));
+/// assert_eq!(read(&file([0, 1, 1]), &mut values), Err(Refusal::LAYER_TWICE));
+/// # Ok::<(), Refusal>(())
 /// ```
 pub fn read(file: &[u8], values: &mut [i16]) -> Result<(Sides, u16), Refusal> {
     // SAFETY: as in `begin`.
@@ -335,7 +340,8 @@ pub fn read(file: &[u8], values: &mut [i16]) -> Result<(Sides, u16), Refusal> {
     done(r.refusal, (r.sides, r.allowed))
 }
 
-/// The layer whose record begins at byte `start`, any number, as a part of the file. Patches are not looked at.
+/// The layer whose record begins at byte `start`, any number, as a part of the file. Neither patches nor the other layers are looked at, so it
+/// is found whatever the file's order.
 ///
 /// Checks: 1, 21, 22, 23.
 pub fn read_layer(sides: Sides, file: &[u8], start: usize) -> Result<Layer<'_>, Refusal> {

@@ -67,6 +67,7 @@ numbers! {
     /// No call refuses with it any more: the program `carve` alone prints it.
     25 BYTES_LEFT "the input is over 65,536 bytes"
     26 ROOM "the lent buffer is shorter than the file"
+    27 LAYER_ORDER "a layer's z is not the next"
 }
 
 impl std::fmt::Debug for Refusal {

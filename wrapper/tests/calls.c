@@ -229,6 +229,32 @@ static int patches(void)
     return wrong;
 }
 
+/* ---- layers out of order: read refuses the file, and each layer is found by itself */
+
+static int order(void)
+{
+    const wattlerugby_sides sides = {3, 4, 5};
+    int16_t values[VOXELS];
+    uint8_t file[LAYERS];
+    size_t record = 3 + 2 * 3 * 4;
+    int z, wrong = 0;
+    for (z = 0; z < VOXELS; z++)
+        values[z] = (int16_t)z;
+    wrong += wattlerugby_write(sides, 0, values, VOXELS, file, LAYERS).length != LAYERS;
+    for (z = 0; z < 5; z++) {
+        wattlerugby_read_layer_answer r;
+        file[7 + (size_t)z * record + 2] = (uint8_t)(4 - z);
+        r = wattlerugby_read_layer(sides, file, LAYERS, 7 + (size_t)z * record);
+        wrong += r.refusal != 0 || r.z != 4 - z || r.to - r.from != 2 * 3 * 4;
+    }
+    wrong += read_patched(file, LAYERS, WATTLERUGBY_LAYER_ORDER) != 77;
+    file[7 + 2] = 0;
+    file[7 + record + 2] = 0;
+    wrong += read_patched(file, LAYERS, WATTLERUGBY_LAYER_TWICE) != 77;
+    printf("layers: %s\n", wrong ? "WRONG" : "in rising z, or the file is refused and writes nothing");
+    return wrong;
+}
+
 /* ---- null pointers with length 0 */
 
 static int nulls(void)
@@ -366,6 +392,7 @@ static void numbers(void)
     NUMBER(LAYER_TWICE);
     NUMBER(BYTES_LEFT);
     NUMBER(ROOM);
+    NUMBER(LAYER_ORDER);
     printf("255 %s\n", wattlerugby_reason(255));
     printf("longest file %u\n", (unsigned)WATTLERUGBY_LONGEST_FILE);
 }
@@ -405,5 +432,5 @@ int main(int argc, char **argv)
         lengths();
         return 0;
     }
-    return ring() + files() + patches() + nulls() + padding() + finished_bytes();
+    return ring() + files() + patches() + order() + nulls() + padding() + finished_bytes();
 }

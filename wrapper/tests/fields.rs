@@ -107,7 +107,7 @@ fn a_point_has_three_coordinates() {
 #[test]
 fn files_and_layers() {
     let mut file = vec![0x56, 0x48, 3, 4, 5, 0xCD, 0xAB];
-    for z in [4u8, 0, 3, 1, 2] {
+    for z in 0..5u8 {
         file.extend([0x56, 0x4C, z]);
         file.extend((0..12u8).flat_map(|i| [i, z]));
     }
@@ -116,10 +116,10 @@ fn files_and_layers() {
     let read = unsafe { wattlerugby_read(file.as_ptr(), file.len(), values.as_mut_ptr(), N) };
     assert_eq!((read.refusal, read.sides, read.allowed), (0, SIDES, 0xABCD));
     assert_eq!((values[0], values[11], values[12], values[59]), (0, 11, 256, 4 * 256 + 11));
-    let third = 7 + 2 * 27;
+    let fourth = 7 + 3 * 27;
     // SAFETY: as above.
-    let layer = unsafe { wattlerugby_read_layer(SIDES, file.as_ptr(), file.len(), third) };
-    assert_eq!((layer.refusal, layer.z, layer.from, layer.to), (0, 3, third + 3, third + 27));
+    let layer = unsafe { wattlerugby_read_layer(SIDES, file.as_ptr(), file.len(), fourth) };
+    assert_eq!((layer.refusal, layer.z, layer.from, layer.to), (0, 3, fourth + 3, fourth + 27));
     // SAFETY: as above.
     let beyond = unsafe { wattlerugby_read_layer(SIDES, file.as_ptr(), file.len(), usize::MAX) };
     assert_eq!((beyond.refusal, beyond.z, beyond.from, beyond.to), (21, 0, 0, 0));

@@ -83,7 +83,7 @@ fn sizes_and_offsets() {
     }
 }
 
-/// Each call's answers, a file out and in, patches, null pointers, padding.
+/// Each call's answers, a file out and in, patches, layers out of order, null pointers, padding.
 #[test]
 fn calls() {
     let source = root().join("wrapper/tests/calls.c");

@@ -46,12 +46,6 @@ fn a_patch_corrects_its_voxel_alone() {
         wanted[index] = -7;
         assert_eq!(taken(&with(&[&patch(index as u32, -7)])), Ok(wanted), "voxel {index}");
     }
-    // the layers of this file fall: an index is the voxel's and not its place in the file
-    let file = with(&[]);
-    let falling: Vec<u8> = file[7..].chunks(27).rev().flatten().copied().collect();
-    let mut wanted = layers();
-    (wanted[1], wanted[58]) = (MISSING, 9);
-    assert_eq!(taken(&[&file[..7], &falling, &patch(1, MISSING), &patch(58, 9)].concat()), Ok(wanted));
 }
 
 #[test]
@@ -144,6 +138,7 @@ fn header_and_layers_come_first() {
     assert_eq!(changed(3, 5), Err(Refusal::LENGTH));
     assert_eq!(changed(7 + 4 * 27 + 2, 5), Err(Refusal::LAYER));
     assert_eq!(changed(7 + 4 * 27 + 2, 0), Err(Refusal::LAYER_TWICE));
+    assert_eq!(changed(7 + 3 * 27 + 2, 4), Err(Refusal::LAYER_ORDER));
     for lent in [0, N - 1, N + 1] {
         assert_eq!(read(&file, &mut vec![0; lent]), Err(Refusal::LENGTH));
     }

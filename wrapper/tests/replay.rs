@@ -57,6 +57,20 @@ fn shorter_input_is_never_refused_with_25() {
     assert_eq!(program(&[&longest[..112], &patch(22, -6)].concat()), "kept 3 removed 1 opened 0 examined 1 euler 1");
 }
 
+/// Layers out of order are 27, before what follows them and after the input's length.
+#[test]
+fn layers_out_of_order() {
+    let mut file = longest();
+    let (first, second) = (7..42, 42..77);
+    let layers = [&file[second], &file[first]].concat();
+    file[7..77].copy_from_slice(&layers);
+    for end in [112, 113, 120, 65_536] {
+        assert_eq!(program(&file[..end]), "refused 27", "{end} bytes");
+    }
+    file.push(0);
+    assert_eq!(program(&file), "refused 25");
+}
+
 /// A side over 24 is 1 in its place, whatever the patches are.
 #[test]
 fn a_side_over_24() {

@@ -109,14 +109,11 @@ fn taken(file: &[u8]) -> Result<Taken, Refusal> {
     read(file, &mut values).map(|(sides, allowed)| (sides, allowed, values))
 }
 
-/// The file with its layer records in rising z, and with each patch's value written over the one that it corrects.
+/// The file's layer records, with each patch's value written over the one that it corrects.
 fn by_its_bytes(sides: Sides, file: &[u8]) -> Vec<u8> {
     let area = sides.a * sides.b;
-    let (header, rest) = file.split_at(7);
-    let (layers, patches) = rest.split_at(sides.c * (3 + 2 * area));
-    let mut records: Vec<&[u8]> = layers.chunks(3 + 2 * area).collect();
-    records.sort_by_key(|record| record[2]);
-    let mut form = [header, &records.concat()].concat();
+    let (layers, patches) = file.split_at(7 + sides.c * (3 + 2 * area));
+    let mut form = layers.to_vec();
     for patch in patches.chunks(8) {
         let index = u32::from_le_bytes([patch[2], patch[3], patch[4], patch[5]]) as usize;
         let at = 7 + index / area * (3 + 2 * area) + 3 + 2 * (index % area);
