@@ -195,10 +195,9 @@ fn remove(sides: Sides, dist: &[i32], status: &mut [u8], i: usize, mut woken: im
     });
 }
 
-/// The layer records and the rest of what follows the header: 21, 22, 23, 24 of each record.
+/// The layer records and the rest of what follows the header: 21, 22, 23, 24, 27 of each record.
 fn layers_and_rest(Sides { a, b, c }: Sides, bytes: &[u8]) -> Result<(&[u8], &[u8]), Refused> {
     let length = 3 + 2 * a * b;
-    let mut seen = [false; 64];
     for k in 0..c {
         let Some(record) = bytes.get(k * length..(k + 1) * length) else { return Err(21) };
         let z = usize::from(record[2]);
@@ -208,8 +207,8 @@ fn layers_and_rest(Sides { a, b, c }: Sides, bytes: &[u8]) -> Result<(&[u8], &[u
         if z >= c {
             return Err(23);
         }
-        if std::mem::replace(&mut seen[z], true) {
-            return Err(24);
+        if z != k {
+            return Err(if z < k { 24 } else { 27 });
         }
     }
     Ok(bytes.split_at(c * length))
@@ -290,8 +289,7 @@ pub fn read(file: &[u8], values: &mut [i16], patches: &Patches) -> Result<(Sides
     }
     let (layers, rest) = layers_and_rest(Sides { a, b, c }, records)?;
     (patches.check)(n, rest)?;
-    for record in layers.chunks_exact(3 + 2 * a * b) {
-        let layer = &mut values[usize::from(record[2]) * a * b..][..a * b];
+    for (record, layer) in layers.chunks_exact(3 + 2 * a * b).zip(values.chunks_exact_mut(a * b)) {
         for (value, bytes) in layer.iter_mut().zip(record[3..].chunks_exact(2)) {
             *value = i16::from_le_bytes([bytes[0], bytes[1]]);
         }

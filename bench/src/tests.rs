@@ -161,7 +161,7 @@ fn files_as_the_reference_reads_them() {
     written_as_read(indexed);
 }
 
-/// A file of random layers, the first of them any, and of some patches; in most of them something is wrong then.
+/// A file of random layers, seldom with another than the first in front, and of some patches; in most of them something is wrong then.
 fn random_file(random: &mut Random) -> Vec<u8> {
     let mut side = || 3 + random.below(3) as usize;
     let sides = Sides { a: side(), b: side(), c: side() };
@@ -169,7 +169,9 @@ fn random_file(random: &mut Random) -> Vec<u8> {
     let values: Vec<i16> = (0..n).map(|_| random.word() as i16).collect();
     let mut file = vec![0; 7 + sides.c * record];
     write(sides, random.word() as u16, &values, &mut file, zipped).expect("fit sides");
-    file[7..].rotate_left(record * random.below(sides.c as u64) as usize);
+    if random.below(8) == 0 {
+        file[7..].rotate_left(record * random.below(sides.c as u64) as usize);
+    }
     file.extend(patches(n, random.below(20) as usize));
     spoil_file(random, &mut file, n, record);
     file
@@ -209,7 +211,7 @@ fn read_as_the_reference() {
         }
         numbers.insert(expected.err().unwrap_or(0));
     }
-    assert_eq!(Vec::from_iter(numbers), [0, 1, 2, 5, 21, 22, 23, 24], "every answer is met");
+    assert_eq!(Vec::from_iter(numbers), [0, 1, 2, 5, 21, 22, 23, 24, 27], "every answer is met");
 }
 
 #[test]
