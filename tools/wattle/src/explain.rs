@@ -3,7 +3,7 @@
 use crate::args::Args;
 use crate::body::{Body, Kind};
 use crate::carve::{program_limit, PROGRAM_BYTES, PROGRAM_SIDE};
-use crate::file::{index_of, is_negative, Records, Scan, Source, HEADER, LAYER_HEAD, PATCH, PATCH_HEAD};
+use crate::file::{index_of, is_negative, record_length, Records, Scan, Source, HEADER, LAYER_HEAD, PATCH, PATCH_HEAD};
 use crate::{Answer, Failure, Status};
 use std::collections::BTreeSet;
 use wattlerugby::{Refusal, Sides, MISSING};
@@ -50,8 +50,9 @@ fn unreadable(source: &Source, records: &Records, refused: Refusal) -> (String, 
             "see that this is a grid file and not some other one.".to_string(),
         ),
         Refusal::SIDE => (wrong_sides(source.sides()), "cut the grid, or measure more voxels, and write it again.".to_string()),
-        // read_layer takes a layer that came before, so it is looked for among those that it took
-        Refusal::LAYER_TWICE => twice(found),
+        // read_layer takes a layer in any place, so one that is out of its own is looked for among those that it took
+        Refusal::LAYER_TWICE => twice(found, out_of_place(found)),
+        Refusal::LAYER_ORDER => not_the_next(source.sides().c, found, out_of_place(found)),
         _ if found.len() == source.sides().c => wrong_patch(source, patches.len(), next, refused),
         Refusal::SHORT => short(source, found.len(), next),
         Refusal::MARK => wrong_mark(source, found, next),
@@ -62,10 +63,6 @@ fn unreadable(source: &Source, records: &Records, refused: Refusal) -> (String, 
 
 fn hex(bytes: &[u8]) -> String {
     bytes.iter().map(|b| format!("{b:02X}")).collect::<Vec<_>>().join(" ") + " hex"
-}
-
-fn record_length(sides: Sides) -> usize {
-    LAYER_HEAD + 2 * sides.a * sides.b
 }
 
 fn due_length(sides: Sides) -> String {
@@ -107,16 +104,38 @@ fn wrong_layer(source: &Source, found: usize, next: usize) -> (String, String) {
     let c = source.sides().c;
     let z = source.bytes[next + 2];
     let place = format!("layer record {}, from byte {next}: byte {} says z = {z}, and there are {c} layers.", found + 1, next + 2);
-    (place, format!("number the layers 0 to {}, each once.", c - 1))
+    (place, format!("number the layers 0 to {}, each once, in that order.", c - 1))
 }
 
-fn twice(found: &[(usize, u8)]) -> (String, String) {
-    let again = |i: &usize| found[..*i].iter().any(|(_, z)| *z == found[*i].1);
-    let second = (0..found.len()).find(again).expect("a layer came twice where read refuses it for that");
+/// The first record whose z is not its place in the file.
+fn out_of_place(found: &[(usize, u8)]) -> usize {
+    let wrong = (0..found.len()).find(|&place| usize::from(found[place].1) != place);
+    wrong.expect("a layer is out of its place where read refuses it for that")
+}
+
+fn twice(found: &[(usize, u8)], second: usize) -> (String, String) {
     let (start, z) = found[second];
-    let first = found.iter().find(|(_, other)| *other == z).expect("it came before").0;
+    let (first, _) = found[usize::from(z)];
     let place = format!("layer z = {z} comes in the record from byte {first} and again in the one from byte {start}, byte {}.", start + 2);
-    (place, "number the layers 0 to c - 1, each once.".to_string())
+    (place, "number the layers 0 to c - 1, each once, in that order.".to_string())
+}
+
+/// Only a file with every layer in it, each once, can be sorted.
+fn not_the_next(c: usize, found: &[(usize, u8)], wrong: usize) -> (String, String) {
+    let (start, z) = found[wrong];
+    let place = format!(
+        "layer record {} of {c}, from byte {start}: byte {} says z = {z}, and z = {wrong} is due, as layers come from 0 up and none is skipped.",
+        wrong + 1,
+        start + 2
+    );
+    let different: BTreeSet<u8> = found.iter().map(|(_, z)| *z).collect();
+    let advice = match different.len() == c {
+        true => "each layer is there once: `wattle rewrite --sort` puts them in order.".to_string(),
+        false => {
+            format!("write the layers 0 to {}, each once, in that order; they are not all there, so the file cannot be sorted.", c - 1)
+        }
+    };
+    (place, advice)
 }
 
 /// What follows the last layer is wrong after so many good patches.
@@ -165,7 +184,7 @@ fn value_at(scan: &Scan, records: &Records, index: usize) -> String {
         return format!("{told}: byte {}, in patch record {}", records.patches[last].0 + PATCH_HEAD, last + 1);
     }
     let [.., z] = scan.place(index);
-    let record = records.layers.iter().find(|(_, layer)| usize::from(*layer) == z).expect("read found every layer").0;
+    let (record, _) = records.layers[z];
     format!("{told}: byte {}, in layer z = {z}", record + LAYER_HEAD + 2 * (index % (scan.sides.a * scan.sides.b)))
 }
 

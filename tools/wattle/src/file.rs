@@ -62,14 +62,18 @@ impl Source {
         }
     }
 
-    pub fn records(&self) -> Records {
-        let (sides, mut next, mut layers, mut patches) = (self.sides(), HEADER, Vec::new(), Vec::new());
-        while layers.len() < sides.c {
-            let Ok(layer) = read_layer(sides, &self.bytes, next) else { return Records { layers, patches, next } };
-            layers.push((next, layer.z));
-            next = layer.from + layer.bytes.len();
+    /// The same with its layers in rising z, where that can be done; otherwise as it is.
+    pub fn sorted(self) -> Source {
+        match sorted(&self.bytes) {
+            Some(bytes) => Source { bytes, ..self },
+            None => self,
         }
-        while let Some(index) = self.patch_at(next) {
+    }
+
+    pub fn records(&self) -> Records {
+        let (sides, layers, mut patches) = (self.sides(), layers_of(&self.bytes), Vec::new());
+        let mut next = HEADER + layers.len() * record_length(sides);
+        while let Some(index) = self.patch_at(next).filter(|_| layers.len() == sides.c) {
             patches.push((next, index));
             next += PATCH;
         }
@@ -95,10 +99,45 @@ fn sides_of(bytes: &[u8]) -> Sides {
     Sides { a: side(2), b: side(3), c: side(4) }
 }
 
+/// How long a layer's record is.
+pub fn record_length(sides: Sides) -> usize {
+    LAYER_HEAD + 2 * sides.a * sides.b
+}
+
+/// Each layer's first byte and its z, whatever their order, up to the first record that is none.
+fn layers_of(bytes: &[u8]) -> Vec<(usize, u8)> {
+    let sides = sides_of(bytes);
+    let starts = (0..sides.c).map(|record| HEADER + record * record_length(sides));
+    starts.map_while(|start| read_layer(sides, bytes, start).ok().map(|layer| (start, layer.z))).collect()
+}
+
+/// The file with its layer records in rising z. Nothing where not all layers are there, or one of them is there twice.
+fn sorted(bytes: &[u8]) -> Option<Vec<u8>> {
+    let (sides, mut layers) = (sides_of(bytes), layers_of(bytes));
+    layers.sort_by_key(|(_, z)| *z);
+    let each_once = layers.len() == sides.c && layers.iter().enumerate().all(|(place, (_, z))| usize::from(*z) == place);
+    if layers.is_empty() || !each_once {
+        return None;
+    }
+    let length = record_length(sides);
+    let records: Vec<&[u8]> = layers.iter().map(|&(start, _)| &bytes[start..start + length]).collect();
+    Some([&bytes[..HEADER], &records.concat(), &bytes[HEADER + sides.c * length..]].concat())
+}
+
 /// What read makes of a file: sides, T and values.
 fn values_of(bytes: &[u8]) -> Result<(Sides, u16, Vec<i16>), Refusal> {
     let mut values = vec![0; sides_of(bytes).voxels().unwrap_or(0)];
     read(bytes, &mut values).map(|(sides, allowed)| (sides, allowed, values))
+}
+
+/// Whether read refuses a file that begins with these bytes, whatever follows and also with its layers in rising z.
+fn are_refused(bytes: &[u8]) -> bool {
+    let refused = match values_of(bytes).err() {
+        Some(Refusal::LAYER_ORDER) => sorted(bytes).map_or(Some(Refusal::LAYER_ORDER), |sorted| values_of(&sorted).err()),
+        other => other,
+    };
+    // every refusal but that of a file which ends too early is of bytes that are there
+    refused.is_some_and(|refused| refused != Refusal::SHORT)
 }
 
 /// All bytes, or so many that read refuses them whatever follows: no file is too long, but what is no grid file is not read to its end.
@@ -108,8 +147,7 @@ fn bytes_that_decide(mut input: impl Read) -> std::io::Result<Vec<u8>> {
         // as many again as are there, so that looking at them over and over takes no more than twice the time
         let due = bytes.len().max(LONGEST_FILE);
         let found = input.by_ref().take(due as u64).read_to_end(&mut bytes)?;
-        // every refusal but that of a file which ends too early is of bytes that are there
-        if found < due || values_of(&bytes).is_err_and(|refused| refused != Refusal::SHORT) {
+        if found < due || are_refused(&bytes) {
             return Ok(bytes);
         }
     }
@@ -118,8 +156,11 @@ fn bytes_that_decide(mut input: impl Read) -> std::io::Result<Vec<u8>> {
 impl Scan {
     /// The scan of a file that read takes.
     pub fn open(path: &Path) -> Result<Scan, Failure> {
-        let refused = |(source, refused): (Source, Refusal)| refusal(&source.name, refused);
-        Source::open(path)?.read().map_err(refused)
+        Scan::of(Source::open(path)?)
+    }
+
+    pub fn of(source: Source) -> Result<Scan, Failure> {
+        source.read().map_err(|(source, refused)| refusal(&source.name, refused))
     }
 
     pub fn place(&self, index: usize) -> [usize; 3] {

@@ -90,12 +90,15 @@ One HTML page that opens in any browser without a network: layers to scroll thro
     Command {
         name: "rewrite",
         files: 1,
-        options: &[],
-        help: "wattle rewrite FILE [-o OUT]
+        options: &["--sort"],
+        help: "wattle rewrite FILE [--sort] [-o OUT]
 
 The same grid as a file in its written form: layers in rising z and no patches; what patches correct goes into the layers. Sides, T and
 values stay as they are. A grid has one written form, so files of the same grid become the same bytes. What carving makes of the grid
 is not asked.
+
+  --sort   take a file with its layers in any order too, where each is there once; they are put in rising z before the file is read.
+           Versions before 0.5 read such files, and nothing reads them any more
 ",
     },
     Command {

@@ -1,7 +1,7 @@
 //! `wattle patch`: the file with single voxels corrected, by patch records after its own bytes.
 
 use crate::args::Args;
-use crate::file::{refusal, Scan, Source};
+use crate::file::{Scan, Source};
 use crate::{Answer, Failure};
 use wattlerugby::{Sides, MISSING};
 
@@ -11,7 +11,7 @@ pub fn patch(args: &Args) -> Result<Answer, Failure> {
     }
     let source = Source::open(&args.files[0])?;
     let mut file = source.bytes.clone();
-    let scan = source.read().map_err(|(source, refused)| refusal(&source.name, refused))?;
+    let scan = Scan::of(source)?;
     for word in args.values("--set") {
         let (voxel, value) = word.split_once('=').ok_or_else(|| unlike("VOXEL=VALUE", word))?;
         file.extend(wattlerugby::patch(index(&scan, voxel)?, number(value)?));

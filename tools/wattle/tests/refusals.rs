@@ -49,6 +49,43 @@ fn explain_finds_the_byte() {
     explained(&with(&[(second + 2, 0)]), 24, &["layer z = 0 comes in the record from byte 7 and again in the one from byte 298, byte 300"]);
 }
 
+/// The record that is out of order, the layer found there and the one due; and whether sorting helps, which is tried.
+#[test]
+fn explain_finds_the_layer() {
+    let at = |record: usize| 7 + RECORD * record;
+    let sorts = |file: &[u8]| wattle_on(&["rewrite", "--sort", "-"], file).stdout == sphere();
+    let mut exchanged = sphere();
+    exchanged[at(2)..at(4)].rotate_left(RECORD);
+    let place = "layer record 3 of 12, from byte 589: byte 591 says z = 3, and z = 2 is due, as layers come from 0 up and none is skipped.";
+    let advice = "What to do: each layer is there once: `wattle rewrite --sort` puts them in order.\n";
+    explained(&exchanged, 27, &[place, advice]);
+    assert!(sorts(&exchanged));
+    let mut falling = sphere();
+    (0..12).for_each(|z| falling[at(z)..at(z + 1)].copy_from_slice(&sphere()[at(11 - z)..at(12 - z)]));
+    explained(&falling, 27, &["layer record 1 of 12, from byte 7: byte 9 says z = 11, and z = 0 is due", advice]);
+    assert!(sorts(&falling));
+    // the other commands do not read it
+    assert_eq!(text(&wattle_on(&["carve", "-"], &exchanged).stdout), "refused 27\n");
+    for command in ["look", "points", "volume", "page", "rewrite"] {
+        let output = wattle_on(&[command, "-"], &exchanged);
+        let line = "wattle: the standard input: refused 27: a layer's z is not the next; `wattle explain` says where, and what to do\n";
+        assert_eq!((status(&output), text(&output.stderr).as_str(), output.stdout.len()), (1, line, 0), "{command}");
+    }
+    // also with patches behind, whatever they are
+    explained(&[&exchanged[..], &patch(1, 9), &patch(1728, 9)].concat(), 27, &[place, advice]);
+
+    let not_all = "write the layers 0 to 11, each once, in that order; they are not all there, so the file cannot be sorted.";
+    let left_out = with(&[(at(5) + 2, 6)]);
+    explained(&left_out, 27, &["layer record 6 of 12, from byte 1462: byte 1464 says z = 6, and z = 5 is due", not_all]);
+    explained(&exchanged[..at(5) + 9], 27, &[place, not_all]);
+    explained(&exchanged[..at(3)], 27, &[place, not_all]);
+    assert!(!sorts(&left_out) && !sorts(&exchanged[..at(5) + 9]));
+    // what comes first in the file is told
+    let mut both = exchanged.clone();
+    both[at(1) + 2] = 0;
+    explained(&both, 24, &["layer z = 0 comes in the record from byte 7 and again in the one from byte 298, byte 300"]);
+}
+
 #[test]
 fn explain_finds_the_patch() {
     let after = |records: &[&[u8]]| [&sphere()[..], &records.concat()].concat();
@@ -94,14 +131,11 @@ fn explain_counts_patches() {
 fn explain_finds_the_voxel() {
     let inner = |x: usize, y: usize, z: usize| if (x, y, z) == (2, 1, 1) { -7 } else { 6 };
     let edge = |x: usize, y: usize, z: usize| if (x, y, z) == (3, 2, 2) { -9 } else { inner(x, y, z) };
-    // layers in falling z: the byte is that of the file, not of the index
-    let rising = common::grid_file([4, 4, 3], 0, edge);
-    let record = 3 + 2 * 16;
-    let falling: Vec<u8> = [&rising[..7], &rising[7 + 2 * record..], &rising[7 + record..7 + 2 * record], &rising[7..7 + record]].concat();
-    let byte = 7 + 3 + 2 * (3 + 4 * 2);
-    assert_eq!(i16::from_le_bytes([falling[byte], falling[byte + 1]]), -9);
+    let file = common::grid_file([4, 4, 3], 0, edge);
+    let byte = 7 + 2 * (3 + 2 * 16) + 3 + 2 * (3 + 4 * 2);
+    assert_eq!(i16::from_le_bytes([file[byte], file[byte + 1]]), -9);
     let place = format!("1 negative voxel lies on the grid's edge (1 at x = 3, 1 at z = 2). The first is voxel (3, 2, 2), index 43, with -9: byte {byte}, in layer z = 2");
-    explained(&falling, 3, &[&place]);
+    explained(&file, 3, &[&place]);
     let none = common::grid_file([4, 4, 3], 0, |x, y, z| if inner(x, y, z) < 0 { 0 } else { i16::MIN });
     explained(&none, 4, &["47 of 48 values are missing; the least is at voxel (2, 1, 1), index 22, with 0"]);
     explained(&common::grid_file([3, 3, 3], 0, |_, _, _| i16::MIN), 4, &["all 27 values are missing"]);
@@ -192,7 +226,7 @@ fn damaged_files_get_the_programs_line() {
         }
         numbers.extend(number);
     }
-    assert!(["1", "5", "21", "22", "23", "24"].iter().all(|n| numbers.contains(*n)), "the damage is of many kinds: {numbers:?}");
+    assert!(["1", "5", "21", "22", "23", "24", "27"].iter().all(|n| numbers.contains(*n)), "the damage is of many kinds: {numbers:?}");
     assert!(!numbers.contains("25"), "no file was over 65,536 bytes");
 }
 
@@ -267,12 +301,19 @@ fn the_programs_limit_on_bytes() {
 /// What is no grid file is not read to its end, which may never come. The least memory that a broken tool would fail with is 1 GB.
 #[test]
 fn endless_input_comes_to_an_end() {
+    let exchanged = common::folder("endless").join("exchanged.grid");
+    let (header, first, second, rest) = (0..7, 7..7 + RECORD, 7 + RECORD..7 + 2 * RECORD, 7 + 2 * RECORD..);
+    std::fs::write(&exchanged, [&sphere()[header], &sphere()[second], &sphere()[first], &sphere()[rest]].concat()).unwrap();
     let told = |line: &str| {
-        let words = ["-c", line, env!("CARGO_BIN_EXE_wattle"), path(&sample("sphere.grid"))].map(str::to_string);
-        text(&Command::new("sh").args(words).output().expect("sh runs").stdout)
+        let words = ["-c", line, env!("CARGO_BIN_EXE_wattle"), path(&sample("sphere.grid")), path(&exchanged)].map(str::to_string);
+        let output = Command::new("sh").args(words).output().expect("sh runs");
+        text(&output.stdout) + &text(&output.stderr)
     };
     assert_eq!(told("ulimit -v 1000000; \"$0\" carve --large /dev/zero"), "refused 22\n");
     assert_eq!(told("cat \"$1\" /dev/zero | (ulimit -v 1000000; \"$0\" carve --large -)"), "refused 22\n");
+    assert_eq!(told("cat \"$2\" /dev/zero | (ulimit -v 1000000; \"$0\" carve --large -)"), "refused 27\n");
+    let sorted = told("cat \"$2\" /dev/zero | (ulimit -v 1000000; \"$0\" rewrite --sort -)");
+    assert!(sorted.starts_with("wattle: the standard input: refused 22: "), "{sorted}");
 }
 
 // ---- words and files
@@ -366,6 +407,11 @@ fn help_names_every_command_and_option() {
         let help = text(&wattle(&["help", command]).stdout);
         assert!(help.starts_with(&format!("wattle {command} ")), "{help}");
         assert_eq!(help, text(&wattle(&[command, "--help"]).stdout));
+    }
+    for (command, option) in [("look", "--layer"), ("points", "--xyz"), ("volume", "--field"), ("rewrite", "--sort"), ("carve", "--large")]
+    {
+        let help = text(&wattle(&["help", command]).stdout);
+        assert!(help.contains(&format!("\n  {option} ")), "{option} is not in {help}");
     }
     assert!(text(&wattle(&["--version"]).stdout).starts_with("wattle 0."));
 }

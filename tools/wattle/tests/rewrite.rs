@@ -36,15 +36,18 @@ fn patches_go_into_the_layers() {
     let mut wanted = layers.clone();
     wanted[at(3)..at(3) + 2].copy_from_slice(&[0x39, 0x30]);
     wanted[at(59)..at(59) + 2].copy_from_slice(&[0x00, 0x80]);
-    let patched = [&reordered(&layers, &[4, 3, 2, 1, 0])[..], &patch(3, 1), &patch(59, i16::MIN), &patch(3, 12345)].concat();
-    let output = wattle_on(&["rewrite", "-"], &patched);
+    let patches = [patch(3, 1), patch(59, i16::MIN), patch(3, 12345)].concat();
+    let output = wattle_on(&["rewrite", "-"], &[&layers[..], &patches].concat());
+    assert_eq!((status(&output), output.stdout), (0, wanted.clone()));
+    let output = wattle_on(&["rewrite", "--sort", "-"], &[&reordered(&layers, &[4, 3, 2, 1, 0])[..], &patches].concat());
     assert_eq!((status(&output), output.stdout), (0, wanted.clone()));
     // and that is the file's form for good
     assert_eq!(wattle_on(&["rewrite", "-"], &wanted).stdout, wanted);
 }
 
+/// Layers in another order are refused, unless they are to be sorted.
 #[test]
-fn any_order_becomes_rising() {
+fn any_order_can_be_sorted() {
     let folder = folder("rewrite");
     for (sides, order) in [([4, 3, 5], &[4, 3, 2, 1, 0][..]), ([3, 5, 4], &[1, 3, 0, 2]), ([64, 3, 3], &[0, 2, 1])] {
         let wanted = rising(sides, 0xABCD);
@@ -52,11 +55,55 @@ fn any_order_becomes_rising() {
         let file = reordered(&wanted, order);
         assert_ne!(file, wanted);
         std::fs::write(&given, &file).unwrap();
-        assert_eq!(answer(&["rewrite", path(&given), "--force", "-o", path(&out)]), b"");
+        let refused = wattle(&["rewrite", path(&given), "-o", path(&out)]);
+        let line = "wattle: given.grid: refused 27: a layer's z is not the next; `wattle explain` says where, and what to do\n";
+        assert_eq!((status(&refused), text(&refused.stderr).as_str(), out.exists()), (1, line, false));
+        assert_eq!(answer(&["rewrite", "--sort", path(&given), "-o", path(&out)]), b"");
         assert_eq!(std::fs::read(&out).unwrap(), wanted);
         assert_eq!(std::fs::read(&given).unwrap(), file, "the file that was read stays as it is");
-        assert_eq!(wattle_on(&["rewrite", "-"], &file).stdout, wanted);
-        assert!(text(&answer(&["compare", path(&given), path(&out)])).starts_with("the same"));
+        assert_eq!(wattle_on(&["rewrite", "-", "--sort"], &file).stdout, wanted);
+        assert_eq!(answer(&["rewrite", "--sort", path(&out)]), wanted, "what is in order stays so");
+        std::fs::remove_file(&out).unwrap();
+    }
+}
+
+/// What has not every layer once is refused as it is without sorting.
+#[test]
+fn what_cannot_be_sorted() {
+    let good = rising([4, 3, 5], 0);
+    let z = |z: [u8; 5]| {
+        let mut file = good.clone();
+        (0..5).for_each(|record| file[7 + 27 * record + 2] = z[record]);
+        file
+    };
+    let marked = |mut file: Vec<u8>, at: usize| {
+        file[at] ^= 1;
+        file
+    };
+    let wrong = [
+        (27, z([0, 2, 2, 3, 4])),
+        (24, z([0, 0, 1, 2, 3])),
+        (27, z([1, 2, 3, 4, 5])),
+        (27, z([4, 3, 2, 1, 0])[..141].to_vec()),
+        (27, marked(z([1, 0, 2, 3, 4]), 7 + 27 * 3)),
+        (22, marked(z([1, 0, 2, 3, 4]), 0)),
+        (1, [&[0x56, 0x48, 4, 3, 0], &good[5..]].concat()),
+        (21, b"VH".to_vec()),
+        (21, Vec::new()),
+    ];
+    for (number, file) in wrong {
+        let outputs = [wattle_on(&["rewrite", "-"], &file), wattle_on(&["rewrite", "--sort", "-"], &file)];
+        for output in outputs {
+            let line = text(&output.stderr);
+            assert_eq!((status(&output), output.stdout.len()), (1, 0), "{line}");
+            assert!(line.starts_with(&format!("wattle: the standard input: refused {number}: ")), "{line}");
+        }
+    }
+    // what sorting brings to light
+    for (number, rest) in [(5, &patch(60, 0)[..]), (22, &[0; 8]), (21, &[0])] {
+        let file = [&reordered(&good, &[1, 0, 2, 3, 4])[..], rest].concat();
+        let line = text(&wattle_on(&["rewrite", "--sort", "-"], &file).stderr);
+        assert!(line.starts_with(&format!("wattle: the standard input: refused {number}: ")), "{line}");
     }
 }
 
@@ -64,8 +111,12 @@ fn any_order_becomes_rising() {
 fn the_largest_grid() {
     let wanted = rising([64, 64, 64], 0);
     let order: Vec<usize> = (0..64).rev().collect();
-    let output = wattle_on(&["rewrite", "-"], &reordered(&wanted, &order));
+    let falling = reordered(&wanted, &order);
+    let output = wattle_on(&["rewrite", "--sort", "-"], &falling);
     assert!((status(&output), output.stderr.len()) == (0, 0) && output.stdout == wanted);
+    // with more patches than are read at a time: the last one stands
+    let patched = [&falling[..], &patch(0, 7).repeat(200_000), &patch(0, i16::MIN)].concat();
+    assert!(wattle_on(&["rewrite", "--sort", "-"], &patched).stdout == wanted);
 }
 
 #[test]
@@ -78,6 +129,7 @@ fn a_file_that_is_refused_leaves_nothing() {
         (21, good[..good.len() - 1].to_vec()),
         (22, [&good[..second], &[0x57], &good[second + 1..]].concat()),
         (24, [&good[..second + 2], &[0], &good[second + 3..]].concat()),
+        (27, reordered(&good, &[0, 1, 3, 2, 4])),
         (21, [&good[..], &[0]].concat()),
         (22, [&good[..], &[0; 8]].concat()),
         (5, [&good[..], &patch(0, 0), &patch(60, 0)].concat()),
@@ -157,7 +209,7 @@ fn what_is_replaced_keeps_its_place() {
     let file = reordered(&rising([3, 3, 3], 0), &[2, 1, 0]);
     std::fs::write(&falling, &file).unwrap();
     std::fs::hard_link(&falling, &other).unwrap();
-    answer(&["rewrite", path(&falling), "--force", "-o", path(&other)]);
+    answer(&["rewrite", "--sort", path(&falling), "--force", "-o", path(&other)]);
     assert_eq!((std::fs::read(&falling).unwrap(), std::fs::read(&other).unwrap()), (file, rising([3, 3, 3], 0)));
     // a pipe is written to, and stays a pipe
     assert!(answer(&["rewrite", path(&grid), "--force", "-o", "/dev/stdout"]) == std::fs::read(&grid).unwrap());
