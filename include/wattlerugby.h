@@ -406,7 +406,7 @@ typedef struct wattlerugby_read_answer {
  * is in proportion to that length. Any 16-bit value may be patched in, WATTLERUGBY_MISSING too.
  *
  * A file with its layers in another order is refused, with 24 for a z that came before and with 27 for one that skips the next. To put an
- * old file right, find its records by wattlerugby_read_layer and write them in rising z.
+ * old file right, find its records by wattlerugby_read_layer and write them in rising z; `wattle rewrite --sort` does so.
  *
  * Checks: of the header 21 (fewer than 7 bytes), 22, 1, 2; of each layer record in turn 21, 22, 23, 24, 27; of each patch record in turn
  * 21 (fewer than 8 bytes are left), 22, 5 (the index is n or more). */
