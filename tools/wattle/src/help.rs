@@ -97,8 +97,8 @@ The same grid as a file in its written form: layers in rising z and no patches; 
 values stay as they are. A grid has one written form, so files of the same grid become the same bytes. What carving makes of the grid
 is not asked.
 
-  --sort   take a file with its layers in any order too, where each is there once; they are put in rising z before the file is read.
-           Versions before 0.5 read such files, and nothing reads them any more
+  --sort   take a file with its layers in any order too, where each is there once: they are put in rising z before the file is read.
+           Up to version 0.4 such files were read as they are
 ",
     },
     Command {
