@@ -12,6 +12,7 @@ use Rattle.cells.specs.Groups.{any}
 use Rattle.prelude.proofs.Bools.{two, and-true, true-and, not-false}
 use Rattle.rules.specs.declared.Sides.{Sides}
 use Rattle.rules.specs.declared.Record.{Record}
+use Rattle.rules.specs.Value.{stray}
 use Rattle.rules.specs.Grid.{fitSides, size, range, voxels, measuredNegative, valueAt}
 use Rattle.rules.specs.Checks.{firstFailing}
 use Rattle.rules.specs.Begin.{newRecord, beginChecks, begun}
@@ -33,13 +34,14 @@ module _ (s : Sides) (values dist : List ℤ) (status : List ℕ) where
   abbrev pub some : Bool
   some = any (negativeAt values) (range 0 (size s))
 
-  -- the four checks in turn
-  abbrev pub turns : Bool → Bool → Bool → Bool → ℕ
-  turns p q r t = cond (not p) 1 (cond (not q) 2 (cond r 3 (cond (not t) 4 0)))
+  -- the checks in turn
+  abbrev pub turns : Bool → Bool → Bool → Bool → Bool → ℕ
+  turns p q o r t = cond (not p) 1 (cond (not q) 2 (cond o 28 (cond r 3 (cond (not t) 4 0))))
 
-  pub number-is : (p q r t : Bool) → fitSides s ≡ p → lengths ≡ q → on-border ≡ r → some ≡ t → firstFailing (beginChecks s values dist status) ≡ turns p q r t
+  pub number-is : (p q o r t : Bool) → fitSides s ≡ p → lengths ≡ q → any stray values ≡ o → on-border ≡ r → some ≡ t
+      → firstFailing (beginChecks s values dist status) ≡ turns p q o r t
   unfolding firstFailing voxels
-  number-is p q r t e f g h = cc
+  number-is p q o r t e f g h i = cc
 
   pub right-lengths : length values ≡ size s → length dist ≡ size s → length status ≡ size s → lengths ≡ true
   right-lengths e f g = rw (eq-eqb _ _ e, eq-eqb _ _ f, eq-eqb _ _ g)
@@ -59,7 +61,8 @@ module _ (s : Sides) (values dist : List ℤ) (status : List ℕ) where
   accepted n e z =
       let h = all-hold (beginChecks s values dist status) refl (sym e ∙ z) in
       let lent = h .1 in
-      let clear = lent .1 in
+      let ranged = lent .1 in
+      let clear = ranged .1 in
       let w = any-below (negativeAt values) (size s) (not-false _ (clear .1 .0)) in
       let a = and-true (eqb (length values) (size s)) (eqb (length dist) (size s) && eqb (length status) (size s)) (not-false _ (lent .0)) in
       let b = and-true (eqb (length dist) (size s)) (eqb (length status) (size s)) (a .1) in
@@ -68,6 +71,7 @@ module _ (s : Sides) (values dist : List ℤ) (status : List ℕ) where
         len = eqb-true (length values) (size s) (a .0);
         dist-len = eqb-true (length dist) (size s) (b .0);
         status-len = eqb-true (length status) (size s) (b .1);
+        known = ranged .0;
         border = checked-border s values (clear .0);
         some = w .0;
         some-negative = true-and (ltb (w .0) (size s)) (measuredNegative (valueAt values (w .0))) (lt-ltb (w .0) (size s) (w .1)) (w .2);

@@ -1,4 +1,4 @@
-// Document 01's begin: the numbers 1 to 4, then S, worked distances, box and status, all in the two lent buffers.
+// Document 01's begin: the numbers 1, 2, 28, 3 and 4, then S, worked distances, box and status, all in the two lent buffers.
 use rules::Begun;
 use rules::Record;
 use rules::Sides;
@@ -15,7 +15,7 @@ ghost use Rattle.components.specs.Work.{Accepted};
 ghost use Rattle.beginning.specs.Work.{negativeAt, borderNegative, Sized, WorkedOut};
 
 // Whether a value from first up to end is measured and negative.
-fn any_negative(values: &[i16], first: usize, end: usize) -> bool
+fn any_negative(values: &[i32], first: usize, end: usize) -> bool
     requires { ⌜ (first ≤ end) × (end ≤ length (now values)) ⌝ }
     ensures { λ r. ⌜ r ≡ any (negativeAt (now (values .entry))) (range first (end - first)) ⌝ }
 {
@@ -30,7 +30,7 @@ fn any_negative(values: &[i16], first: usize, end: usize) -> bool
 }
 
 // Whether a border voxel of a row is measured negative: its first or its last voxel, or any if the row lies on the border.
-fn border_row(sides: Sides, values: &[i16], row: usize) -> bool
+fn border_row(sides: Sides, values: &[i32], row: usize) -> bool
     requires { ⌜ Row sides (length (now values)) row ⌝ }
     ensures { λ r. ⌜ r ≡ any (borderNegative sides (now (values .entry))) (range (sides .a * row) (sides .a)) ⌝ }
 {
@@ -47,7 +47,7 @@ fn border_row(sides: Sides, values: &[i16], row: usize) -> bool
 }
 
 // Number 3: whether a border voxel is measured negative.
-fn border_negative(sides: Sides, values: &[i16]) -> bool
+fn border_negative(sides: Sides, values: &[i32]) -> bool
     requires { ⌜ Sized sides (now values) ⌝ }
     ensures { λ r. ⌜ r ≡ any (borderNegative sides (now (values .entry))) (range 0 (size sides)) ⌝ }
 {
@@ -62,7 +62,7 @@ fn border_negative(sides: Sides, values: &[i16]) -> bool
 }
 
 // The number of the first check that fails, or 0.
-fn refusal(sides: Sides, values: &[i16], dist: &[i32], status: &[u8]) -> u8
+fn refusal(sides: Sides, values: &[i32], dist: &[i32], status: &[u8]) -> u8
     ensures { λ r. ⌜ r ≡ firstFailing (beginChecks sides (now (values .entry)) (now (dist .entry)) (now (status .entry))) ⌝ }
 {
     if !sizes::fit_sides(sides) {
@@ -77,6 +77,9 @@ fn refusal(sides: Sides, values: &[i16], dist: &[i32], status: &[u8]) -> u8
     }
     if status.len() != n {
         return 2;
+    }
+    if values::any_beyond(values, 1000000000) {
+        return 28;
     }
     if border_negative(sides, values) {
         return 3;
@@ -103,7 +106,7 @@ fn new_record(sides: Sides, allowed: u16) -> Record
 }
 
 // The work on a grid that is not refused.
-fn work_out(dist: &mut [i32], status: &mut [u8], sides: Sides, values: &[i16])
+fn work_out(dist: &mut [i32], status: &mut [u8], sides: Sides, values: &[i32])
     requires { ⌜ Accepted sides (now values) (length (now dist)) (length (now status)) ⌝ }
     ensures { λ _. ⌜ WorkedOut sides (now (values .entry)) (now (dist .exit)) (now (status .exit)) ⌝ }
 {
@@ -120,7 +123,7 @@ fn work_out(dist: &mut [i32], status: &mut [u8], sides: Sides, values: &[i16])
 pub fn begin(
     sides: Sides,
     allowed: u16,
-    values: &[i16],
+    values: &[i32],
     dist: &mut [i32],
     status: &mut [u8],
 ) -> Begun

@@ -1,4 +1,4 @@
--- What the work on a grid may go by, where none of the four checks of begin fails, and what the search for S leaves.
+-- What the work on a grid may go by, where no check of begin fails, and what the search for S leaves.
 use mathlib.Core.Path.{_≡_}
 use mathlib.Core.Bool.{true, false, cond}
 use mathlib.Core.List.{List}
@@ -6,6 +6,8 @@ use Prim.Native.Nat.{ℕ, _+_, _≤_, _<_}
 use lib.IntN.{ℤ, pos}
 use lib.ListN.{length, getD}
 use Rattle.rules.specs.declared.Sides.{Sides}
+use Rattle.prelude.specs.Lists.{any}
+use Rattle.rules.specs.Value.{stray}
 use Rattle.rules.specs.Grid.{fitSides, size, voxel, onBorder, measuredNegative, valueAt}
 use Rattle.rules.specs.Begin.{isIn}
 use Rattle.rules.specs.Meaning.{negative}
@@ -15,6 +17,7 @@ pub record Accepted (s : Sides) (values : List ℤ) (dist status : ℕ) : Type 0
   pub len : length values ≡ size s
   pub dist-len : dist ≡ size s
   pub status-len : status ≡ size s
+  pub known : any stray values ≡ false
   pub border : (i : ℕ) → i < size s → onBorder s i ≡ true → measuredNegative (valueAt values i) ≡ false
   pub some : ℕ
   pub some-negative : negative s values some ≡ true

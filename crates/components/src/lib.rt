@@ -154,7 +154,7 @@ fn relabel(label: &mut [u8], work: &[i32], first: usize, end: usize)
 }
 
 // Labels S with 0 and all other voxels with far.
-pub fn find(status: &mut [u8], dist: &mut [i32], sides: Sides, values: &[i16], far: u8)
+pub fn find(status: &mut [u8], dist: &mut [i32], sides: Sides, values: &[i32], far: u8)
     requires { ⌜ Accepted sides (now values) (length (now dist)) (length (now status)) ⌝ }
     ensures { λ _. ⌜ Found sides (inside sides (now (values .entry))) far (now (status .exit)) ⌝ }
 {

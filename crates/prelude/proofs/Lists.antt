@@ -3,9 +3,9 @@ use mathlib.Core.Path.{_≡_, refl, ap, ap₂, sym, _∙_, subst}
 use mathlib.Core.Logic.{_⊎_, inl, inr}
 use mathlib.Core.Bool.{Bool, true, false, cond, _||_, true≢false}
 use mathlib.Core.List.{List, [], _∷_, _++_}
-use Prim.Native.Nat.{ℕ, zero, suc, _+_, _≤_}
+use Prim.Native.Nat.{ℕ, zero, suc, _+_, _≤_, _<_}
 use native.Mathlib.Omega.{arith}
-use lib.ListN.{length}
+use lib.ListN.{length, getD, take, drop, take-append-drop}
 use Rattle.prelude.specs.Lists.{any, consIf, filter}
 use Rattle.prelude.proofs.Bools.{or-true, true-or, or-false, or-assoc, not-both}
 
@@ -66,6 +66,18 @@ module _ {A : Type 0} where
   unfolding any
   any-append p [] ys = refl
   any-append p (x ∷ xs) ys = ap (λ (t : Bool). p x || t) (any-append p xs ys) ∙ sym (or-assoc (p x) (any p xs) (any p ys))
+
+  -- none passes: no element by its index, none of the first ones, none of the others
+  pub none-at : (p : A → Bool) (d : A) (xs : List A) → any p xs ≡ false → (i : ℕ) → i < length xs → p (getD xs i d) ≡ false
+  unfolding any
+  none-at p d [] e i h = let z : ⊥ = omega arith in absurd z
+  none-at p d (x ∷ xs) e zero h = or-false (p x) (any p xs) e .0
+  none-at p d (x ∷ xs) e (suc i) h = none-at p d xs (or-false (p x) (any p xs) e .1) i (omega arith)
+
+  pub none-split : (p : A → Bool) (n : ℕ) (xs : List A) → any p xs ≡ false → (any p (take n xs) ≡ false) × (any p (drop n xs) ≡ false)
+  none-split p n xs e =
+      or-false (any p (take n xs)) (any p (drop n xs))
+      (sym (any-append p (take n xs) (drop n xs)) ∙ ap (any p) (take-append-drop n xs) ∙ e)
 
   -- ---- those
 

@@ -8,7 +8,7 @@ use borrow.Author.Tests.{ltb-true, ltb-false, lt-ltb, le-ltb}
 use lib.Dec.{T, eqb, ltb}
 use lib.Bits.{bitOr, or-lt, or-add-and, and-le-l, and-le-r}
 use lib.IntN.{ℤ, pos, negsuc, natAbs, _-ℤ_, +ℤ-idl}
-use lib.Signed.{ltZ, nonNeg}
+use lib.Signed.{ltZ, mag, nonNeg}
 use mir.Syntax.{w32, w64}
 use mir.Val.{Fits, SFits, toZ, ofZ, sel}
 use mir.Facts.{toZ-ofZ, toZ-pos, sfits-widen}
@@ -23,10 +23,36 @@ negative-test (negsuc n) = refl
 pub held-negative : {z : ℤ} → SFits w32 z → ltZ (toZ w32 (ofZ w32 z)) (pos 0) ≡ isNegative z
 held-negative {z} h = ap (λ (x : ℤ). ltZ x (pos 0)) (toZ-ofZ h) ∙ negative-test z
 
+-- ---- a number by its sign, and by all its bits turned
+
+pub below : (z : ℤ) → ltZ z (pos 0) ≡ true → z ≡ negsuc (mag z)
+below (pos n) e = let l = ltb-true n 0 e in let z : ⊥ = omega arith in absurd z
+below (negsuc n) e = refl
+
+pub not-below : (z : ℤ) → ltZ z (pos 0) ≡ false → z ≡ pos (mag z)
+not-below (pos n) e = refl
+not-below (negsuc n) e = absurd (true≢false e)
+
+module _ (z : ℤ) (h : SFits w32 z) where
+  pub small : mag z < 2147483648
+  small = h .sfits
+
+  pub sign : {t : Bool} → ltZ (toZ w32 (ofZ w32 z)) (pos 0) ≡ t → ltZ z (pos 0) ≡ t
+  sign {t} e = subst (λ (x : ℤ). ltZ x (pos 0) ≡ t) (toZ-ofZ h) e
+
+  pub as-it-is : ltZ (toZ w32 (ofZ w32 z)) (pos 0) ≡ false → toZ w32 (ofZ w32 z) ≡ pos (mag z)
+  as-it-is e = toZ-ofZ h ∙ not-below z (sign e)
+
+  pub turned : ltZ (toZ w32 (ofZ w32 z)) (pos 0) ≡ true → toZ w32 (4294967295 - ofZ w32 z) ≡ pos (mag z)
+  turned e =
+      let k : 4294967295 - (4294967296 - suc (mag z)) ≡ mag z = omega (arith, small) in
+      ap (λ (x : ℤ). toZ w32 (4294967295 - ofZ w32 x)) (below z (sign e)) ∙ ap (toZ w32) k ∙ toZ-pos w32 small
+
+-- ---- in 64 bits
+
 pub widened : {z : ℤ} → SFits w32 z → SFits w64 (toZ w32 (ofZ w32 z))
 widened {z} h = subst (λ (x : ℤ). SFits w64 x) (sym (toZ-ofZ h)) (sfits-widen tt h)
 
--- in 64 bits
 abbrev pub wide : ℤ → ℤ
 wide z = toZ w64 (ofZ w64 (toZ w32 (ofZ w32 z)))
 

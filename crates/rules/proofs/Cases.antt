@@ -3,7 +3,8 @@ use mathlib.Core.Path.{refl}
 use Rattle.cells.specs.Groups.{any, filter, reached, others, enter, gather, groups}
 use Rattle.cells.specs.Cells.{contains, joined, touched, groupCount, dimension, countOf, testOf, test, passes}
 use Rattle.rules.specs.Grid.{fitSides, size, index, voxel, range, voxels, onBorder, gap, near, touch, apart, taxicab, shareFace}
-use Rattle.rules.specs.Grid.{neighbourhoodOf, neighbourhood, measuredNegative, measuredNonNegative}
+use Rattle.rules.specs.Value.{isMissing, beyond, measuredNegative, measuredNonNegative}
+use Rattle.rules.specs.Grid.{neighbourhoodOf, neighbourhood}
 use Rattle.rules.specs.Checks.{unless}
 use Rattle.rules.specs.Begin.{least, greatest, isIn, negatives, larger, largest, inside, facing, greatestFacing, distance, workedAt, worked, inBox}
 use Rattle.rules.specs.Begin.{exposed, statusAt, startStatus, begun, begin}
@@ -11,8 +12,8 @@ use Rattle.rules.specs.Status.{keptByte, pendingByte, woken, rested, isK
 use Rattle.rules.specs.Status.{statusWithout, without, examine, carving, openable}
 use Rattle.rules.specs.Machine.{isInside, outside, farther, unfitCounts, unfitVoxel, unfit, wrongLength, carved, carve, taken, take, toOpen, opened}
 use Rattle.rules.specs.Machine.{openNext, closed, closedAt, finishedOf, finish}
-use Rattle.rules.specs.Cases.{start, carvedTo, ended, caseA, plate, valuesC, caseC, layerD, valuesD, caseD, valuesArc, arc, bar, CaseA, CaseD}
-use Rattle.rules.specs.Cases.{Bar, Numbers}
+use Rattle.rules.specs.Cases.{start, carvedTo, ended, caseA, plate, valuesC, caseC, layerD, valuesD, caseD, valuesArc, arc, bar, cube}
+use Rattle.rules.specs.Cases.{CaseA, CaseD, Bar, Numbers, LongTunnels}
 
 -- ---- all that a case computes with: to unfold `all-rules` is to unfold the rules
 
@@ -25,7 +26,7 @@ unfolding fitSides size index voxel range voxels onBorder gap near touch apart t
 grid-rules = tt
 
 unfoldable measuring-rules : Unit {0}
-unfolding measuredNegative measuredNonNegative unless least greatest isIn negatives larger largest inside facing greatestFacing
+unfolding isMissing beyond measuredNegative measuredNonNegative unless least greatest isIn negatives larger largest inside facing greatestFacing
 measuring-rules = tt
 
 unfoldable begin-rules : Unit {0}
@@ -45,7 +46,7 @@ unfolding unfitCounts unfitVoxel unfit wrongLength carved carve taken take toOpe
 call-rules = tt
 
 unfoldable worked-cases : Unit {0}
-unfolding start carvedTo ended caseA plate valuesC caseC layerD valuesD caseD valuesArc arc bar
+unfolding start carvedTo ended caseA plate valuesC caseC layerD valuesD caseD valuesArc arc bar cube
 worked-cases = tt
 
 unfoldable pub all-rules : Unit {0}
@@ -78,4 +79,18 @@ the-numbers =
       index = refl;
       gone = refl;
       inside = refl;
+    }
+
+pub long-tunnels : LongTunnels
+unfolding all-rules
+long-tunnels =
+    record {
+      too-high = refl;
+      too-low = refl;
+      lowest = refl;
+      side-first = refl;
+      length-first = refl;
+      border-after = refl;
+      none-after = refl;
+      taken = refl;
     }

@@ -14,6 +14,7 @@ use Rattle.cells.specs.Cells.{passes}
 use Rattle.prelude.proofs.Bools.{and-true, true-and, or-true, or-false, not-false, not-both, two}
 use Rattle.rules.specs.declared.Sides.{Sides}
 use Rattle.rules.specs.declared.Record.{Record}
+use Rattle.rules.specs.Value.{stray}
 use Rattle.rules.specs.Grid.{fitSides, size, range, voxels, onBorder, isNegative, measuredNegative, valueAt, distanceAt}
 use Rattle.rules.specs.Checks.{_when_, AllHold}
 use Rattle.rules.specs.Meaning.{negative}
@@ -31,6 +32,7 @@ use Rattle.rules.proofs.Checks.{hold-append}
 -- a grid that begin accepts
 pub record Beginnable (s : Sides) (values : List ℤ) : Type 0 where
   pub sides : fitSides s ≡ true
+  pub known : any stray values ≡ false
   pub border : (i : ℕ) → i < size s → onBorder s i ≡ true → measuredNegative (valueAt values i) ≡ false
   pub some : ℕ
   pub some-negative : negative s values some ≡ true
@@ -38,10 +40,11 @@ pub record Beginnable (s : Sides) (values : List ℤ) : Type 0 where
 pub beginnable : (s : Sides) (values dist : List ℤ) (status : List ℕ) → AllHold (beginChecks s values dist status) → Beginnable s values
 unfolding voxels
 beginnable s values dist status h =
-    let v = any-below (λ i. measuredNegative (valueAt values i)) (size s) (not-false _ (h .1 .1 .1 .0)) in
+    let v = any-below (λ i. measuredNegative (valueAt values i)) (size s) (not-false _ (h .1 .1 .1 .1 .0)) in
     record {
       sides = not-false (fitSides s) (h .0);
-      border = checked-border s values (h .1 .1 .0);
+      known = h .1 .1 .0;
+      border = checked-border s values (h .1 .1 .1 .0);
       some = v .0;
       some-negative = true-and (ltb (v .0) (size s)) (measuredNegative (valueAt values (v .0))) (lt-ltb (v .0) (size s) (v .1)) (v .2);
     }

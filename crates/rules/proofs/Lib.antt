@@ -12,5 +12,6 @@ pub mod Topology
 pub mod Neighbours
 pub mod Demand
 pub mod NeverUnfit
+pub mod LongRange
 pub mod Cases
 pub mod Wrong

@@ -10,6 +10,7 @@ use Rattle.rules.specs.declared.Sides.{Sides}
 use Rattle.rules.specs.declared.Record.{Record}
 use Rattle.rules.specs.Grid.{fitSides, size, voxel, voxels, onBorder, touch, taxicab, shareFace, neighbourhood, facePositions, measuredNegative}
 use Rattle.rules.specs.Grid.{measuredNonNegative, amount, valueAt}
+use Rattle.rules.specs.Value.{stray}
 use Rattle.rules.specs.Checks.{Check, _when_, unless}
 use Rattle.rules.specs.Answer.{done, Outcome, outcome, untouched, Buffers, buffers}
 
@@ -91,6 +92,7 @@ abbrev pub beginChecks : Sides → List ℤ → List ℤ → List ℕ → List C
 beginChecks s values dist status =
     1 when not (fitSides s)
     ∷ 2 when not (eqb (length values) (size s) && (eqb (length dist) (size s) && eqb (length status) (size s)))
+    ∷ 28 when any stray values
     ∷ 3 when any (λ i. onBorder s i && measuredNegative (valueAt values i)) (voxels s)
     ∷ 4 when not (any (λ i. measuredNegative (valueAt values i)) (voxels s))
     ∷ []

@@ -3,12 +3,12 @@
 use mathlib.Core.Path.{_≡_}
 use mathlib.Core.Bool.{Bool, true, false}
 use mathlib.Core.List.{List, [], _∷_, _++_, map}
-use Prim.Native.Nat.{ℕ}
+use Prim.Native.Nat.{ℕ, _+_}
 use lib.ListN.{length, replicate}
 use lib.IntN.{ℤ, pos, negsuc}
 use Rattle.rules.specs.declared.Sides.{Sides}
 use Rattle.rules.specs.declared.Record.{Record}
-use Rattle.rules.specs.Grid.{distanceAt}
+use Rattle.rules.specs.Grid.{missing, distanceAt}
 use Rattle.rules.specs.Answer.{Reply, refused, done}
 use Rattle.rules.specs.Begin.{begin, newRecord}
 use Rattle.rules.specs.Status.{statusOf, anyPending}
@@ -139,3 +139,30 @@ pub record Numbers : Type 0 where
   pub index : take 48 caseD .answer ≡ refused 5
   pub gone : take 0 caseD .answer ≡ refused 10
   pub inside : take 21 caseD .answer ≡ refused 11
+
+-- ---- document 02, CR 5: number 28 in its order, and the ends of the range
+
+-- 3, 3, 3: a corner, the centre, and all others
+unfoldable pub cube : ℤ → ℤ → ℤ → List ℤ
+cube corner centre others = corner ∷ replicate 12 others ++ (centre ∷ replicate 13 others)
+
+-- begin with buffers for 27 voxels
+abbrev pub answered : Sides → List ℤ → Reply Record
+answered s values = begin s 0 values (replicate 27 (pos 0)) (replicate 27 0) .answer
+
+pub record LongTunnels : Type 0 where
+  pub too-high : answered (sides 3 3 3) (cube (pos 1000000001) (negsuc 4) (pos 5)) ≡ refused 28
+  pub too-low : answered (sides 3 3 3) (cube (pos 5) (negsuc 1000000000) (pos 5)) ≡ refused 28
+  -- -2,147,483,647, which is not the missing mark
+  pub lowest : answered (sides 3 3 3) (cube (pos 5) (negsuc 2147483646) (pos 5)) ≡ refused 28
+  -- after 1 and 2, before 3 and 4
+  pub side-first : answered (sides 2 3 3) (cube (pos 1000000001) (negsuc 4) (pos 5)) ≡ refused 1
+  pub length-first : answered (sides 3 4 3) (cube (pos 1000000001) (negsuc 4) (pos 5)) ≡ refused 2
+  pub border-after : answered (sides 3 3 3) (cube (negsuc 1000000000) (negsuc 4) (pos 5)) ≡ refused 28
+  pub none-after : answered (sides 3 3 3) (cube (pos 1000000001) (pos 5) (pos 5)) ≡ refused 28
+  -- -1,000,000,000, 1,000,000,000 and the missing mark are taken: a face of the body stays at 1,000,000,000, which is M, and an edge or a corner
+  -- has 2 or 3 more
+  pub taken :
+      start (sides 3 3 3) 0 (cube missing (negsuc 999999999) (pos 1000000000)) .dist
+      ≡ map (λ d. pos (1000000000 + d)) (3 ∷ 2 ∷ 3 ∷ 2 ∷ 0 ∷ 2 ∷ 3 ∷ 2 ∷ 3 ∷ 2 ∷ 0 ∷ 2 ∷ 0 ∷ [])
+      ++ (negsuc 999999999 ∷ map (λ d. pos (1000000000 + d)) (0 ∷ 2 ∷ 0 ∷ 2 ∷ 3 ∷ 2 ∷ 3 ∷ 2 ∷ 0 ∷ 2 ∷ 3 ∷ 2 ∷ 3 ∷ []))

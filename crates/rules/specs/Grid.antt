@@ -1,13 +1,15 @@
--- Document 01, "Grid and worked distances": sides, voxels, and what a value means.
+-- Document 01, "Grid and worked distances": sides, voxels, neighbours. What a value means stands in Value.antt.
 use mathlib.Core.Bool.{Bool, true, false, not, _&&_, _||_}
 use mathlib.Core.List.{List}
 use Prim.Native.Nat.{ℕ, suc, _+_, _-_, _*_, _/_, _%_}
 use lib.Dec.{leb, ltb, eqb}
 use lib.ListN.{getD}
-use lib.IntN.{ℤ, pos, negsuc}
+use lib.IntN.{ℤ, pos}
 unfoldable pub use Rattle.prelude.specs.Lists.{range}
 pub use Rattle.prelude.specs.Integers.{isNegative}
 pub use Rattle.cells.specs.Cells.{facePositions}
+pub use Rattle.rules.specs.Value.{missing, amount}
+unfoldable pub use Rattle.rules.specs.Value.{measuredNegative, measuredNonNegative}
 use Rattle.rules.specs.declared.Sides.{Sides}
 
 -- ---- sides and voxels
@@ -82,24 +84,7 @@ neighbourhoodOf s found v p =
 unfoldable pub neighbourhood : Sides → (ℕ → Bool) → ℕ → ℕ → Bool
 neighbourhood s found i p = neighbourhoodOf s found (voxel s i) p
 
--- ---- values
-
--- -32,768
-abbrev pub missing : ℤ
-missing = negsuc 32767
-
-unfoldable pub measuredNegative : ℤ → Bool
-measuredNegative (pos v) = false
-measuredNegative (negsuc v) = not (eqb v 32767)
-
-unfoldable pub measuredNonNegative : ℤ → Bool
-measuredNonNegative (pos v) = true
-measuredNonNegative (negsuc v) = false
-
--- a value of 0 or more as a number
-abbrev pub amount : ℤ → ℕ
-amount (pos v) = v
-amount (negsuc v) = 0
+-- ---- buffers
 
 -- what the value buffer, and the distance buffer, hold at an index
 abbrev pub valueAt : List ℤ → ℕ → ℤ

@@ -1,3 +1,4 @@
+pub mod Value
 pub mod Grid
 pub mod Checks
 pub mod Answer
@@ -10,5 +11,6 @@ pub mod Fit
 pub mod Choice
 pub mod Body
 pub mod Demand
+pub mod LongRange
 pub mod Cases
 pub mod Wrong

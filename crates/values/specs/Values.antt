@@ -2,7 +2,7 @@
 use mathlib.Core.Path.{_≡_}
 use mathlib.Core.Bool.{Bool, cond, _&&_}
 use mathlib.Core.List.{List, map}
-use Prim.Native.Nat.{ℕ, zero, suc, _+_, _<_}
+use Prim.Native.Nat.{ℕ, zero, suc, _+_, _≤_}
 use lib.Dec.{eqb}
 use lib.IntN.{ℤ, pos}
 use lib.ListN.{length, getD}
@@ -35,4 +35,4 @@ workedBy m values d = map (λ k. workedTo m (valueAt values k) (getD d k 0)) (ra
 pub record Fillable (values d dist m : ℕ) : Type 0 where
   pub d-len : d ≡ values
   pub dist-len : dist ≡ values
-  pub m-high : m < 32768
+  pub m-high : m ≤ 1000000000

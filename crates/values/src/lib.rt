@@ -1,30 +1,56 @@
 // What a measured value means, and the scans of the values: labels, M, the worked distances. Signed numbers stop here.
 ghost use mathlib.Core.Path.{_≡_};
-ghost use mathlib.Core.Bool.{cond};
-ghost use Prim.Native.Nat.{_<_};
+ghost use mathlib.Core.Bool.{false, cond};
+ghost use Prim.Native.Nat.{_≤_};
 ghost use lib.Dec.{eqb};
 ghost use lib.IntN.{pos};
 ghost use lib.Signed.{ltZ};
 ghost use lib.ListN.{length};
-ghost use Rattle.rules.specs.Grid.{measuredNegative};
+ghost use Rattle.prelude.specs.Lists.{any};
+ghost use Rattle.rules.specs.Value.{beyond as beyondOf, stray, measuredNegative};
 ghost use Rattle.values.specs.Values.{labelsOf, greatestBy, workedTo, workedBy, Fillable};
 
-// Measured and negative: -32,768 stands for a missing point.
-pub fn negative(v: i16) -> bool
+// Measured, and not from -bound to bound.
+pub fn beyond(v: i32, bound: u32) -> bool
+    ensures { λ r. ⌜ r ≡ beyondOf bound v ⌝ }
+{
+    if v < 0 {
+        let m = (!v) as u32;
+        return (bound <= m) & (m != 2147483647);
+    }
+    bound < v as u32
+}
+
+// Whether some value is.
+pub fn any_beyond(values: &[i32], bound: u32) -> bool
+    ensures { λ r. ⌜ r ≡ any (beyondOf bound) (now (values .entry)) ⌝ }
+{
+    let mut found = false;
+    let mut i = 0;
+    while i < values.len() {
+        let v = values[i];
+        found = found | beyond(v, bound);
+        i += 1;
+    }
+    found
+}
+
+// Measured and negative: -2,147,483,648 stands for a missing point.
+pub fn negative(v: i32) -> bool
     ensures { λ r. ⌜ r ≡ measuredNegative v ⌝ }
 {
-    (v < 0) & (v != -32768)
+    (v < 0) & (v != -2147483648)
 }
 
 // 1 where the value is measured and negative, else 0.
-fn label_of(v: i16) -> u8
+fn label_of(v: i32) -> u8
     ensures { λ r. ⌜ r ≡ cond (measuredNegative v) 1 0 ⌝ }
 {
     if negative(v) { 1 } else { 0 }
 }
 
 // The label of each voxel, before any flood.
-pub fn labels(status: &mut [u8], values: &[i16])
+pub fn labels(status: &mut [u8], values: &[i32])
     requires { ⌜ length (now status) ≡ length (now values) ⌝ }
     ensures { λ _. ⌜ now (status .exit) ≡ labelsOf (now (values .entry)) ⌝ }
 {
@@ -37,7 +63,7 @@ pub fn labels(status: &mut [u8], values: &[i16])
 }
 
 // The value of a voxel 1 step from S, and 1 of any other.
-fn beside(v: i16, d: u8) -> i16
+fn beside(v: i32, d: u8) -> i32
     ensures { λ r. ⌜ r ≡ cond (eqb d 1) v (pos 1) ⌝ }
 {
     if d == 1 {
@@ -47,7 +73,7 @@ fn beside(v: i16, d: u8) -> i16
 }
 
 // The greater of two values. Two selects, and no branch around a store: so a compiler does many voxels at a time.
-fn greater(m: i16, v: i16) -> i16
+fn greater(m: i32, v: i32) -> i32
     ensures { λ r. ⌜ r ≡ cond (ltZ m v) v m ⌝ }
 {
     if m < v {
@@ -57,11 +83,11 @@ fn greater(m: i16, v: i16) -> i16
 }
 
 // M: the greatest value of a voxel 1 step from S, and at least 1.
-pub fn greatest(values: &[i16], d: &[u8]) -> u32
-    requires { ⌜ length (now d) ≡ length (now values) ⌝ }
-    ensures { λ r. ⌜ (r ≡ greatestBy (now (values .entry)) (now (d .entry))) × (r < 32768) ⌝ }
+pub fn greatest(values: &[i32], d: &[u8]) -> u32
+    requires { ⌜ (length (now d) ≡ length (now values)) × (any stray (now values) ≡ false) ⌝ }
+    ensures { λ r. ⌜ (r ≡ greatestBy (now (values .entry)) (now (d .entry))) × (r ≤ 1000000000) ⌝ }
 {
-    let mut m: i16 = 1;
+    let mut m: i32 = 1;
     let mut i = 0;
     while i < values.len() {
         let v = values[i];
@@ -73,24 +99,24 @@ pub fn greatest(values: &[i16], d: &[u8]) -> u32
 }
 
 // The worked distance of a voxel of value v that is d steps from S.
-fn worked_at(v: i16, d: u8, m: u32) -> i32
-    requires { ⌜ m < 32768 ⌝ }
+fn worked_at(v: i32, d: u8, m: u32) -> i32
+    requires { ⌜ m ≤ 1000000000 ⌝ }
     ensures { λ r. ⌜ r ≡ workedTo m v d ⌝ }
 {
     if d == 0 {
-        return v as i32;
+        return v;
     }
     if d == 1 {
         if v < 0 {
             return m as i32;
         }
-        return v as i32;
+        return v;
     }
     (m + d as u32) as i32
 }
 
 // The worked distances of all voxels.
-pub fn fill(values: &[i16], d: &[u8], m: u32, dist: &mut [i32])
+pub fn fill(values: &[i32], d: &[u8], m: u32, dist: &mut [i32])
     requires { ⌜ Fillable (length (now values)) (length (now d)) (length (now dist)) m ⌝ }
     ensures { λ _. ⌜ now (dist .exit) ≡ workedBy m (now (values .entry)) (now (d .entry)) ⌝ }
 {

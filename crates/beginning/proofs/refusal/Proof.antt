@@ -6,6 +6,7 @@ use native.Mathlib.Omega.{arith}
 use lib.ListN.{length}
 use Rattle.cells.specs.Groups.{any}
 use Rattle.prelude.proofs.Bools.{not-true, not-false}
+use Rattle.rules.specs.Value.{stray}
 use Rattle.rules.specs.Grid.{fitSides, size, range}
 use Rattle.rules.specs.Checks.{firstFailing}
 use Rattle.rules.specs.Begin.{beginChecks}
@@ -22,8 +23,8 @@ returns : tie.Need-returns
 returns c =
     let f = c .before in
     let a = f .before .before .args in
-    sym (number-is (a .sides) (a .values .now) (a .dist .now) (a .status .now) false _ _ _
-    (sym (f .fit-sides .ensures) ∙ not-true _ (c .if1 .taken)) refl refl refl)
+    sym (number-is (a .sides) (a .values .now) (a .dist .now) (a .status .now) false _ _ _ _
+    (sym (f .fit-sides .ensures) ∙ not-true _ (c .if1 .taken)) refl refl refl refl)
 
 -- past the first check
 abbrev sided : tie.Else1 → tie.Start
@@ -42,8 +43,8 @@ refused-2 : (c : tie.After-voxel-count) → let a = sided (c .before) .args in l
 refused-2 c wrong =
     let a = sided (c .before) .args in
     let e = c .voxel-count .ensures .0 in
-    sym (number-is (a .sides) (a .values .now) (a .dist .now) (a .status .now) true false _ _ (fits (c .before))
-    (wrong-lengths (a .sides) (a .values .now) (a .dist .now) (a .status .now) (λ p q r. wrong (omega arith) (omega arith) (omega arith))) refl refl)
+    sym (number-is (a .sides) (a .values .now) (a .dist .now) (a .status .now) true false _ _ _ (fits (c .before))
+    (wrong-lengths (a .sides) (a .values .now) (a .dist .now) (a .status .now) (λ p q r. wrong (omega arith) (omega arith) (omega arith))) refl refl refl)
 
 returns-2 : tie.Need-returns-2
 returns-2 c = refused-2 (c .before) (λ p q r. let z : ⊥ = omega (arith, c .if2 .taken) in z)
@@ -71,44 +72,62 @@ sized c =
     let v = c .before .before in
     record { sides = fits (v .before .before); len = omega (arith, v .if2 .left, v .before .voxel-count .ensures .0) }
 
-border-negative-requires : tie.Need-border-negative-requires
-border-negative-requires c κs = sized c
+any-beyond-requires : tie.Need-any-beyond-requires
+any-beyond-requires c κs = search needs
 
 returns-5 : tie.Need-returns-5
 returns-5 c =
     let b = c .before in
     let l = b .before in
     let a = lent l .args in
-    sym (number-is (a .sides) (a .values .now) (a .dist .now) (a .status .now) true true true _ (sized l .sides) (right l)
-    (sym (b .border-negative .ensures) ∙ c .if5 .taken) refl)
+    sym (number-is (a .sides) (a .values .now) (a .dist .now) (a .status .now) true true true _ _ (sized l .sides) (right l)
+    (sym (b .any-beyond .ensures) ∙ c .if5 .taken) refl refl)
+
+-- past the range
+abbrev ranged : tie.Else5 → tie.Else4
+ranged c = c .before .before
+
+known : (c : tie.Else5) → any stray (lent (ranged c) .args .values .now) ≡ false
+known c = sym (c .before .any-beyond .ensures) ∙ c .if5 .left
+
+border-negative-requires : tie.Need-border-negative-requires
+border-negative-requires c κs = sized (ranged c)
+
+returns-6 : tie.Need-returns-6
+returns-6 c =
+    let b = c .before in
+    let l = ranged (b .before) in
+    let a = lent l .args in
+    sym (number-is (a .sides) (a .values .now) (a .dist .now) (a .status .now) true true false true _ (sized l .sides) (right l) (known (b .before))
+    (sym (b .border-negative .ensures) ∙ c .if6 .taken) refl)
 
 -- past the border
-abbrev off : tie.Else5 → tie.Else4
+abbrev off : tie.Else6 → tie.Else5
 off c = c .before .before
 
 any-negative-requires : tie.Need-any-negative-requires
-any-negative-requires c κs = let l = off c in (omega arith, omega (arith, l .before .before .before .voxel-count .ensures .0, sized l .len))
+any-negative-requires c κs = let l = ranged (off c) in (omega arith, omega (arith, l .before .before .before .voxel-count .ensures .0, sized l .len))
 
 -- what the last scan decides
 decided : (c : tie.After-any-negative) (t : Bool) → c .any-negative .result ≡ t
-    → let a = lent (off (c .before)) .args in
-    turns (a .sides) (a .values .now) (a .dist .now) (a .status .now) true true false t
+    → let a = lent (ranged (off (c .before))) .args in
+    turns (a .sides) (a .values .now) (a .dist .now) (a .status .now) true true false false t
     ≡ firstFailing (beginChecks (a .sides) (a .values .now) (a .dist .now) (a .status .now))
 decided c t e =
     let b = c .before in
-    let l = off b in
+    let l = ranged (off b) in
     let a = lent l .args in
     let n = l .before .before .before .voxel-count in
     let all : n .result - 0 ≡ size (a .sides) = omega (arith, n .ensures .0) in
-    sym (number-is (a .sides) (a .values .now) (a .dist .now) (a .status .now) true true false t (sized l .sides) (right l)
-    (sym (b .before .border-negative .ensures) ∙ b .if5 .left)
+    sym (number-is (a .sides) (a .values .now) (a .dist .now) (a .status .now) true true false false t (sized l .sides) (right l) (known (off b))
+    (sym (b .before .border-negative .ensures) ∙ b .if6 .left)
     (ap (λ (k : ℕ). any (negativeAt (a .values .now)) (range 0 k)) (sym all) ∙ sym (c .any-negative .ensures) ∙ e))
 
-returns-6 : tie.Need-returns-6
-returns-6 c = decided (c .before) false (not-true _ (c .if6 .taken))
-
 returns-7 : tie.Need-returns-7
-returns-7 c = decided (c .before) true (not-false _ (c .if6 .left))
+returns-7 c = decided (c .before) false (not-true _ (c .if7 .taken))
+
+returns-8 : tie.Need-returns-8
+returns-8 c = decided (c .before) true (not-false _ (c .if7 .left))
 
 pub refusal-spec : {M : Type 1} → statement M
 refusal-spec =
@@ -120,8 +139,10 @@ refusal-spec =
     returns-2
     returns-3
     returns-4
-    border-negative-requires
+    any-beyond-requires
     returns-5
-    any-negative-requires
+    border-negative-requires
     returns-6
-    returns-7)
+    any-negative-requires
+    returns-7
+    returns-8)

@@ -3,14 +3,14 @@ use mathlib.Core.Path.{_≡_, sym, ap, _∙_, subst₂}
 use mathlib.Core.Bool.{Bool, cond}
 use lib.IntN.{ℤ}
 use lib.Signed.{ltZ}
-use mir.Syntax.{w16}
+use mir.Syntax.{w32}
 use mir.Val.{SFits, toZ, ofZ}
 use mir.Facts.{toZ-ofZ}
 use Rattle.values.proofs.greater.Statement.{statement}
 use Rattle.values.proofs.greater.Tie as tie
 
 -- a test of the bits is that of the numbers
-tested : {m v : ℤ} {t : Bool} → SFits w16 m → SFits w16 v → ltZ (toZ w16 (ofZ w16 m)) (toZ w16 (ofZ w16 v)) ≡ t → ltZ m v ≡ t
+tested : {m v : ℤ} {t : Bool} → SFits w32 m → SFits w32 v → ltZ (toZ w32 (ofZ w32 m)) (toZ w32 (ofZ w32 v)) ≡ t → ltZ m v ≡ t
 tested {t = t} h k e = subst₂ (λ (x y : ℤ). ltZ x y ≡ t) (toZ-ofZ h) (toZ-ofZ k) e
 
 returns : tie.Need-returns

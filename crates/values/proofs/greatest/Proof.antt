@@ -5,17 +5,18 @@ use mathlib.Core.Bool.{Bool, true, false, cond}
 use mathlib.Core.List.{map}
 use native.Mathlib.Omega.{arith}
 use borrow.Author.Needs.{needs, sfits-of}
-use mir.Syntax.{w16}
+use mir.Syntax.{w32}
 use mir.Val.{toZ, ofZ}
 use mir.Facts.{toZ-ofZ, toZ-pos}
 use lib.Dec.{eqb}
 use lib.ListN.{length, getD}
 use lib.IntN.{ℤ, pos}
 use Rattle.cells.specs.Groups.{filter}
+use Rattle.rules.proofs.LongRange.{none-stray}
 use Rattle.rules.specs.Grid.{range, amount, missing, valueAt}
 use Rattle.rules.specs.Begin.{greatest}
 use Rattle.values.specs.Values.{counts, greatestBy}
-use Rattle.values.proofs.Signs.{raised, pos-fits}
+use Rattle.values.proofs.Signs.{raised, in-range}
 use Rattle.loops.proofs.Orders.{getD-within}
 use Rattle.loops.proofs.Below.{greatest-more}
 use Rattle.values.proofs.greatest.Statement.{statement}
@@ -23,7 +24,7 @@ use Rattle.values.proofs.greatest.Tie as tie
 
 abbrev Inv-loop : tie.InvT-loop
 Inv-loop values d m₀ i₀ m i =
-    (i ≤ length values) × (1 ≤ m) × (m < 32768) × (m ≡ greatest 1 (map (λ k. amount (valueAt values k)) (filter (counts values d) (range 0 i))))
+    (i ≤ length values) × (1 ≤ m) × (m ≤ 1000000000) × (m ≡ greatest 1 (map (λ k. amount (valueAt values k)) (filter (counts values d) (range 0 i))))
 
 abbrev μ-loop : tie.MeasureT-loop
 μ-loop values d m₀ i₀ m i = length values - i
@@ -61,20 +62,21 @@ loop-again c =
     let l = t .before in
     let a = l .before .before .args in
     let i = l .loop .i in
+    let x = valueAt (a .values .now) i in
     let is =
-    raised (getD (a .d .now) i 0) (valueAt (a .values .now) i) (l .loop .inv .1) (l .loop .inv .2) (c .greater .ensures)
+    raised (getD (a .d .now) i 0) x (l .loop .inv .1) (l .loop .inv .2) (c .greater .ensures)
     (toZ-ofZ (sfits-of (w .beside .ok))
     ∙ w .beside .ensures
     ∙ ap (λ (x : ℤ). cond (eqb (getD (a .d .now) i 0) 1) x (pos 1))
     (toZ-ofZ (sfits-of (v .v .given)) ∙ getD-within (a .values .now) i (pos 0) missing (t .loop-test .taken))) in
     let g = counts (a .values .now) (a .d .now) i in
-    let e : ofZ w16 (c .greater .result) ≡ cond g (max (amount (valueAt (a .values .now) i)) (l .loop .m)) (l .loop .m) = ap (ofZ w16) is in
-    let f = pos-fits (sfits-of (c .greater .ok)) is in (
+    let e : ofZ w32 (c .greater .result) ≡ cond g (max (amount x) (l .loop .m)) (l .loop .m) = ap (ofZ w32) is in
+    let known = none-stray (a .values .now) (l .before .before .pre .1) i in (
       omega (arith, t .loop-test .taken),
-      omega (arith, subst (λ (x : ℕ). 1 ≤ x) (sym e) (at-least g (amount (valueAt (a .values .now) i)) (l .loop .inv .1))),
-      omega arith,
+      subst (λ (m : ℕ). 1 ≤ m) (sym e) (at-least g (amount x) (l .loop .inv .1)),
+      subst (λ (m : ℕ). m ≤ 1000000000) (sym e) (in-range g x known (l .loop .inv .2)),
       e
-          ∙ ap (λ (x : ℕ). cond g (max (amount (valueAt (a .values .now) i)) x) x) (l .loop .inv .3)
+          ∙ ap (λ (m : ℕ). cond g (max (amount x) m) m) (l .loop .inv .3)
           ∙ sym (greatest-more (λ k. amount (valueAt (a .values .now) k)) (counts (a .values .now) (a .d .now)) 1 i),
     )
   where
@@ -83,8 +85,8 @@ loop-again c =
     at-least false n h = h
 
 -- M as a number
-number : (c : tie.After-loop Inv-loop μ-loop) → toZ w16 (c .before .loop .m) ≡ pos (c .before .loop .m)
-number c = toZ-pos w16 (omega (arith, c .before .loop .inv .2))
+number : (c : tie.After-loop Inv-loop μ-loop) → toZ w32 (c .before .loop .m) ≡ pos (c .before .loop .m)
+number c = toZ-pos w32 (omega (arith, c .before .loop .inv .2))
 
 cast-result : tie.Need-cast-result Inv-loop μ-loop
 cast-result c = rw (number c) (tt, record { fits = omega (arith, c .before .loop .inv .2) })
