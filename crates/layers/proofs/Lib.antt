@@ -1,3 +1,5 @@
 pub mod Sizes
+pub mod Widths
+pub mod Strays
 pub mod Reading
 pub mod Examples

@@ -1,9 +1,10 @@
--- A layer record: what holds where no check fails, and that a layer that is found lies in the file.
-use mathlib.Core.Path.{_≡_}
+-- A layer record: what holds where no check fails, and where the layer then lies.
+use mathlib.Core.Path.{_≡_, sym, subst, _∙_}
 use mathlib.Core.Bool.{true}
 use mathlib.Core.List.{List}
-use Prim.Native.Nat.{ℕ}
+use Prim.Native.Nat.{ℕ, _+_, _*_, _≤_, _<_}
 use native.Mathlib.Omega.{arith}
+use lib.ListN.{length}
 use borrow.Author.Tests.{ltb-false, leb-false}
 use Rattle.prelude.proofs.Bools.{not-false}
 use Rattle.rules.specs.declared.Sides.{Sides}
@@ -11,16 +12,37 @@ use Rattle.rules.specs.Grid.{fitSides}
 use Rattle.rules.specs.Checks.{AllHold}
 use Rattle.rules.specs.Answer.{refused, done}
 use Rattle.rules.proofs.Checks.{by-checks}
+use Rattle.words.specs.Words.{Width}
 use Rattle.layers.specs.declared.LayerSpan.{LayerSpan}
-use Rattle.layers.specs.Layer.{layerChecks, readLayerChecks, Readable, layerAt, readLayer}
+use Rattle.layers.specs.Layer.{area, recordLength, layerChecks, readLayerChecks, Readable, layerAt, readLayer, stretch}
 use Rattle.layers.specs.Part.{Within}
+use Rattle.layers.proofs.Sizes.{length-part}
+use Rattle.layers.proofs.Widths.{width-is}
 
-pub span-is : (l m : LayerSpan) → l .z ≡ m .z → l .from ≡ m .from → l .to ≡ m .to → l ≡ m
-span-is l m e f g = λ i. record { z = e i; from = f i; to = g i }
+pub span-is : (l m : LayerSpan) → l .z ≡ m .z → l .width ≡ m .width → l .from ≡ m .from → l .to ≡ m .to → l ≡ m
+span-is l m e w f g = λ i. record { z = e i; width = w i; from = f i; to = g i }
+
+-- a layer of the grid, in the file, with as many bytes as its values have
+pub record Placed (s : Sides) (file : List ℕ) (l : LayerSpan) : Type 0 where
+  pub z-below : l .z < s .c
+  pub width-is : Width (l .width)
+  pub ordered : l .from ≤ l .to
+  pub in-file : l .to ≤ length file
+  pub long : length (stretch file l) ≡ l .width * area s
 
 module _ (s : Sides) (file : List ℕ) (start : ℕ) where
   pub readable : fitSides s ≡ true → AllHold (layerChecks s file start) → Readable s file start
   readable e h = record { fits = e; whole = ltb-false _ _ (h .0); z-below = leb-false _ _ (h .1 .1 .0) }
+
+  pub placed : Readable s file start → (l : LayerSpan) → l ≡ layerAt s file start → Placed s file l
+  placed r l e =
+      subst (Placed s file) (sym e) (record {
+        z-below = r .z-below;
+        width-is = width-is file start;
+        ordered = omega arith;
+        in-file = r .whole;
+        long = length-part file (start + 3) (start + recordLength s file start) (omega arith) (r .whole) ∙ omega arith;
+      })
 
   pub found-within : Within file (readLayer s file start)
   unfolding readLayer

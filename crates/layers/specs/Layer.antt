@@ -1,9 +1,10 @@
--- Document 01, "The grid file": a layer record, its checks, reading it, and its values in the buffer of the whole grid.
+-- Document 01, "The grid file", with the wide layers of document 02's CR 5: a layer record, its checks, reading it, and its values in the buffer of the
+-- whole grid.
 use mathlib.Core.Path.{_≡_}
-use mathlib.Core.Bool.{not, true}
+use mathlib.Core.Bool.{not, cond, true, _||_}
 use mathlib.Core.List.{List, [], _∷_, _++_}
 use Prim.Native.Nat.{ℕ, _+_, _-_, _*_, _≤_, _<_}
-use lib.Dec.{leb, ltb}
+use lib.Dec.{leb, ltb, eqb}
 use lib.ListN.{length, take, drop}
 use lib.IntN.{ℤ}
 use Rattle.rules.specs.declared.Sides.{Sides}
@@ -13,17 +14,30 @@ use Rattle.rules.specs.Answer.{Reply, refused, done}
 use Rattle.words.specs.Words.{byteAt, tagged, valuesOf}
 use Rattle.layers.specs.declared.LayerSpan.{LayerSpan}
 
--- ---- hex 56 4C, byte z, then a times b values of 16 bits in index order
+-- ---- hex 56 4C, byte z, then a times b values of two bytes in index order; or hex 56 57 with four bytes a value
 
--- the bytes of a value
-abbrev pub width : ℕ
-width = 2
+abbrev pub narrowKind : ℕ
+narrowKind = 0x4C
+
+abbrev pub wideKind : ℕ
+wideKind = 0x57
+
+-- of a record whose values have so many bytes
+abbrev pub kindOf : ℕ → ℕ
+kindOf width = cond (eqb width 4) wideKind narrowKind
 
 abbrev pub area : Sides → ℕ
 area s = s .a * s .b
 
-abbrev pub layerLength : Sides → ℕ
-layerLength s = 3 + width * area s
+abbrev pub layerLength : Sides → ℕ → ℕ
+layerLength s width = 3 + width * area s
+
+-- four bytes a value if a record's first two bytes are the wide mark, otherwise two: so it is measured before its mark is looked at
+unfoldable pub widthAt : List ℕ → ℕ → ℕ
+widthAt file start = cond (tagged wideKind file start) 4 2
+
+abbrev pub recordLength : Sides → List ℕ → ℕ → ℕ
+recordLength s file start = layerLength s (widthAt file start)
 
 abbrev pub zAt : List ℕ → ℕ → ℕ
 zAt file start = byteAt file (start + 2)
@@ -32,8 +46,8 @@ zAt file start = byteAt file (start + 2)
 
 abbrev pub layerChecks : Sides → List ℕ → ℕ → List Check
 layerChecks s file start =
-    21 when ltb (length file) (start + layerLength s)
-    ∷ 22 when not (tagged 0x4C file start)
+    21 when ltb (length file) (start + recordLength s file start)
+    ∷ 22 when not (tagged narrowKind file start || tagged wideKind file start)
     ∷ 23 when leb (s .c) (zAt file start)
     ∷ []
 
@@ -44,13 +58,13 @@ readLayerChecks s file start = 1 when not (fitSides s) ∷ layerChecks s file st
 -- what holds where none of them fails
 pub record Readable (s : Sides) (file : List ℕ) (start : ℕ) : Type 0 where
   pub fits : fitSides s ≡ true
-  pub whole : start + layerLength s ≤ length file
+  pub whole : start + recordLength s file start ≤ length file
   pub z-below : zAt file start < s .c
 
--- ---- reading a layer: its z, and from which byte of the file up to which its values stand
+-- ---- reading a layer: its z, the bytes of a value, and from which byte of the file up to which its values stand
 
 abbrev pub layerAt : Sides → List ℕ → ℕ → LayerSpan
-layerAt s file start = record { z = zAt file start; from = start + 3; to = start + layerLength s }
+layerAt s file start = record { z = zAt file start; width = widthAt file start; from = start + 3; to = start + recordLength s file start }
 
 unfoldable pub readLayer : Sides → List ℕ → ℕ → Reply LayerSpan
 readLayer s file start = unless (readLayerChecks s file start) refused (done (layerAt s file start))
@@ -59,7 +73,9 @@ readLayer s file start = unless (readLayerChecks s file start) refused (done (la
 abbrev pub stretch : List ℕ → LayerSpan → List ℕ
 stretch file l = take (l .to - l .from) (drop (l .from) file)
 
+unfoldable pub valuesIn : Sides → List ℕ → LayerSpan → List ℤ
+valuesIn s file l = valuesOf (l .width) (area s) (stretch file l)
+
 -- the values of the whole grid, with a layer's where they belong
 unfoldable pub withLayer : Sides → List ℕ → List ℤ → LayerSpan → List ℤ
-withLayer s file values l =
-    take (l .z * area s) values ++ (valuesOf width (area s) (stretch file l) ++ drop (l .z * area s + area s) values)
+withLayer s file values l = take (l .z * area s) values ++ (valuesIn s file l ++ drop (l .z * area s + area s) values)

@@ -10,7 +10,7 @@ use Rattle.layers.specs.declared.LayerPart.{LayerPart}
 use Rattle.layers.specs.Layer.{stretch}
 
 abbrev pub layerAnswer : LayerAnswer → Reply LayerSpan
-layerAnswer (LayerAnswer.Found z from to) = done (record { z = z; from = from; to = to })
+layerAnswer (LayerAnswer.Found z width from to) = done (record { z = z; width = width; from = from; to = to })
 layerAnswer (LayerAnswer.Refused n) = refused n
 
 -- the bytes of a layer that was found; none of one that was refused
@@ -28,7 +28,7 @@ pub record Part : Type 0 where
   pub bytes : List ℕ
   pub answer : Reply LayerSpan
 
--- the value bytes with z, or else the number with no bytes
+-- the value bytes with z and width, or else the number with no bytes
 abbrev pub handedBack : List ℕ → Reply LayerSpan → Part
 handedBack file r = record { bytes = bytesOf file r; answer = r }
 

@@ -1,25 +1,33 @@
 // A layer record of the grid file: reading it as a part of the caller's file, and its values into the buffer of the whole grid.
 ghost use mathlib.Core.Path.{_≡_};
 ghost use mathlib.Core.Bool.{true};
-ghost use Prim.Native.Nat.{_*_, _≤_};
+ghost use Prim.Native.Nat.{_+_, _*_, _≤_};
 ghost use lib.ListN.{length};
+ghost use Rattle.prelude.specs.Lists.{any};
+ghost use Rattle.rules.specs.Value.{stray};
 ghost use Rattle.rules.specs.Grid.{fitSides, size};
 ghost use Rattle.rules.specs.Checks.{firstFailing};
-ghost use Rattle.words.specs.Words.{valuesOf};
+ghost use Rattle.words.specs.Words.{Width, valuesOf};
 ghost use Rattle.layers.specs.Layer as spec;
-ghost use Rattle.layers.specs.Layer.{layerLength, layerChecks, Readable, layerAt, readLayer, withLayer};
+ghost use Rattle.layers.specs.Layer.{layerLength, widthAt, recordLength, layerChecks, Readable, layerAt, readLayer, valuesIn, withLayer};
 ghost use Rattle.layers.specs.Part.{layerAnswer, bytesOf, Within, handedBack, partOf};
 use rules::Sides;
 
-// A layer where it stands: its z, and from which byte of the file up to which its values stand.
+// A layer where it stands: its z, the bytes of a value, and from which byte of the file up to which its values stand.
 pub struct LayerSpan {
     pub z: u8,
+    pub width: u8,
     pub from: usize,
     pub to: usize,
 }
 
 pub enum LayerAnswer {
-    Found { z: u8, from: usize, to: usize },
+    Found {
+        z: u8,
+        width: u8,
+        from: usize,
+        to: usize,
+    },
     Refused(u8),
 }
 
@@ -38,11 +46,33 @@ pub fn area(sides: Sides) -> usize
     sides.a * sides.b
 }
 
-pub fn layer_length(sides: Sides) -> usize
-    requires { ⌜ fitSides sides ≡ true ⌝ }
-    ensures { λ r. ⌜ r ≡ layerLength sides ⌝ }
+// Of a record whose values have so many bytes.
+pub fn layer_length(sides: Sides, width: usize) -> usize
+    requires { ⌜ (fitSides sides ≡ true) × (Width width) ⌝ }
+    ensures { λ r. ⌜ (r ≡ layerLength sides width) × (r ≤ 16387) ⌝ }
 {
-    3 + 2 * area(sides)
+    3 + width * area(sides)
+}
+
+// How many bytes a value has in the record that begins at start, which may lie anywhere: bytes past the end are no mark.
+fn width_at(file: &[u8], start: usize) -> usize
+    ensures { λ r. ⌜ (r ≡ widthAt (now (file .entry)) start) × (Width r) ⌝ }
+{
+    if words::is_short(file.len(), start, 2) {
+        return 2;
+    }
+    if words::is_tagged(file, start, 0x57) {
+        return 4;
+    }
+    2
+}
+
+// Of the record that begins at start.
+pub fn record_length(sides: Sides, file: &[u8], start: usize) -> usize
+    requires { ⌜ fitSides sides ≡ true ⌝ }
+    ensures { λ r. ⌜ (r ≡ recordLength sides (now (file .entry)) start) × (r ≤ 16387) ⌝ }
+{
+    layer_length(sides, width_at(file, start))
 }
 
 // ---- reading a record
@@ -52,10 +82,11 @@ pub fn layer_refusal(sides: Sides, file: &[u8], start: usize) -> u8
     requires { ⌜ fitSides sides ≡ true ⌝ }
     ensures { λ r. ⌜ r ≡ firstFailing (layerChecks sides (now (file .entry)) start) ⌝ }
 {
-    if words::is_short(file.len(), start, layer_length(sides)) {
+    let width = width_at(file, start);
+    if words::is_short(file.len(), start, layer_length(sides, width)) {
         return 21;
     }
-    if !words::is_tagged(file, start, 0x4C) {
+    if (width == 2) & !words::is_tagged(file, start, 0x4C) {
         return 22;
     }
     if sides.c <= file[start + 2] as usize {
@@ -69,10 +100,12 @@ pub fn layer_at(sides: Sides, file: &[u8], start: usize) -> LayerSpan
     requires { ⌜ Readable sides (now file) start ⌝ }
     ensures { λ r. ⌜ r ≡ layerAt sides (now (file .entry)) start ⌝ }
 {
+    let width = width_at(file, start);
     LayerSpan {
         z: file[start + 2],
+        width: width as u8,
         from: start + 3,
-        to: start + layer_length(sides),
+        to: start + layer_length(sides, width),
     }
 }
 
@@ -89,6 +122,7 @@ pub fn layer(sides: Sides, file: &[u8], start: usize) -> LayerAnswer
     let l = layer_at(sides, file, start);
     LayerAnswer::Found {
         z: l.z,
+        width: l.width,
         from: l.from,
         to: l.to,
     }
@@ -98,13 +132,19 @@ fn part(file: &[u8], answer: LayerAnswer) -> &[u8]
     requires { ⌜ Within (now file) (layerAnswer answer) ⌝ }
     ensures { λ r. ⌜ now r ≡ bytesOf (now (file .entry)) (layerAnswer answer) ⌝ }
 {
-    let LayerAnswer::Found { z: _, from, to } = answer else {
+    let LayerAnswer::Found {
+        z: _,
+        width: _,
+        from,
+        to,
+    } = answer
+    else {
         return &file[0..0];
     };
     &file[from..to]
 }
 
-// Reading a layer: its value bytes as a part of the caller's file, with z, or else the number.
+// Reading a layer: its value bytes as a part of the caller's file, with z and width, or else the number.
 pub fn read_layer<'a>(sides: Sides, file: &'a [u8], start: usize) -> LayerPart<'a>
     ensures { λ r. ⌜ partOf r ≡ handedBack (now (file .entry)) (readLayer sides (now (file .entry)) start) ⌝ }
 {
@@ -117,22 +157,52 @@ pub fn read_layer<'a>(sides: Sides, file: &'a [u8], start: usize) -> LayerPart<'
 
 // ---- a record's values
 
-// Two bytes each.
-fn fill_layer(bytes: &[u8], values: &mut [i16])
-    requires { ⌜ length (now bytes) ≡ spec.width * length (now values) ⌝ }
-    ensures { λ _. ⌜ now (values .exit) ≡ valuesOf spec.width (length (now (values .entry))) (now (bytes .entry)) ⌝ }
+// Whether one of count values, of so many bytes each, is neither in the range nor the missing mark.
+fn any_stray(bytes: &[u8], width: usize, count: usize) -> bool
+    requires { ⌜ (Width width) × (length (now bytes) ≡ width * count) ⌝ }
+    ensures { λ r. ⌜ r ≡ any stray (valuesOf width count (now (bytes .entry))) ⌝ }
+{
+    let mut found = false;
+    let mut i = 0;
+    while i < count {
+        let v = words::value(bytes, width * i, width);
+        found = found | values::beyond(v, 1000000000);
+        i += 1;
+    }
+    found
+}
+
+// The same of a record's values. No value of two bytes is out of the range.
+pub fn has_stray(sides: Sides, file: &[u8], start: usize) -> bool
+    requires { ⌜ Readable sides (now file) start ⌝ }
+    ensures { λ r. ⌜ r ≡ any stray (valuesIn sides (now (file .entry)) (layerAt sides (now (file .entry)) start)) ⌝ }
+{
+    let l = layer_at(sides, file, start);
+    if l.width == 2 {
+        return false;
+    }
+    let from = l.from;
+    let to = l.to;
+    any_stray(&file[from..to], l.width as usize, area(sides))
+}
+
+// So many bytes each.
+fn fill_layer(bytes: &[u8], width: usize, values: &mut [i32])
+    requires { ⌜ (Width width) × (length (now bytes) ≡ width * length (now values)) ⌝ }
+    ensures { λ _. ⌜ now (values .exit) ≡ valuesOf width (length (now (values .entry))) (now (bytes .entry)) ⌝ }
 {
     let mut i = 0;
     while i < values.len() {
-        values[i] = words::value(bytes, 2 * i);
+        values[i] = words::value(bytes, width * i, width);
         i += 1;
     }
 }
 
-// Into the buffer of the whole grid, where they belong.
-pub fn fill_record(sides: Sides, file: &[u8], start: usize, values: &mut [i16])
+// Into the buffer of the whole grid, where they belong; the answer is where the record ends.
+pub fn fill_record(sides: Sides, file: &[u8], start: usize, values: &mut [i32]) -> usize
     requires { ⌜ (Readable sides (now file) start) × (length (now values) ≡ size sides) ⌝ }
-    ensures { λ _. ⌜ now (values .exit) ≡ withLayer sides (now (file .entry)) (now (values .entry)) (layerAt sides (now (file .entry)) start) ⌝ }
+    ensures { λ r. ⌜ (now (values .exit) ≡ withLayer sides (now (file .entry)) (now (values .entry)) (layerAt sides (now (file .entry)) start))
+        × (r ≡ start + recordLength sides (now (file .entry)) start) ⌝ }
 {
     let l = layer_at(sides, file, start);
     let from = l.from;
@@ -140,5 +210,6 @@ pub fn fill_record(sides: Sides, file: &[u8], start: usize, values: &mut [i16])
     let count = area(sides);
     let at = (l.z as usize) * count;
     let end = at + count;
-    fill_layer(&file[from..to], &mut values[at..end]);
+    fill_layer(&file[from..to], l.width as usize, &mut values[at..end]);
+    to
 }

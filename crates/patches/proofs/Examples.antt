@@ -1,16 +1,17 @@
 -- The worked patches, by computation.
 use mathlib.Core.Path.{refl}
 use Rattle.rules.specs.Checks.{firstFailing}
-use Rattle.words.specs.Words.{signed, valueOf}
+use Rattle.words.specs.Words.{signed, widened, valueOf}
 use Rattle.patches.specs.Patch.{checksOf, appliedOf}
 use Rattle.patches.specs.Examples.{Examples}
 
 pub examples : Examples
-unfolding firstFailing signed valueOf checksOf appliedOf
+unfolding firstFailing signed widened valueOf checksOf appliedOf
 examples =
     record {
       later-stands = refl;
-      missing = refl;
+      missing-mark = refl;
+      over-wide = refl;
       without = refl;
       taken = refl;
       one-byte = refl;

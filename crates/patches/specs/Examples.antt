@@ -4,6 +4,7 @@ use mathlib.Core.List.{List, [], _∷_, _++_}
 use Prim.Native.Nat.{ℕ}
 use lib.ListN.{replicate, take}
 use lib.IntN.{pos, negsuc}
+use Rattle.rules.specs.Value.{missing}
 use Rattle.rules.specs.Checks.{firstFailing}
 use Rattle.patches.specs.Patch.{patchesChecks, patched}
 
@@ -14,7 +15,9 @@ patch low high value = 0x56 ∷ 0x50 ∷ low ∷ high ∷ 0 ∷ 0 ∷ value ∷ 
 pub record Examples : Type 0 where
   -- from byte 1 on: voxel 2 gets 7, then voxel 0 gets 9, then voxel 2 gets 8, which stands
   pub later-stands : patched (1 ∷ patch 2 0 7 ++ (patch 0 0 9 ++ patch 2 0 8)) 1 (replicate 4 (pos 0)) ≡ pos 9 ∷ pos 0 ∷ pos 8 ∷ pos 0 ∷ []
-  pub missing : patched (0x56 ∷ 0x50 ∷ 1 ∷ 0 ∷ 0 ∷ 0 ∷ 0x00 ∷ 0x80 ∷ []) 0 (replicate 2 (pos 0)) ≡ pos 0 ∷ negsuc 32767 ∷ []
+  -- a patch is narrow, whatever the layer was: its missing mark is widened, and so is -1
+  pub missing-mark : patched (0x56 ∷ 0x50 ∷ 1 ∷ 0 ∷ 0 ∷ 0 ∷ 0x00 ∷ 0x80 ∷ []) 0 (replicate 2 (pos 0)) ≡ pos 0 ∷ missing ∷ []
+  pub over-wide : patched (0x56 ∷ 0x50 ∷ 1 ∷ 0 ∷ 0 ∷ 0 ∷ 0xFF ∷ 0xFF ∷ []) 0 (replicate 2 (pos 100000)) ≡ pos 100000 ∷ negsuc 0 ∷ []
   pub without : patched (1 ∷ []) 1 (pos 3 ∷ []) ≡ pos 3 ∷ []
   pub taken : firstFailing (patchesChecks 27 (patch 26 0 7 ++ patch 0 0 9) 0) ≡ 0
   -- each number

@@ -9,7 +9,7 @@ fn index_at(file: &[u8], start: usize) -> usize
     requires { ⌜ start + patchLength ≤ length (now file) ⌝ }
     ensures { λ r. ⌜ (r ≡ indexAt (now (file .entry)) start) × (r < 4294967296) ⌝ }
 {
-    words::long_word(file, start + 2) as usize
+    words::word(file, start + 2, 4) as usize
 }
 
 // The number that the record at start is refused with, in a grid of n voxels, or 0.
@@ -44,14 +44,14 @@ pub fn patches_refusal(n: usize, file: &[u8], start: usize) -> u8
 }
 
 // Into the values, in file order, of records that were checked.
-pub fn apply_patches(file: &[u8], start: usize, values: &mut [i16])
+pub fn apply_patches(file: &[u8], start: usize, values: &mut [i32])
     requires { ⌜ AllHold (patchesChecks (length (now values)) (now file) start) ⌝ }
     ensures { λ _. ⌜ now (values .exit) ≡ patched (now (file .entry)) start (now (values .entry)) ⌝ }
 {
     let mut at = start;
     while at < file.len() {
         let i = index_at(file, at);
-        values[i] = words::value(file, at + 6);
+        values[i] = words::value(file, at + 6, 2);
         at += 8;
     }
 }

@@ -1,11 +1,12 @@
 -- The worked values, by computation.
 use mathlib.Core.Path.{refl}
 use Rattle.prelude.specs.Lists.{range}
-use Rattle.words.specs.Words.{signed, valueOf, valuesOf, unsigned, valueBytes}
+use Rattle.rules.specs.Value.{isMissing}
+use Rattle.words.specs.Words.{signed, widened, valueOf, valuesOf, unsigned, narrowed, valueBytes}
 use Rattle.words.specs.Examples.{Examples}
 
 pub examples : Examples
-unfolding range signed valueOf valuesOf unsigned valueBytes
+unfolding range isMissing signed widened valueOf valuesOf unsigned narrowed valueBytes
 examples =
     record {
       two-bytes = refl;
@@ -15,12 +16,17 @@ examples =
       minus-six-wide = refl;
       greatest = refl;
       missing = refl;
+      missing-wide = refl;
+      measured-wide = refl;
+      greatest-wide = refl;
       in-order = refl;
       two-written = refl;
       four-written = refl;
       minus-six-written = refl;
       minus-six-written-wide = refl;
       missing-written = refl;
+      missing-written-wide = refl;
+      measured-written-wide = refl;
       right-tag = refl;
       wrong-kind = refl;
       wrong-first = refl;

@@ -1,3 +1,4 @@
 pub mod Examples
 pub mod Turning
 pub mod Bytes
+pub mod Widening

@@ -1,43 +1,57 @@
--- A value of 16 bits as the number that its bits are: as it is where it is not negative, else by all its bits turned.
-use mathlib.Core.Path.{_≡_, refl, ap, subst, _∙_}
-use mathlib.Core.Bool.{Bool, true, false, true≢false}
-use Prim.Native.Nat.{suc, _-_, _<_}
+-- A value of 32 bits among the numbers of so many bytes: as it is where it is not negative, else by all its bits turned.
+use mathlib.Core.Path.{_≡_, refl, sym, ap, subst, _∙_}
+use mathlib.Core.Bool.{true, false}
+use Prim.Native.Nat.{ℕ, suc, _+_, _-_, _≤_, _<_}
 use native.Mathlib.Omega.{arith}
 use lib.IntN.{ℤ, pos, negsuc}
 use lib.Signed.{ltZ, mag}
-use mir.Syntax.{w16}
+use mir.Syntax.{w32}
 use mir.Val.{SFits, toZ, ofZ}
-use mir.Facts.{toZ-ofZ, toZ-pos}
-use borrow.Author.Tests.{ltb-true}
-use Rattle.words.specs.Words.{unsigned}
+use mir.Facts.{toZ-ofZ}
+use lib.Dec.{eqb}
+use borrow.Author.Tests.{ne-eqb}
+use Rattle.prelude.proofs.Signs.{below, not-below, sign}
+use Rattle.words.specs.Words.{unsigned, Holds, narrowed}
+use Rattle.words.proofs.Bytes.{narrowed-mark, narrowed-other, narrowed-pos, held-from, held-below}
 
-not-below : (z : ℤ) → ltZ z (pos 0) ≡ false → z ≡ pos (mag z)
-not-below (pos n) e = refl
-not-below (negsuc n) e = absurd (true≢false e)
+-- the negative numbers, counted from the top
+pub from-top : (h n : ℕ) → h ≤ n → n < h + h → h - 1 - (n - h) ≡ h + h - 1 - n
+from-top h n a b = omega arith
 
-below : (z : ℤ) → ltZ z (pos 0) ≡ true → z ≡ negsuc (mag z)
-below (pos n) e = let l = ltb-true n 0 e in let z : ⊥ = omega arith in absurd z
-below (negsuc n) e = refl
+pub bits-turned : (k : ℕ) → 4294967295 - k ≡ 4294967296 - suc k
+bits-turned k = omega arith
 
-module _ (z : ℤ) (h : SFits w16 z) where
-  pub small : mag z < 32768
-  small = h .sfits
+module _ (z : ℤ) (h : SFits w32 z) where
+  -- the mark by its bits, and that another value is not the mark
+  pub mark-by-bits : ofZ w32 z ≡ 2147483648 → z ≡ negsuc 2147483647
+  mark-by-bits e = sym (toZ-ofZ h) ∙ ap (toZ w32) e
 
-  sign : {t : Bool} → ltZ (toZ w16 (ofZ w16 z)) (pos 0) ≡ t → ltZ z (pos 0) ≡ t
-  sign {t} e = subst (λ (x : ℤ). ltZ x (pos 0) ≡ t) (toZ-ofZ h) e
+  pub no-mark : (ofZ w32 z ≡ 2147483648 → ⊥) → ltZ (toZ w32 (ofZ w32 z)) (pos 0) ≡ true → eqb (mag z) 2147483647 ≡ false
+  no-mark n e = ne-eqb (mag z) 2147483647 (λ f. n (ap (ofZ w32) (below z (sign z h e) ∙ ap negsuc f)))
 
-  pub as-it-is : ltZ (toZ w16 (ofZ w16 z)) (pos 0) ≡ false → toZ w16 (ofZ w16 z) ≡ pos (mag z)
-  as-it-is e = toZ-ofZ h ∙ not-below z (sign e)
+  -- ---- what stands for it among twice n numbers
 
-  pub as-it-is-stands : ltZ (toZ w16 (ofZ w16 z)) (pos 0) ≡ false → mag z ≡ unsigned 32768 z
+  module _ (n : ℕ) (held : Holds n z) where
+    pub stands-high : ltZ (toZ w32 (ofZ w32 z)) (pos 0) ≡ false → mag z ≤ n - 1
+    stands-high e = held-from n (mag z) (subst (Holds n) (not-below z (sign z h e)) held)
+
+    pub stands : ltZ (toZ w32 (ofZ w32 z)) (pos 0) ≡ false → mag z ≡ unsigned n (narrowed n z)
+    unfolding unsigned
+    stands e = sym (ap (λ (x : ℤ). unsigned n (narrowed n x)) (not-below z (sign z h e)) ∙ ap (unsigned n) (narrowed-pos n (mag z)))
+
+    module _ (other : ofZ w32 z ≡ 2147483648 → ⊥) (e : ltZ (toZ w32 (ofZ w32 z)) (pos 0) ≡ true) where
+      pub turned-low : mag z < n - 1
+      turned-low = held-below n (mag z) (subst (Holds n) (below z (sign z h e)) held) (no-mark other e)
+
+      pub stands-turned : n + (n - 1 - mag z) ≡ unsigned n (narrowed n z)
+      unfolding unsigned
+      stands-turned =
+          let q : n + (n - 1 - mag z) ≡ n + n - 1 - mag z = omega (arith, turned-low) in
+          q
+          ∙ sym (ap (λ (x : ℤ). unsigned n (narrowed n x)) (below z (sign z h e)) ∙ ap (unsigned n) (narrowed-other n (mag z) (no-mark other e)))
+
+  pub stands-mark : (n : ℕ) → 1 ≤ n → ofZ w32 z ≡ 2147483648 → n ≡ unsigned n (narrowed n z)
   unfolding unsigned
-  as-it-is-stands e = rw (not-below z (sign e)) refl
-
-  pub turned : ltZ (toZ w16 (ofZ w16 z)) (pos 0) ≡ true → toZ w16 (65535 - ofZ w16 z) ≡ pos (mag z)
-  turned e =
-      let k : 65535 - (65536 - suc (mag z)) ≡ mag z = omega (arith, small) in
-      ap (λ (x : ℤ). toZ w16 (65535 - ofZ w16 x)) (below z (sign e)) ∙ ap (toZ w16) k ∙ toZ-pos w16 small
-
-  pub turned-stands : ltZ (toZ w16 (ofZ w16 z)) (pos 0) ≡ true → 65535 - mag z ≡ unsigned 32768 z
-  unfolding unsigned
-  turned-stands e = rw (below z (sign e)) refl
+  stands-mark n l e =
+      let q : n ≡ n + n - 1 - (n - 1) = omega arith in
+      q ∙ sym (ap (λ (x : ℤ). unsigned n (narrowed n x)) (mark-by-bits e) ∙ ap (unsigned n) (narrowed-mark n 2147483647 refl))

@@ -1,2 +1,3 @@
 pub mod Words
 pub mod Examples
+pub mod Widening

@@ -1,51 +1,72 @@
-// What stands in a file's bytes: a number, a value, a record's tag, and whether so many bytes are left; numbers and values written.
+// What stands in a file's bytes: a number of two or four bytes, a value, a record's tag, and whether so many bytes are left; numbers and values written.
 ghost use mathlib.Core.Path.{_≡_};
 ghost use Prim.Native.Nat.{_+_, _<_, _≤_};
 ghost use lib.Dec.{ltb};
 ghost use lib.ListN.{length};
 ghost use lib.Seq.{sets};
 ghost use Rattle.words.specs.Words as spec;
-ghost use Rattle.words.specs.Words.{half, valueOf, wordBytes, valueBytes, tagged};
+ghost use Rattle.words.specs.Words.{Width, half, Holds, valueOf, wordBytes, valueBytes, tagged};
 
-fn wide(x: u8) -> u16
+// ---- read
+
+fn wide(x: u8) -> u32
     ensures { λ r. ⌜ (r ≡ x) × (r < 256) ⌝ }
 {
-    x as u16
+    x as u32
 }
 
-// A number of two bytes, low byte first.
-pub fn word(bytes: &[u8], at: usize) -> u16
+fn two_bytes(bytes: &[u8], at: usize) -> u32
     requires { ⌜ at + 2 ≤ length (now bytes) ⌝ }
-    ensures { λ r. ⌜ r ≡ spec.word 2 (now (bytes .entry)) at ⌝ }
+    ensures { λ r. ⌜ (r ≡ spec.word 2 (now (bytes .entry)) at) × (r < 65536) ⌝ }
 {
     wide(bytes[at]) + 256 * wide(bytes[at + 1])
 }
 
-// A number of four bytes.
-pub fn long_word(bytes: &[u8], at: usize) -> u32
-    requires { ⌜ at + 4 ≤ length (now bytes) ⌝ }
-    ensures { λ r. ⌜ r ≡ spec.word 4 (now (bytes .entry)) at ⌝ }
+// A number of so many bytes, low byte first.
+pub fn word(bytes: &[u8], at: usize, width: usize) -> u32
+    requires { ⌜ (Width width) × (at + width ≤ length (now bytes)) ⌝ }
+    ensures { λ r. ⌜ (r ≡ spec.word width (now (bytes .entry)) at) × (r < half width + half width) ⌝ }
 {
-    (word(bytes, at) as u32) + 65536 * (word(bytes, at + 2) as u32)
+    let low = two_bytes(bytes, at);
+    if width == 2 {
+        return low;
+    }
+    low + 65536 * two_bytes(bytes, at + 2)
+}
+
+// Half of the numbers of so many bytes: the one that marks a missing point.
+fn half_of(width: usize) -> u32
+    requires { ⌜ Width width ⌝ }
+    ensures { λ r. ⌜ (r ≡ half width) × (1 ≤ r) × (r ≤ 2147483648) ⌝ }
+{
+    if width == 2 {
+        return 32768;
+    }
+    2147483648
 }
 
 // Two's complement.
-fn signed(n: u16) -> i16
-    ensures { λ r. ⌜ r ≡ spec.signed (half 2) n ⌝ }
+fn signed(h: u32, n: u32) -> i32
+    requires { ⌜ (1 ≤ h) × (h ≤ 2147483648) × (n < h + h) ⌝ }
+    ensures { λ r. ⌜ r ≡ spec.signed h n ⌝ }
 {
-    if n < 32768 {
-        n as i16
-    } else {
-        !((65535 - n) as i16)
+    if n < h {
+        return n as i32;
     }
+    !((h - 1 - (n - h)) as i32)
 }
 
-// A measured value of two bytes.
-pub fn value(bytes: &[u8], at: usize) -> i16
-    requires { ⌜ at + 2 ≤ length (now bytes) ⌝ }
-    ensures { λ r. ⌜ r ≡ valueOf 2 (now (bytes .entry)) at ⌝ }
+// A value of so many bytes, its missing mark as the one of 32 bits.
+pub fn value(bytes: &[u8], at: usize, width: usize) -> i32
+    requires { ⌜ (Width width) × (at + width ≤ length (now bytes)) ⌝ }
+    ensures { λ r. ⌜ r ≡ valueOf width (now (bytes .entry)) at ⌝ }
 {
-    signed(word(bytes, at))
+    let n = word(bytes, at, width);
+    let h = half_of(width);
+    if n == h {
+        return -2147483648;
+    }
+    signed(h, n)
 }
 
 // Fewer bytes are left from start on; start may lie anywhere.
@@ -67,30 +88,46 @@ pub fn is_tagged(file: &[u8], start: usize, kind: u8) -> bool
 
 // ---- written
 
-// A number as two bytes, low byte first.
-pub fn put_word(bytes: &mut [u8], at: usize, n: u16)
-    requires { ⌜ at + 2 ≤ length (now bytes) ⌝ }
+fn put_two_bytes(bytes: &mut [u8], at: usize, n: u32)
+    requires { ⌜ (at + 2 ≤ length (now bytes)) × (n < 65536) ⌝ }
     ensures { λ _. ⌜ now (bytes .exit) ≡ sets (now (bytes .entry)) at (wordBytes 2 n) ⌝ }
 {
     bytes[at] = (n % 256) as u8;
     bytes[at + 1] = (n / 256) as u8;
 }
 
-// Two's complement.
-fn unsigned(v: i16) -> u16
-    ensures { λ r. ⌜ r ≡ spec.unsigned (half 2) v ⌝ }
+// A number as so many bytes, low byte first.
+pub fn put_word(bytes: &mut [u8], at: usize, width: usize, n: u32)
+    requires { ⌜ (Width width) × (at + width ≤ length (now bytes)) × (n < half width + half width) ⌝ }
+    ensures { λ _. ⌜ now (bytes .exit) ≡ sets (now (bytes .entry)) at (wordBytes width n) ⌝ }
 {
+    if width == 2 {
+        put_two_bytes(bytes, at, n);
+        return;
+    }
+    put_two_bytes(bytes, at, n % 65536);
+    put_two_bytes(bytes, at + 2, n / 65536);
+}
+
+// Two's complement, the missing mark as the one of that half.
+fn unsigned(h: u32, v: i32) -> u32
+    requires { ⌜ (1 ≤ h) × (h ≤ 2147483648) × (Holds h v) ⌝ }
+    ensures { λ r. ⌜ (r ≡ spec.unsigned h (spec.narrowed h v)) × (r < h + h) ⌝ }
+{
+    if v == -2147483648 {
+        return h;
+    }
     if v < 0 {
-        65535 - ((!v) as u16)
+        h + (h - 1 - (!v) as u32)
     } else {
-        v as u16
+        v as u32
     }
 }
 
-// A measured value as two bytes.
-pub fn put_value(bytes: &mut [u8], at: usize, v: i16)
-    requires { ⌜ at + 2 ≤ length (now bytes) ⌝ }
-    ensures { λ _. ⌜ now (bytes .exit) ≡ sets (now (bytes .entry)) at (valueBytes 2 v) ⌝ }
+// A value as so many bytes.
+pub fn put_value(bytes: &mut [u8], at: usize, width: usize, v: i32)
+    requires { ⌜ (Width width) × (at + width ≤ length (now bytes)) × (Holds (half width) v) ⌝ }
+    ensures { λ _. ⌜ now (bytes .exit) ≡ sets (now (bytes .entry)) at (valueBytes width v) ⌝ }
 {
-    put_word(bytes, at, unsigned(v));
+    put_word(bytes, at, width, unsigned(half_of(width), v));
 }

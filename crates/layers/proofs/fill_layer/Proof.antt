@@ -1,34 +1,37 @@
 -- `layers::fill_layer` meets its contract.
 use mathlib.Core.Path.{_∙_}
-use Prim.Native.Nat.{_-_, _*_}
+use Prim.Native.Nat.{_+_, _-_, _*_, _≤_}
 use native.Mathlib.Omega.{arith}
 use lib.ListN.{length}
 use lib.IntN.{pos}
 use mir.Facts.{toZ-ofZ}
 use borrow.Author.Needs.{needs, sfits-of}
-use Rattle.words.specs.Words.{valueOf, valuesOf}
-use Rattle.layers.specs.Layer.{width}
 use Rattle.prelude.proofs.Filling.{Filling, filling-start, filling-next, filling-done}
+use Rattle.words.specs.Words.{valueOf, valuesOf}
+use Rattle.layers.proofs.Sizes.{value-room}
 use Rattle.layers.proofs.fill_layer.Statement.{statement}
 use Rattle.layers.proofs.fill_layer.Tie as tie
 
 abbrev Inv-loop : tie.InvT-loop
-Inv-loop bytes values₀ i₀ values i = Filling (λ k. valueOf width bytes (width * k)) (pos 0) (length values₀) values i
+Inv-loop bytes width values₀ i₀ values i = Filling (λ k. valueOf width bytes (width * k)) (pos 0) (length values₀) values i
 
 abbrev μ-loop : tie.MeasureT-loop
-μ-loop bytes values₀ i₀ values i = length values₀ - i
+μ-loop bytes width values₀ i₀ values i = length values₀ - i
+
+room : (c : tie.In-loop Inv-loop μ-loop) → let l = c .before in let a = l .before .before .args in a .width * l .loop .i + a .width ≤ length (a .bytes .now)
+room c = let l = c .before in value-room _ _ _ _ (l .before .before .pre .1) (omega (arith, c .loop-test .taken, l .loop .inv .long))
 
 loop-holds : tie.Need-loop-holds Inv-loop μ-loop
 loop-holds c = filling-start _ _ _
 
 mul-value : tie.Need-mul-value Inv-loop μ-loop
-mul-value c = search needs
+mul-value c = omega (arith, room c)
 
 value-requires : tie.Need-value-requires Inv-loop μ-loop
-value-requires c κs = search needs
+value-requires c κs = (c .before .before .before .pre .0, room c)
 
-mul-t7 : tie.Need-mul-t7 Inv-loop μ-loop
-mul-t7 c = search needs
+mul-t8 : tie.Need-mul-t8 Inv-loop μ-loop
+mul-t8 c = search needs
 
 slice-set-from-values : tie.Need-slice-set-from-values Inv-loop μ-loop
 slice-set-from-values c = search needs
@@ -61,7 +64,7 @@ fill-layer-spec =
     loop-holds
     mul-value
     value-requires
-    mul-t7
+    mul-t8
     slice-set-from-values
     add-i
     loop-less

@@ -1,33 +1,50 @@
 -- `layers::layer_refusal` meets its contract.
-use mathlib.Core.Path.{_≡_, ap, sym, _∙_}
-use mathlib.Core.Bool.{true, false}
+use mathlib.Core.Path.{_≡_, ap, ap₂, sym, _∙_}
+use mathlib.Core.Bool.{Bool, false, not, _&&_, _||_}
 use Prim.Native.Nat.{ℕ, _+_, _≤_}
 use native.Mathlib.Omega.{arith}
 use borrow.Author.Needs.{needs}
-use borrow.Author.Tests.{ltb-false, le-leb, lt-leb, not-true, not-false}
-use lib.Dec.{ltb}
+use borrow.Author.Tests.{ltb-false, le-leb, lt-leb}
+use lib.Dec.{ltb, eqb}
 use lib.ListN.{length}
 use Rattle.rules.specs.Checks.{firstFailing}
 use Rattle.words.specs.Words.{tagged}
-use Rattle.layers.specs.Layer.{layerLength}
+use Rattle.layers.specs.Layer.{narrowKind, wideKind, layerLength, recordLength}
+use Rattle.layers.proofs.Widths.{wrong-mark}
 use Rattle.layers.proofs.layer_refusal.Statement.{statement}
 use Rattle.layers.proofs.layer_refusal.Tie as tie
 
 -- the checks, by what the code found at each
 short : (c : tie.After-is-short) →
-    let a = c .before .before .before .args in ltb (length (a .file .now)) (a .start + layerLength (a .sides)) ≡ c .is-short .result
+    let a = c .before .before .before .before .args in
+    ltb (length (a .file .now)) (a .start + recordLength (a .sides) (a .file .now) (a .start)) ≡ c .is-short .result
 short c =
-    let a = c .before .before .before .args in
-    sym (c .is-short .ensures ∙ ap (λ (k : ℕ). ltb (length (a .file .now)) (a .start + k)) (c .before .layer-length .ensures))
+    let l = c .before in
+    let w = l .before in
+    let a = w .before .before .args in
+    sym (c .is-short .ensures
+    ∙ ap (λ (k : ℕ). ltb (length (a .file .now)) (a .start + k)) (l .layer-length .ensures .0 ∙ ap (layerLength (a .sides)) (w .width-at .ensures .0)))
 
-enough : (c : tie.Else1) → let a = c .before .before .before .before .args in ltb (length (a .file .now)) (a .start + layerLength (a .sides)) ≡ false
+enough : (c : tie.Else1) →
+    let a = c .before .before .before .before .before .args in
+    ltb (length (a .file .now)) (a .start + recordLength (a .sides) (a .file .now) (a .start)) ≡ false
 enough c = short (c .before) ∙ c .if1 .left
 
-whole : (c : tie.Else1) → let a = c .before .before .before .before .args in a .start + layerLength (a .sides) ≤ length (a .file .now)
+whole : (c : tie.Else1) →
+    let a = c .before .before .before .before .before .args in a .start + recordLength (a .sides) (a .file .now) (a .start) ≤ length (a .file .now)
 whole c = ltb-false _ _ (enough c)
 
-right : (c : tie.Else2) → let a = c .before .before .before .before .before .before .args in tagged 0x4C (a .file .now) (a .start) ≡ true
-right c = sym (c .before .is-tagged .ensures) ∙ not-false _ (c .if2 .left)
+wrong : (c : tie.After-is-tagged) →
+    let w = c .before .before .before .before in
+    let a = w .before .before .args in
+    not (tagged narrowKind (a .file .now) (a .start) || tagged wideKind (a .file .now) (a .start)) ≡ eqb (w .width-at .result) 2 && not (c .is-tagged .result)
+wrong c =
+    let w = c .before .before .before .before in
+    let a = w .before .before .args in
+    wrong-mark (a .file .now) (a .start) ∙ sym (ap₂ (λ (k : ℕ) (t : Bool). eqb k 2 && not t) (w .width-at .ensures .0) (c .is-tagged .ensures))
+
+width-at-requires : tie.Need-width-at-requires
+width-at-requires c κs = search needs
 
 layer-length-requires : tie.Need-layer-length-requires
 layer-length-requires c κs = search needs
@@ -44,11 +61,7 @@ is-tagged-requires c κs = omega (arith, whole c)
 
 returns-2 : tie.Need-returns-2
 unfolding firstFailing
-returns-2 c =
-    let t = c .before in
-    let a = t .before .before .before .before .before .args in
-    let wrong : tagged 0x4C (a .file .now) (a .start) ≡ false = sym (t .is-tagged .ensures) ∙ not-true (t .is-tagged .result) (c .if2 .taken) in
-    simp (enough (t .before), wrong)
+returns-2 c = simp (enough (c .before .before), wrong (c .before) ∙ c .if2 .taken)
 
 add-if3 : tie.Need-add-if3
 add-if3 c = omega (arith, whole (c .before .before))
@@ -58,25 +71,26 @@ shared-slice-read-if3 c = omega (arith, whole (c .before .before .before))
 
 cast-if3 : tie.Need-cast-if3
 cast-if3 c =
-    let a = c .before .before .before .before .before .before .before .args in
+    let a = c .before .before .before .before .before .before .before .before .args in
     omega (arith, c .shared-slice-known2 .given (a .start + 2))
 
 returns-3 : tie.Need-returns-3
 unfolding firstFailing
 returns-3 c =
     let t = c .before .before .before in
-    simp (enough (t .before .before), right t, le-leb _ _ (c .if3 .taken))
+    simp (enough (t .before .before), wrong (t .before) ∙ t .if2 .left, le-leb _ _ (c .if3 .taken))
 
 returns-4 : tie.Need-returns-4
 unfolding firstFailing
 returns-4 c =
     let t = c .before .before .before in
-    simp (enough (t .before .before), right t, lt-leb _ _ (c .if3 .left))
+    simp (enough (t .before .before), wrong (t .before) ∙ t .if2 .left, lt-leb _ _ (c .if3 .left))
 
 pub layer-refusal-spec : {M : Type 1} → statement M
 layer-refusal-spec =
     tie.close
     (tie.spec
+    width-at-requires
     layer-length-requires
     is-short-requires
     returns

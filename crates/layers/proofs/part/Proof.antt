@@ -11,7 +11,7 @@ use Rattle.layers.proofs.part.Tie as tie
 lies : (c : tie.After-answer) →
     let a = c .before .before .args in
     let found = c .answer .given .0 in
-    Within (a .file .now) (layerAnswer (LayerAnswer.Found (found .0) (found .1 .0) (found .1 .1 .0)))
+    Within (a .file .now) (layerAnswer (LayerAnswer.Found (found .0) (found .1 .0) (found .1 .1 .0) (found .1 .1 .1 .0)))
 lies c = let a = c .before .before in subst (λ (x : LayerAnswer). Within (a .args .file .now) (layerAnswer x)) (c .answer .given .1) (a .pre)
 
 enum-known-answer : tie.Need-enum-known-answer

@@ -1,5 +1,6 @@
 -- `patches::apply_patches` meets its contract.
-use mathlib.Core.Path.{ap, _∙_}
+use mathlib.Core.Path.{refl, ap, _∙_}
+use mathlib.Core.Logic.{inl}
 use Prim.Native.Nat.{_-_}
 use native.Mathlib.Omega.{arith}
 use lib.ListN.{length}
@@ -29,7 +30,7 @@ add-value : tie.Need-add-value Inv-loop μ-loop
 add-value c = omega (arith, right (c .before) .whole)
 
 value-requires : tie.Need-value-requires Inv-loop μ-loop
-value-requires c κs = omega (arith, right (c .before) .whole)
+value-requires c κs = (inl refl, omega (arith, right (c .before) .whole))
 
 mul-t9 : tie.Need-mul-t9 Inv-loop μ-loop
 mul-t9 c = omega (arith, c .before .index-at .ensures .1)
