@@ -1,76 +1,139 @@
--- The check of all layer records, one after the other: what is left to check decides the number.
+-- The check of all layer records, one after the other, and of the patches behind them: what is left to check decides the number.
 use mathlib.Core.Path.{_≡_, refl, ap, sym, _∙_}
-use mathlib.Core.Bool.{true, not}
-use mathlib.Core.List.{List, _++_}
+use mathlib.Core.Bool.{Bool, true, false, not, cond}
+use mathlib.Core.List.{List, _++_, append-assoc}
 use Prim.Native.Nat.{ℕ, zero, suc, _+_, _-_, _≤_, _<_}
 use native.Mathlib.Omega.{arith}
 use borrow.Author.Tests.{lt-ltb, le-ltb, eq-eqb, ne-eqb}
+use Rattle.prelude.specs.Lists.{any}
 use Rattle.rules.specs.declared.Sides.{Sides}
-use Rattle.rules.specs.Grid.{fitSides}
-use Rattle.rules.specs.Checks.{Check, firstFailing, AllHold}
-use Rattle.rules.proofs.Checks.{hold-none, hold-append, refused-first, held-first}
-use Rattle.layers.specs.Layer.{layerLength, zAt, layerChecks, Readable}
+use Rattle.rules.specs.Value.{stray}
+use Rattle.rules.specs.Grid.{fitSides, size}
+use Rattle.rules.specs.Checks.{Check, firstFailing, numbered, AllHold}
+use Rattle.rules.proofs.Checks.{hold-append, append-hold, refused-first, held-first}
+use Rattle.layers.specs.Layer.{recordLength, zAt, layerChecks, Readable, layerAt, valuesIn}
 use Rattle.layers.proofs.Reading.{readable}
-use Rattle.gridfile.specs.File.{headerLength, orderChecks, recordChecks, layersChecks}
+use Rattle.patches.specs.Patch.{patchesChecks}
+use Rattle.gridfile.specs.File.{headerLength, layerStart, orderChecks, rangeChecks, recordChecks, layersChecks, layersEnd, recordsChecks}
 
--- ---- the order, by a record's z
+-- ---- a record's own
 
-module _ (file : List ℕ) (start next : ℕ) where
-  pub order-repeat : zAt file start < next → 24 ≡ firstFailing (orderChecks file start next)
+pub order-holds : (file : List ℕ) (start next : ℕ) → zAt file start ≡ next → AllHold (orderChecks file start next)
+order-holds file start next e = (le-ltb (zAt file start) next (omega arith), (ap not (eq-eqb (zAt file start) next e), tt))
+
+module _ (s : Sides) (file : List ℕ) (start next : ℕ) where
+  -- the number of a record of which z can be read, by its z and its values
+  abbrev pub behind-layer : ℕ
+  behind-layer = firstFailing (orderChecks file start next ++ rangeChecks s file start)
+
+  pub repeat-refused : zAt file start < next → 24 ≡ behind-layer
   unfolding firstFailing
-  order-repeat h = rw (lt-ltb (zAt file start) next h)
+  repeat-refused h = rw (lt-ltb (zAt file start) next h)
 
-  pub order-skip : next < zAt file start → 27 ≡ firstFailing (orderChecks file start next)
+  pub skip-refused : next < zAt file start → 27 ≡ behind-layer
   unfolding firstFailing
-  order-skip h = rw (le-ltb (zAt file start) next (omega arith), ne-eqb (zAt file start) next (λ e. omega arith))
+  skip-refused h = rw (le-ltb (zAt file start) next (omega arith), ne-eqb (zAt file start) next (λ e. omega arith))
 
-  pub order-holds : zAt file start ≡ next → AllHold (orderChecks file start next)
-  order-holds e = (le-ltb (zAt file start) next (omega arith), (ap not (eq-eqb (zAt file start) next e), tt))
+  module _ (due : zAt file start ≡ next) (t : Bool) (e : t ≡ any stray (valuesIn s file (layerAt s file start))) where
+    range-decides : cond t 28 0 ≡ behind-layer
+    unfolding firstFailing
+    range-decides = rw (le-ltb (zAt file start) next (omega arith), eq-eqb (zAt file start) next due, ← e)
 
-  pub order-next : zAt file start ≡ next → 0 ≡ firstFailing (orderChecks file start next)
-  order-next e = sym (hold-none (orderChecks file start next) (order-holds e))
+    pub stray-refused : t ≡ true → 28 ≡ behind-layer
+    stray-refused f = ap (λ (t : Bool). cond t 28 0) (sym f) ∙ range-decides
+
+    pub record-taken : t ≡ false → 0 ≡ behind-layer
+    record-taken f = ap (λ (t : Bool). cond t 28 0) (sym f) ∙ range-decides
+
+  pub record Checked : Type 0 where
+    pub layer : AllHold (layerChecks s file start)
+    pub order : AllHold (orderChecks file start next)
+    pub range : AllHold (rangeChecks s file start)
+
+  pub record-checked : AllHold (recordChecks s file start next) → Checked
+  record-checked h =
+      let p = hold-append (layerChecks s file start) (orderChecks file start next ++ rangeChecks s file start) h in
+      let q = hold-append (orderChecks file start next) (rangeChecks s file start) (p .1) in
+      record { layer = p .0; order = q .0; range = q .1 }
+
+  pub checked-record : Checked → AllHold (recordChecks s file start next)
+  checked-record c =
+      append-hold (layerChecks s file start) (orderChecks file start next ++ rangeChecks s file start) (c .layer)
+      (append-hold (orderChecks file start next) (rangeChecks s file start) (c .order) (c .range))
+
+  pub record-readable : fitSides s ≡ true → AllHold (recordChecks s file start next) → Readable s file start
+  record-readable e h = readable s file start e (record-checked h .layer)
 
 -- ---- the records
 
 module _ (s : Sides) (file : List ℕ) where
-  pub record-readable : (start next : ℕ) → fitSides s ≡ true → AllHold (recordChecks s file start next) → Readable s file start
-  record-readable start next e h = readable s file start e (hold-append (layerChecks s file start) (orderChecks file start next) h .0)
-
   pub layersChecks-next :
-      (left start next : ℕ)
+      (left next : ℕ)
       → 0 < left
-      → layersChecks s file left start next ≡ recordChecks s file start next ++ layersChecks s file (left - 1) (start + layerLength s) (suc next)
+      → layersChecks s file left next ≡ recordChecks s file (layerStart s file next) next ++ layersChecks s file (left - 1) (suc next)
   unfolding layersChecks
-  layersChecks-next zero start next h = let z : ⊥ = omega arith in absurd z
-  layersChecks-next (suc left) start next h = let e : suc left - 1 ≡ left = omega arith in rw e
+  layersChecks-next zero next h = let z : ⊥ = omega arith in absurd z
+  layersChecks-next (suc left) next h = let e : suc left - 1 ≡ left = omega arith in rw e
 
-  -- the number for the file
+  pub layers-numbered : (left next : ℕ) → numbered (layersChecks s file left next) ≡ true
+  unfolding layersChecks
+  layers-numbered zero next = refl
+  layers-numbered (suc left) next = layers-numbered left (suc next)
+
+  -- the number for the records
   abbrev pub failing : ℕ
-  failing = firstFailing (layersChecks s file (s .c) headerLength 0)
+  failing = firstFailing (recordsChecks s file)
 
-  -- the layers from next on are left to check, and decide the number
-  abbrev pub Deciding : ℕ → ℕ → Type 0
-  Deciding start next = firstFailing (layersChecks s file (s .c - next) start next) ≡ failing
+  abbrev behind : List Check
+  behind = patchesChecks (size s) file (layersEnd s file)
+
+  -- the layers from next on, and the patches, are left to check, and decide the number
+  pub record Deciding (start next : ℕ) : Type 0 where
+    pub within : next ≤ s .c
+    pub there : start ≡ layerStart s file next
+    pub same : firstFailing (layersChecks s file (s .c - next) next ++ behind) ≡ failing
 
   pub deciding-start : Deciding headerLength 0
-  deciding-start = let e : s .c - 0 ≡ s .c = omega arith in rw e
+  unfolding layerStart
+  deciding-start = let e : s .c - 0 ≡ s .c = omega arith in record { within = omega arith; there = refl; same = rw e }
 
   module _ (start next : ℕ) (i : Deciding start next) where
     abbrev own : List Check
     own = recordChecks s file start next
 
     module _ (h : next < s .c) where
-      next-decides : firstFailing (own ++ layersChecks s file (s .c - next - 1) (start + layerLength s) (suc next)) ≡ failing
-      next-decides = ap firstFailing (sym (layersChecks-next (s .c - next) start next (omega arith))) ∙ i
+      abbrev after : List Check
+      after = layersChecks s file (s .c - next - 1) (suc next)
+
+      abbrev rest : List Check
+      rest = after ++ behind
+
+      next-decides : firstFailing (own ++ rest) ≡ failing
+      next-decides =
+          ap (λ (start : ℕ). firstFailing (recordChecks s file start next ++ rest)) (i .there)
+          ∙ ap firstFailing (sym (append-assoc (recordChecks s file (layerStart s file next) next) after behind))
+          ∙ ap (λ (cs : List Check). firstFailing (cs ++ behind)) (sym (layersChecks-next (s .c - next) next (omega arith)))
+          ∙ i .same
 
       pub deciding-refused : (n : ℕ) → n ≡ firstFailing own → (n ≡ 0 → ⊥) → n ≡ failing
-      deciding-refused n e f = refused-first own _ n e f ∙ next-decides
+      deciding-refused n e f = refused-first own rest n e f ∙ next-decides
 
-      pub deciding-next : (n at z : ℕ) → n ≡ firstFailing own → n ≡ 0 → at ≡ start + layerLength s → z ≡ suc next → Deciding at z
+      pub deciding-next : (n at z : ℕ) → n ≡ firstFailing own → n ≡ 0 → at ≡ start + recordLength s file start → z ≡ suc next → Deciding at z
+      unfolding layerStart
       deciding-next n at z e none a q =
           let k : s .c - suc next ≡ s .c - next - 1 = omega arith in
-          rw (a, q, k) (held-first own _ n e refl none _ refl ∙ next-decides)
+          rw (a, q) (record {
+            within = omega arith;
+            there = ap (λ (start : ℕ). start + recordLength s file start) (i .there);
+            same = rw k (held-first own rest n e refl none _ refl ∙ next-decides);
+          })
 
-    pub deciding-done : s .c ≤ next → 0 ≡ failing
-    unfolding layersChecks firstFailing
-    deciding-done h = let e : 0 ≡ s .c - next = omega arith in ap (λ (left : ℕ). firstFailing (layersChecks s file left start next)) e ∙ i
+    pub deciding-done : s .c ≤ next → (n : ℕ) → n ≡ firstFailing (patchesChecks (size s) file start) → n ≡ failing
+    unfolding layersChecks
+    deciding-done h n e =
+        let all : next ≡ s .c = omega (arith, i .within) in
+        let none : 0 ≡ s .c - next = omega arith in
+        e
+        ∙ ap (λ (start : ℕ). firstFailing (patchesChecks (size s) file start)) (i .there ∙ ap (layerStart s file) all)
+        ∙ ap (λ (left : ℕ). firstFailing (layersChecks s file left next ++ behind)) none
+        ∙ i .same

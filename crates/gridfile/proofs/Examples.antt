@@ -2,18 +2,20 @@
 use mathlib.Core.Path.{refl}
 use Rattle.prelude.specs.Lists.{any, range}
 use Rattle.rules.specs.Grid.{fitSides, size}
+use Rattle.rules.specs.Value.{isMissing, beyond}
 use Rattle.rules.specs.Checks.{unless}
 use Rattle.rules.specs.Begin.{isIn}
-use Rattle.words.specs.Words.{signed, valueOf, valuesOf}
-use Rattle.layers.specs.Layer.{withLayer}
+use Rattle.words.specs.Words.{signed, widened, valueOf, valuesOf}
+use Rattle.layers.specs.Layer.{widthAt, valuesIn, withLayer}
 use Rattle.patches.specs.Patch.{checksOf, appliedOf}
-use Rattle.gridfile.specs.File.{fitUpTo, layersChecks, layersFilled, filled, readUpTo, read}
+use Rattle.gridfile.specs.File.{fitUpTo, layerStart, layersChecks, layersFilled, filled, readUpTo, read}
 use Rattle.gridfile.specs.BottomUp.{layersInAnyOrder, readInAnyOrder}
 use Rattle.gridfile.specs.Examples.{Examples}
 
 -- all that read computes with
 unfoldable pub reading-rules : Unit {0}
-unfolding signed valueOf valuesOf withLayer checksOf appliedOf fitUpTo layersChecks layersFilled filled readUpTo read
+unfolding isMissing beyond signed widened valueOf valuesOf widthAt valuesIn withLayer checksOf appliedOf fitUpTo layerStart layersChecks layersFilled filled
+    readUpTo read
 reading-rules = tt
 
 pub examples : Examples
@@ -41,6 +43,16 @@ examples =
       bytes-after = refl;
       wrong-patch = refl;
       no-such-voxel = refl;
+      mixed = refl;
+      wide = refl;
+      patched-wide = refl;
+      wide-mark-narrow-length = refl;
+      furthest = refl;
+      too-far = refl;
+      too-deep = refl;
+      not-missing = refl;
+      last-value = refl;
+      patched-too-late = refl;
       over-in-a = refl;
       over-in-b = refl;
       over-in-c = refl;
@@ -57,4 +69,10 @@ examples =
       short-before-skip = refl;
       mark-before-skip = refl;
       layer-before-skip = refl;
+      short-before-range = refl;
+      layer-before-range = refl;
+      repeat-before-range = refl;
+      skip-before-range = refl;
+      range-before-next = refl;
+      range-before-patch = refl;
     }

@@ -1,5 +1,5 @@
--- The values of all layers, record by record, into a buffer of one value a voxel.
-use mathlib.Core.Path.{_≡_, refl, sym, subst, _∙_}
+-- The values of all layers, record by record, into a buffer of one value a voxel, and the patches behind them.
+use mathlib.Core.Path.{_≡_, refl, ap, ap₂, sym, subst, subst₂, _∙_}
 use mathlib.Core.List.{List}
 use Prim.Native.Nat.{ℕ, zero, suc, _+_, _-_, _≤_, _<_}
 use mathlib.Core.Bool.{true}
@@ -10,9 +10,10 @@ use Rattle.rules.specs.declared.Sides.{Sides}
 use Rattle.rules.specs.Grid.{fitSides, size}
 use Rattle.rules.specs.Checks.{Check, AllHold}
 use Rattle.rules.proofs.Checks.{hold-append}
-use Rattle.layers.specs.Layer.{layerLength, Readable, layerAt, withLayer}
+use Rattle.layers.specs.Layer.{recordLength, Readable, layerAt, withLayer}
 use Rattle.layers.proofs.Sizes.{length-withLayer}
-use Rattle.gridfile.specs.File.{headerLength, recordChecks, layersChecks, layersFilled, Accepted}
+use Rattle.patches.specs.Patch.{patchesChecks, patched}
+use Rattle.gridfile.specs.File.{headerLength, layerStart, recordChecks, layersChecks, layersFilled, layersEnd, Accepted, filled}
 use Rattle.gridfile.proofs.Checking.{record-readable, layersChecks-next}
 
 module _ (s : Sides) (file : List ℕ) (lent : List ℤ) where
@@ -20,47 +21,71 @@ module _ (s : Sides) (file : List ℕ) (lent : List ℤ) where
   pub record Spreading (values : List ℤ) (start left : ℕ) : Type 0 where
     pub fits : fitSides s ≡ true
     pub next : ℕ
-    pub checked : AllHold (layersChecks s file left start next)
+    pub all : next + left ≡ s .c
+    pub there : start ≡ layerStart s file next
+    pub checked : AllHold (layersChecks s file left next)
     pub long : length values ≡ size s
-    pub same : layersFilled s file left start values ≡ layersFilled s file (s .c) headerLength lent
+    pub same : layersFilled s file left next values ≡ layersFilled s file (s .c) 0 lent
 
   pub spreading-start : Accepted s file (length lent) → Spreading lent headerLength (s .c)
-  spreading-start a = record { fits = a .fits; next = 0; checked = a .layers; long = a .long; same = refl }
+  unfolding layerStart
+  spreading-start a =
+      record { fits = a .fits; next = 0; all = omega arith; there = refl; checked = a .layers; long = a .long; same = refl }
 
   layersFilled-next :
-      (values : List ℤ) (start left : ℕ)
+      (values : List ℤ) (left next : ℕ)
       → 0 < left
-      → layersFilled s file left start values ≡ layersFilled s file (left - 1) (start + layerLength s) (withLayer s file values (layerAt s file start))
+      → layersFilled s file left next values
+      ≡ layersFilled s file (left - 1) (suc next) (withLayer s file values (layerAt s file (layerStart s file next)))
   unfolding layersFilled
-  layersFilled-next values start zero h = let z : ⊥ = omega arith in absurd z
-  layersFilled-next values start (suc left) h = let e : suc left - 1 ≡ left = omega arith in rw e
+  layersFilled-next values zero next h = let z : ⊥ = omega arith in absurd z
+  layersFilled-next values (suc left) next h = let e : suc left - 1 ≡ left = omega arith in rw e
 
   module _ (values : List ℤ) (start left : ℕ) (i : Spreading values start left) (h : 0 < left) where
     abbrev own : List Check
-    own = recordChecks s file start (i .next)
+    own = recordChecks s file (layerStart s file (i .next)) (i .next)
 
     abbrev rest : List Check
-    rest = layersChecks s file (left - 1) (start + layerLength s) (suc (i .next))
+    rest = layersChecks s file (left - 1) (suc (i .next))
 
     both : (AllHold own) × (AllHold rest)
-    both = hold-append own rest (subst AllHold (layersChecks-next s file left start (i .next) h) (i .checked))
+    both = hold-append own rest (subst AllHold (layersChecks-next s file left (i .next) h) (i .checked))
 
     pub spreading-readable : Readable s file start
-    spreading-readable = record-readable s file start (i .next) (i .fits) (both .0)
+    spreading-readable = rw (i .there) (record-readable s file (layerStart s file (i .next)) (i .next) (i .fits) (both .0))
 
     pub spreading-next :
-        (new : List ℤ) (total : ℕ) → new ≡ withLayer s file values (layerAt s file start) → total ≡ layerLength s → Spreading new (start + total) (left - 1)
-    spreading-next new total en et =
-        rw (en, et) (record {
+        (new : List ℤ) (at : ℕ)
+        → new ≡ withLayer s file values (layerAt s file start)
+        → at ≡ start + recordLength s file start
+        → Spreading new at (left - 1)
+    unfolding layerStart
+    spreading-next new at en ea =
+        rw (en, ea) (record {
           fits = i .fits;
           next = suc (i .next);
+          all = omega (arith, i .all);
+          there = ap (λ (start : ℕ). start + recordLength s file start) (i .there);
           checked = both .1;
           long = length-withLayer s file values (layerAt s file start) (spreading-readable .z-below) (i .long);
-          same = sym (layersFilled-next values start left h) ∙ i .same;
+          same =
+              ap (λ (start : ℕ). layersFilled s file (left - 1) (suc (i .next)) (withLayer s file values (layerAt s file start))) (i .there)
+              ∙ sym (layersFilled-next values left (i .next) h)
+              ∙ i .same;
         })
 
-  pub spreading-done :
-      (values : List ℤ) (start left : ℕ) → Spreading values start left → left ≤ 0 → values ≡ layersFilled s file (s .c) headerLength lent
-  unfolding layersFilled
-  spreading-done values start zero i h = i .same
-  spreading-done values start (suc left) i h = let z : ⊥ = omega arith in absurd z
+  module _ (values : List ℤ) (start left : ℕ) (i : Spreading values start left) (h : left ≤ 0) where
+    spreading-end : start ≡ layersEnd s file
+    spreading-end = let e : i .next ≡ s .c = omega (arith, i .all) in i .there ∙ ap (layerStart s file) e
+
+    spreading-all : values ≡ layersFilled s file (s .c) 0 lent
+    unfolding layersFilled
+    spreading-all = let e : 0 ≡ left = omega arith in ap (λ (left : ℕ). layersFilled s file left (i .next) values) e ∙ i .same
+
+    -- the patches were checked, where they begin
+    pub spreading-patches : Accepted s file (length lent) → AllHold (patchesChecks (length values) file start)
+    spreading-patches a = subst₂ (λ (n start : ℕ). AllHold (patchesChecks n file start)) (sym (i .long)) (sym spreading-end) (a .patches)
+
+    pub spreading-done : (new : List ℤ) → new ≡ patched file start values → new ≡ filled s file lent
+    unfolding filled
+    spreading-done new e = e ∙ ap₂ (patched file) spreading-end spreading-all

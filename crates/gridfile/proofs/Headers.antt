@@ -1,9 +1,8 @@
 -- The header: what holds where none of its checks fails; that no check of read has the number 0; and what holds of a file that read takes.
-use mathlib.Core.Path.{_≡_, refl}
+use mathlib.Core.Path.{_≡_}
 use mathlib.Core.Bool.{true}
 use mathlib.Core.List.{List}
-use Prim.Native.Nat.{ℕ, zero, suc, _+_, _*_, _≤_}
-use native.Mathlib.Nat.{mul-le-mul}
+use Prim.Native.Nat.{ℕ}
 use native.Mathlib.Omega.{arith}
 use borrow.Author.Tests.{ltb-false, eqb-true}
 use lib.ListN.{length}
@@ -13,38 +12,22 @@ use Rattle.rules.specs.declared.Sides.{Sides}
 use Rattle.rules.specs.Grid.{fitSides, size}
 use Rattle.rules.specs.Checks.{Check, unless, numbered, AllHold}
 use Rattle.rules.specs.Answer.{Reply, refused, done, untouched}
-use Rattle.rules.proofs.Places.{fit}
 use Rattle.rules.proofs.Checks.{by-checks, unless-held, numbered-append, hold-append}
-use Rattle.layers.specs.Layer.{layerLength}
-use Rattle.layers.proofs.Sizes.{area-small}
 use Rattle.patches.specs.Patch.{patchesChecks}
 use Rattle.patches.proofs.Patching.{patches-numbered}
-use Rattle.gridfile.specs.File.{headerLength, sidesIn, allowedIn, fitUpTo, headerChecks, layersChecks, layersEnd, recordsChecks, readChecks}
+use Rattle.gridfile.specs.File.{sidesIn, allowedIn, fitUpTo, headerChecks, layersChecks, layersEnd, recordsChecks, readChecks}
 use Rattle.gridfile.specs.File.{Accepted, Header, accepted, readUpTo}
+use Rattle.gridfile.proofs.Checking.{layers-numbered}
 
 pub fitUpTo-fits : (greatest : ℕ) (s : Sides) → fitUpTo greatest s ≡ true → fitSides s ≡ true
 unfolding fitUpTo
 fitUpTo-fits greatest s e = and-true (fitSides s) _ e .0
 
--- where the layers end
-pub layers-end-small : (s : Sides) → fitSides s ≡ true → layersEnd s ≤ 524487
-layers-end-small s e =
-    let f = fit s e in
-    let l : layerLength s ≤ 8195 = omega (arith, area-small s e) in
-    let m : s .c * layerLength s ≤ 64 * 8195 = mul-le-mul (f .c-high) l in
-    omega arith
-
-pub layers-numbered : (s : Sides) (file : List ℕ) (left start next : ℕ) → numbered (layersChecks s file left start next) ≡ true
-unfolding layersChecks
-layers-numbered s file zero start next = refl
-layers-numbered s file (suc left) start next = layers-numbered s file left (start + layerLength s) (suc next)
-
 module _ (greatest : ℕ) (file : List ℕ) (lent : ℕ) where
   pub read-numbered : numbered (readChecks greatest file lent) ≡ true
   read-numbered =
       let s = sidesIn file in
-      numbered-append (layersChecks s file (s .c) headerLength 0) _ (layers-numbered s file (s .c) headerLength 0)
-      (patches-numbered (size s) file _ (layersEnd s))
+      numbered-append (layersChecks s file (s .c) 0) _ (layers-numbered s file (s .c) 0) (patches-numbered (size s) file _ (layersEnd s file))
 
   pub header-fits : AllHold (headerChecks greatest file lent) → fitSides (sidesIn file) ≡ true
   header-fits h = fitUpTo-fits greatest (sidesIn file) (not-false _ (h .1 .1 .0))
@@ -56,7 +39,7 @@ module _ (greatest : ℕ) (file : List ℕ) (lent : ℕ) where
   is-accepted h =
       let s = sidesIn file in
       let p = hold-append (headerChecks greatest file lent) (recordsChecks s file) h in
-      let r = hold-append (layersChecks s file (s .c) headerLength 0) (patchesChecks (size s) file (layersEnd s)) (p .1) in
+      let r = hold-append (layersChecks s file (s .c) 0) (patchesChecks (size s) file (layersEnd s file)) (p .1) in
       let own = p .0 in
       record {
         whole = ltb-false _ _ (own .0);

@@ -9,10 +9,10 @@ use Rattle.rules.specs.Grid.{size}
 use Rattle.rules.specs.Checks.{Check, unless}
 use Rattle.rules.specs.Answer.{Outcome, outcome, done, untouched}
 use Rattle.patches.proofs.Patching.{checks-none, patched-none}
-use Rattle.gridfile.specs.File.{headerLength, sidesIn, allowedIn, headerChecks, layersChecks, layersEnd, filled, Header, readUpTo}
+use Rattle.gridfile.specs.File.{sidesIn, allowedIn, headerChecks, layersChecks, layersEnd, filled, Header, readUpTo}
 use Rattle.gridfile.specs.WithoutPatches.{layersAlone, WithoutPatches}
 
-module _ (greatest : ℕ) (file : List ℕ) (lent : List ℤ) (h : length file ≤ layersEnd (sidesIn file)) where
+module _ (greatest : ℕ) (file : List ℕ) (lent : List ℤ) (h : length file ≤ layersEnd (sidesIn file) file) where
   abbrev s : Sides
   s = sidesIn file
 
@@ -20,7 +20,7 @@ module _ (greatest : ℕ) (file : List ℕ) (lent : List ℤ) (h : length file �
   header = headerChecks greatest file (length lent)
 
   abbrev layers : List Check
-  layers = layersChecks s file (s .c) headerLength 0
+  layers = layersChecks s file (s .c) 0
 
   abbrev values : List ℤ → Outcome (List ℤ) Header
   values v = outcome (done (record { sides = s; allowed = allowedIn file })) v
@@ -29,7 +29,7 @@ module _ (greatest : ℕ) (file : List ℕ) (lent : List ℤ) (h : length file �
   unfolding readUpTo filled
   layers-alone =
       ap₂ (λ (cs : List Check) (v : List ℤ). unless (header ++ (layers ++ cs)) (untouched lent) (values v))
-      (checks-none (size s) file (layersEnd s) h) (patched-none file (layersEnd s) _ h)
+      (checks-none (size s) file (layersEnd s file) h) (patched-none file (layersEnd s file) _ h)
       ∙ ap (λ (cs : List Check). unless (header ++ cs) (untouched lent) (layersAlone file lent)) (append-nil layers)
 
 pub without-patches : WithoutPatches

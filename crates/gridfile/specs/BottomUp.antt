@@ -4,7 +4,7 @@ use mathlib.Core.Path.{_≡_}
 use mathlib.Core.Logic.{_⊎_}
 use mathlib.Core.Bool.{true}
 use mathlib.Core.List.{List, [], _∷_, _++_}
-use Prim.Native.Nat.{ℕ, zero, suc, _+_, _*_, _<_}
+use Prim.Native.Nat.{ℕ, zero, suc, _+_, _<_}
 use lib.ListN.{length}
 use lib.IntN.{ℤ}
 use Rattle.rules.specs.declared.Sides.{Sides}
@@ -13,9 +13,9 @@ use Rattle.rules.specs.Checks.{Check, _when_, unless}
 use Rattle.rules.specs.Answer.{Outcome, outcome, refused, done, untouched}
 use Rattle.rules.specs.Begin.{isIn}
 use Rattle.words.specs.Words.{tagged}
-use Rattle.layers.specs.Layer.{layerLength, zAt, layerChecks, readLayer}
+use Rattle.layers.specs.Layer.{kindOf, widthAt, zAt, layerChecks, readLayer}
 use Rattle.patches.specs.Patch.{patchesChecks}
-use Rattle.gridfile.specs.File.{headerLength, sidesIn, headerChecks, layersEnd, Header, accepted, readUpTo}
+use Rattle.gridfile.specs.File.{sidesIn, headerChecks, layerStart, rangeChecks, layersEnd, Header, accepted, readUpTo}
 
 -- ---- read before CR 4: layers in any order, each once. What it writes is what read writes now
 
@@ -23,15 +23,18 @@ use Rattle.gridfile.specs.File.{headerLength, sidesIn, headerChecks, lay
 abbrev pub anyOrderChecks : List ℕ → ℕ → List ℕ → List Check
 anyOrderChecks file start seen = 24 when isIn seen (zAt file start) ∷ []
 
+-- as many records as are left, after so many that came
 unfoldable pub layersInAnyOrder : Sides → List ℕ → ℕ → ℕ → List ℕ → List Check
-layersInAnyOrder s file zero start seen = []
-layersInAnyOrder s file (suc left) start seen =
-    (layerChecks s file start ++ anyOrderChecks file start seen) ++ layersInAnyOrder s file left (start + layerLength s) (zAt file start ∷ seen)
+layersInAnyOrder s file zero came seen = []
+layersInAnyOrder s file (suc left) came seen =
+    let start = layerStart s file came in
+    (layerChecks s file start ++ (anyOrderChecks file start seen ++ rangeChecks s file start))
+    ++ layersInAnyOrder s file left (suc came) (zAt file start ∷ seen)
 
 abbrev pub anyOrderReadChecks : ℕ → List ℕ → ℕ → List Check
 anyOrderReadChecks greatest file lent =
     let s = sidesIn file in
-    headerChecks greatest file lent ++ (layersInAnyOrder s file (s .c) headerLength [] ++ patchesChecks (size s) file (layersEnd s))
+    headerChecks greatest file lent ++ (layersInAnyOrder s file (s .c) 0 [] ++ patchesChecks (size s) file (layersEnd s file))
 
 unfoldable pub readInAnyOrder : ℕ → List ℕ → List ℤ → Outcome (List ℤ) Header
 readInAnyOrder greatest file lent = unless (anyOrderReadChecks greatest file (length lent)) (untouched lent) (accepted file lent)
@@ -41,26 +44,23 @@ readInAnyOrder greatest file lent = unless (anyOrderReadChecks greatest file (le
 abbrev pub Takes : ℕ → List ℕ → List ℤ → Header → Type 0
 Takes greatest file lent h = readUpTo greatest file lent .answer ≡ done h
 
--- the record of layer z begins at byte 7 + z times (3 + 2 times a times b)
-abbrev pub layerStart : Sides → ℕ → ℕ
-layerStart s z = headerLength + z * layerLength s
-
 abbrev pub InOrder : Sides → List ℕ → Type 0
-InOrder s file = (z : ℕ) → z < s .c → zAt file (layerStart s z) ≡ z
+InOrder s file = (z : ℕ) → z < s .c → zAt file (layerStart s file z) ≡ z
 
 pub record BottomUp : Type 0 where
-  -- layer z stands there: its mark, then its z
+  -- layer z stands where the z layers before it end: its mark, then its z
   pub stands :
       (greatest : ℕ) (file : List ℕ) (lent : List ℤ) (h : Header) → Takes greatest file lent h
       → (z : ℕ) → z < h .sides .c
-      → let start = layerStart (h .sides) z in
-      (tagged 0x4C file start ≡ true) × (zAt file start ≡ z)
+      → let start = layerStart (h .sides) file z in
+      (tagged (kindOf (widthAt file start)) file start ≡ true) × (zAt file start ≡ z)
   -- so reading a layer there gives layer z
   pub read-there :
       (greatest : ℕ) (file : List ℕ) (lent : List ℤ) (h : Header) → Takes greatest file lent h
       → (z : ℕ) → z < h .sides .c
-      → let start = layerStart (h .sides) z in
-      readLayer (h .sides) file start ≡ done (record { z = z; from = start + 3; to = start + layerLength (h .sides) })
+      → let start = layerStart (h .sides) file z in
+      readLayer (h .sides) file start
+      ≡ done (record { z = z; width = widthAt file start; from = start + 3; to = layerStart (h .sides) file (suc z) })
   -- no answer changed but to 27
   pub same-or-27 :
       (greatest : ℕ) (file : List ℕ) (lent : List ℤ)

@@ -4,8 +4,9 @@ use mathlib.Core.List.{List, [], _∷_, _++_}
 use Prim.Native.Nat.{ℕ}
 use lib.ListN.{replicate, take, set}
 use lib.IntN.{ℤ, pos, negsuc}
+use Rattle.rules.specs.Value.{missing}
 use Rattle.rules.specs.Answer.{refused, done, outcome}
-use Rattle.layers.specs.Examples.{sides, layerRecord}
+use Rattle.layers.specs.Examples.{sides, layerRecord, wideRecord}
 use Rattle.patches.specs.Examples.{patch}
 use Rattle.gridfile.specs.File.{readUpTo, read}
 use Rattle.gridfile.specs.BottomUp.{readInAnyOrder}
@@ -13,15 +14,50 @@ use Rattle.gridfile.specs.BottomUp.{readInAnyOrder}
 abbrev pub header : ℕ → ℕ → ℕ → ℕ → List ℕ
 header kind a b c = 0x56 ∷ kind ∷ a ∷ b ∷ c ∷ 0x02 ∷ 0x01 ∷ []
 
--- three layers of a grid of 3, 3, 3, by their z
+-- three records of a grid of 3, 3, 3
+abbrev pub three : List ℕ → List ℕ → List ℕ → List ℕ
+three x y z = header 0x48 3 3 3 ++ (x ++ (y ++ z))
+
+abbrev pub narrow : ℕ → List ℕ
+narrow z = layerRecord 0x56 0x4C z
+
+-- narrow layers, by their z
 abbrev pub file : ℕ → ℕ → ℕ → List ℕ
-file x y z = header 0x48 3 3 3 ++ (layerRecord 0x56 0x4C x ++ (layerRecord 0x56 0x4C y ++ layerRecord 0x56 0x4C z))
+file x y z = three (narrow x) (narrow y) (narrow z)
 
 abbrev pub lent : List ℤ
 lent = replicate 27 (pos 0)
 
 abbrev pub layer : List ℤ
-layer = negsuc 5 ∷ replicate 8 (pos 7)
+layer = negsuc 5 ∷ missing ∷ replicate 7 (pos 7)
+
+-- of a wide record
+abbrev pub wideLayer : List ℤ
+wideLayer = negsuc 32767 ∷ missing ∷ pos 1000000000 ∷ replicate 6 (pos 7)
+
+-- a wide record with eight zeros before that value, and with them behind it
+abbrev pub last : List ℕ → ℕ → List ℕ
+last value z = 0x56 ∷ 0x57 ∷ z ∷ replicate 32 0 ++ value
+
+abbrev pub first : List ℕ → ℕ → List ℕ
+first value z = 0x56 ∷ 0x57 ∷ z ∷ value ++ replicate 32 0
+
+-- 1,000,000,000, -1,000,000,000, and one further each
+abbrev pub top : List ℕ
+top = 0x00 ∷ 0xCA ∷ 0x9A ∷ 0x3B ∷ []
+
+abbrev pub bottom : List ℕ
+bottom = 0x00 ∷ 0x36 ∷ 0x65 ∷ 0xC4 ∷ []
+
+abbrev pub above : List ℕ
+above = 0x01 ∷ 0xCA ∷ 0x9A ∷ 0x3B ∷ []
+
+abbrev pub below : List ℕ
+below = 0xFF ∷ 0x35 ∷ 0x65 ∷ 0xC4 ∷ []
+
+-- -2,147,483,647, one above the missing mark
+abbrev pub besideMissing : List ℕ
+besideMissing = 0x01 ∷ 0x00 ∷ 0x00 ∷ 0x80 ∷ []
 
 -- case D: each value hex 06 00 save the two of hex FA FF
 abbrev pub plainD : List ℕ
@@ -67,6 +103,23 @@ pub record Examples : Type 0 where
   pub bytes-after : read (file 0 1 2 ++ (0x56 ∷ [])) lent ≡ outcome (refused 21) lent
   pub wrong-patch : read (file 0 1 2 ++ (patch 0 0 8 ++ layerRecord 0x56 0x4C 0)) lent ≡ outcome (refused 22) lent
   pub no-such-voxel : read (file 0 1 2 ++ (patch 0 0 8 ++ patch 27 0 8)) lent ≡ outcome (refused 5) lent
+  -- each layer by its own mark: where the next begins goes by it, and so do the values
+  pub mixed : read (three (narrow 0) (wideRecord 1) (narrow 2)) lent
+      ≡ outcome (done (record { sides = sides 3 3 3; allowed = 0x0102 })) (layer ++ wideLayer ++ layer)
+  pub wide : read (three (wideRecord 0) (wideRecord 1) (wideRecord 2)) lent
+      ≡ outcome (done (record { sides = sides 3 3 3; allowed = 0x0102 })) (wideLayer ++ wideLayer ++ wideLayer)
+  pub patched-wide : read (three (wideRecord 0) (narrow 1) (wideRecord 2) ++ patch 18 0 5) lent
+      ≡ outcome (done (record { sides = sides 3 3 3; allowed = 0x0102 })) (set (wideLayer ++ layer ++ wideLayer) 18 (pos 5))
+  pub wide-mark-narrow-length : read (three (narrow 0) (narrow 1) (layerRecord 0x56 0x57 2)) lent ≡ outcome (refused 21) lent
+  -- the range, at both ends; a value out of it is 28 wherever it stands, and no patch mends it
+  pub furthest : read (three (first top 0) (last bottom 1) (narrow 2)) lent
+      ≡ outcome (done (record { sides = sides 3 3 3; allowed = 0x0102 }))
+      ((pos 1000000000 ∷ replicate 8 (pos 0)) ++ (replicate 8 (pos 0) ++ (negsuc 999999999 ∷ [])) ++ layer)
+  pub too-far : read (three (first above 0) (narrow 1) (narrow 2)) lent ≡ outcome (refused 28) lent
+  pub too-deep : read (three (first below 0) (narrow 1) (narrow 2)) lent ≡ outcome (refused 28) lent
+  pub not-missing : read (three (first besideMissing 0) (narrow 1) (narrow 2)) lent ≡ outcome (refused 28) lent
+  pub last-value : read (three (narrow 0) (narrow 1) (last above 2)) lent ≡ outcome (refused 28) lent
+  pub patched-too-late : read (three (first above 0) (narrow 1) (narrow 2) ++ patch 0 0 8) lent ≡ outcome (refused 28) lent
   -- sides up to the greatest that is taken
   pub over-in-a : readUpTo 24 (header 0x48 25 3 3) lent ≡ outcome (refused 1) lent
   pub over-in-b : readUpTo 24 (header 0x48 3 25 3) lent ≡ outcome (refused 1) lent
@@ -87,3 +140,10 @@ pub record Examples : Type 0 where
   pub short-before-skip : read (header 0x48 3 3 3 ++ take 20 (layerRecord 0x56 0x4C 1)) lent ≡ outcome (refused 21) lent
   pub mark-before-skip : read (header 0x48 3 3 3 ++ layerRecord 0x56 0x48 1) lent ≡ outcome (refused 22) lent
   pub layer-before-skip : read (file 3 0 1) lent ≡ outcome (refused 23) lent
+  -- 28 is a record's last: after each other number of its own, before any of the next record's
+  pub short-before-range : read (header 0x48 3 3 3 ++ take 38 (first above 0)) lent ≡ outcome (refused 21) lent
+  pub layer-before-range : read (three (first above 3) (narrow 1) (narrow 2)) lent ≡ outcome (refused 23) lent
+  pub repeat-before-range : read (three (narrow 0) (first above 0) (narrow 2)) lent ≡ outcome (refused 24) lent
+  pub skip-before-range : read (three (first above 1) (narrow 0) (narrow 2)) lent ≡ outcome (refused 27) lent
+  pub range-before-next : read (header 0x48 3 3 3 ++ first above 0) lent ≡ outcome (refused 28) lent
+  pub range-before-patch : read (three (narrow 0) (narrow 1) (first above 2) ++ (0 ∷ [])) lent ≡ outcome (refused 28) lent

@@ -1,4 +1,5 @@
 pub mod File
 pub mod WithoutPatches
 pub mod BottomUp
+pub mod Widths
 pub mod Examples

@@ -6,17 +6,17 @@ use lib.ListN.{length}
 use lib.IntN.{ℤ}
 use Rattle.rules.specs.Checks.{unless}
 use Rattle.rules.specs.Answer.{Outcome, outcome, done, untouched}
-use Rattle.gridfile.specs.File.{headerLength, sidesIn, allowedIn, headerChecks, layersChecks, layersFilled, layersEnd, Header, readUpTo}
+use Rattle.gridfile.specs.File.{sidesIn, allowedIn, headerChecks, layersChecks, layersFilled, layersEnd, Header, readUpTo}
 
 abbrev pub layersAlone : List ℕ → List ℤ → Outcome (List ℤ) Header
 layersAlone file lent =
     let s = sidesIn file in
-    outcome (done (record { sides = s; allowed = allowedIn file })) (layersFilled s file (s .c) headerLength lent)
+    outcome (done (record { sides = s; allowed = allowedIn file })) (layersFilled s file (s .c) 0 lent)
 
 pub record WithoutPatches : Type 0 where
   pub layers-alone :
       (greatest : ℕ) (file : List ℕ) (lent : List ℤ)
       → let s = sidesIn file in
-      length file ≤ layersEnd s
+      length file ≤ layersEnd s file
       → readUpTo greatest file lent
-      ≡ unless (headerChecks greatest file (length lent) ++ layersChecks s file (s .c) headerLength 0) (untouched lent) (layersAlone file lent)
+      ≡ unless (headerChecks greatest file (length lent) ++ layersChecks s file (s .c) 0) (untouched lent) (layersAlone file lent)

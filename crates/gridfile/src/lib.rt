@@ -3,11 +3,11 @@ ghost use mathlib.Core.Path.{_≡_};
 ghost use mathlib.Core.Bool.{true};
 ghost use Prim.Native.Nat.{_≤_};
 ghost use lib.ListN.{length};
-ghost use Rattle.rules.specs.Grid.{fitSides};
+ghost use Rattle.rules.specs.Grid.{fitSides, size};
 ghost use Rattle.rules.specs.Checks.{firstFailing};
 ghost use Rattle.rules.specs.Answer.{outcome};
 ghost use Rattle.gridfile.specs.File as spec;
-ghost use Rattle.gridfile.specs.File.{headerLength, sidesIn, fitUpTo, headerChecks, recordChecks, layersChecks, layersFilled, layersEnd, filled};
+ghost use Rattle.gridfile.specs.File.{headerLength, sidesIn, fitUpTo, headerChecks, recordChecks, recordsChecks, filled};
 ghost use Rattle.gridfile.specs.File.{readChecks, Accepted, readAnswer, readUpTo};
 use rules::Sides;
 
@@ -76,55 +76,42 @@ fn record_refusal(sides: Sides, file: &[u8], start: usize, next: usize) -> u8
     if z != next {
         return 27;
     }
+    if layers::has_stray(sides, file, start) {
+        return 28;
+    }
     0
 }
 
-// That of all records, each before the next.
-fn layers_refusal(sides: Sides, file: &[u8]) -> u8
-    requires { ⌜ fitSides sides ≡ true ⌝ }
-    ensures { λ r. ⌜ r ≡ firstFailing (layersChecks sides (now (file .entry)) (sides .c) headerLength 0) ⌝ }
+// That of all layer records, each before the next, then of the patches behind them, in a grid of n voxels.
+fn records_refusal(sides: Sides, n: usize, file: &[u8]) -> u8
+    requires { ⌜ (fitSides sides ≡ true) × (n ≡ size sides) ⌝ }
+    ensures { λ r. ⌜ r ≡ firstFailing (recordsChecks sides (now (file .entry))) ⌝ }
 {
     let mut start = 7;
     let mut next = 0;
     while next < sides.c {
-        let n = record_refusal(sides, file, start, next);
-        if n != 0 {
-            return n;
+        let r = record_refusal(sides, file, start, next);
+        if r != 0 {
+            return r;
         }
-        start += layers::layer_length(sides);
+        start += layers::record_length(sides, file, start);
         next += 1;
     }
-    0
+    patches::patches_refusal(n, file, start)
 }
 
-// Where the patches begin.
-pub fn layers_end(sides: Sides) -> usize
-    requires { ⌜ fitSides sides ≡ true ⌝ }
-    ensures { λ r. ⌜ r ≡ layersEnd sides ⌝ }
-{
-    7 + sides.c * layers::layer_length(sides)
-}
-
-// The values of all layer records, which were checked.
-fn fill_records(sides: Sides, file: &[u8], values: &mut [i16])
+// The values of all layer records, with the patches applied. All were checked.
+fn fill(sides: Sides, file: &[u8], values: &mut [i32])
     requires { ⌜ Accepted sides (now file) (length (now values)) ⌝ }
-    ensures { λ _. ⌜ now (values .exit) ≡ layersFilled sides (now (file .entry)) (sides .c) headerLength (now (values .entry)) ⌝ }
+    ensures { λ _. ⌜ now (values .exit) ≡ filled sides (now (file .entry)) (now (values .entry)) ⌝ }
 {
     let mut start = 7;
     let mut left = sides.c;
     while 0 < left {
-        layers::fill_record(sides, file, start, values);
-        start += layers::layer_length(sides);
+        start = layers::fill_record(sides, file, start, values);
         left -= 1;
     }
-}
-
-fn fill(sides: Sides, file: &[u8], values: &mut [i16])
-    requires { ⌜ Accepted sides (now file) (length (now values)) ⌝ }
-    ensures { λ _. ⌜ now (values .exit) ≡ filled sides (now (file .entry)) (now (values .entry)) ⌝ }
-{
-    fill_records(sides, file, values);
-    patches::apply_patches(file, layers_end(sides), values);
+    patches::apply_patches(file, start, values);
 }
 
 // ---- read
@@ -137,16 +124,11 @@ fn refusal(file: &[u8], lent: usize, greatest: usize) -> u8
     if n != 0 {
         return n;
     }
-    let sides = sides_in(file);
-    let n = layers_refusal(sides, file);
-    if n != 0 {
-        return n;
-    }
-    patches::patches_refusal(lent, file, layers_end(sides))
+    records_refusal(sides_in(file), lent, file)
 }
 
 // Read, for sides up to the greatest that the caller takes.
-pub fn read_up_to(file: &[u8], values: &mut [i16], greatest: usize) -> ReadAnswer
+pub fn read_up_to(file: &[u8], values: &mut [i32], greatest: usize) -> ReadAnswer
     ensures { λ r. ⌜ outcome (readAnswer r) (now (values .exit)) ≡ readUpTo greatest (now (file .entry)) (now (values .entry)) ⌝ }
 {
     let n = refusal(file, values.len(), greatest);
@@ -157,11 +139,11 @@ pub fn read_up_to(file: &[u8], values: &mut [i16], greatest: usize) -> ReadAnswe
     fill(sides, file, values);
     ReadAnswer::Grid {
         sides,
-        allowed: words::word(file, 5),
+        allowed: words::word(file, 5, 2) as u16,
     }
 }
 
-pub fn read(file: &[u8], values: &mut [i16]) -> ReadAnswer
+pub fn read(file: &[u8], values: &mut [i32]) -> ReadAnswer
     ensures { λ r. ⌜ outcome (readAnswer r) (now (values .exit)) ≡ spec.read (now (file .entry)) (now (values .entry)) ⌝ }
 {
     read_up_to(file, values, 64)

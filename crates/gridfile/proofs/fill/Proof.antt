@@ -1,41 +1,65 @@
 -- `gridfile::fill` meets its contract.
-use mathlib.Core.Path.{ap₂, subst₂, sym, _∙_}
-use Prim.Native.Nat.{ℕ}
-use borrow.Author.Needs.{needs}
-use Rattle.rules.specs.Checks.{AllHold}
-use Rattle.patches.specs.Patch.{patchesChecks, patched}
-use Rattle.gridfile.specs.File.{filled}
+use mathlib.Core.Path.{sym, _∙_}
+use native.Mathlib.Omega.{arith}
+use Rattle.gridfile.proofs.Filled.{Spreading, spreading-start, spreading-readable, spreading-next, spreading-patches, spreading-done}
 use Rattle.gridfile.proofs.fill.Statement.{statement}
 use Rattle.gridfile.proofs.fill.Tie as tie
 
-fill-records-requires : tie.Need-fill-records-requires
-fill-records-requires c κs = search needs
+abbrev Inv-loop : tie.InvT-loop
+Inv-loop sides file values₀ start₀ left₀ values start left = Spreading sides file values₀ values start left
 
-layers-end-requires : tie.Need-layers-end-requires
-layers-end-requires c κs = search needs
+abbrev μ-loop : tie.MeasureT-loop
+μ-loop sides file values₀ start₀ left₀ values start left = left
 
-apply-patches-requires : tie.Need-apply-patches-requires
+loop-holds : tie.Need-loop-holds Inv-loop μ-loop
+loop-holds c = spreading-start _ _ _ (c .before .pre)
+
+fill-record-requires : tie.Need-fill-record-requires Inv-loop μ-loop
+fill-record-requires c κs =
+    let t = c .before in
+    let l = t .before in
+    (spreading-readable _ _ _ _ _ _ (l .loop .inv) (t .loop-test .taken), l .loop .inv .long)
+
+sub-left : tie.Need-sub-left Inv-loop μ-loop
+sub-left c = omega (arith, c .before .before .before .loop-test .taken)
+
+loop-less : tie.Need-loop-less Inv-loop μ-loop
+loop-less c = omega (arith, c .before .before .before .loop-test .taken)
+
+loop-again : tie.Need-loop-again Inv-loop μ-loop
+loop-again c =
+    let f = c .before in
+    let t = f .before .before in
+    spreading-next _ _ _ _ _ _ (t .before .loop .inv) (t .loop-test .taken) _ _ (f .fill-record .ensures .0) (f .fill-record .ensures .1)
+
+apply-patches-requires : tie.Need-apply-patches-requires Inv-loop μ-loop
 apply-patches-requires c κs =
     let e = c .before in
-    let v = e .before in
-    let s = v .before .before .before .before in
-    subst₂ (λ (n start : ℕ). AllHold (patchesChecks n (s .args .file .now) start))
-    (sym (v .values .given ∙ s .pre .long)) (sym (e .layers-end .ensures)) (s .pre .patches)
+    let l = e .before in
+    spreading-patches _ _ _ _ _ _ (l .loop .inv) (e .loop-test .left) (l .before .before .pre)
 
-same-length : tie.Need-same-length
-same-length c = search needs
+same-length : tie.Need-same-length Inv-loop μ-loop
+same-length c =
+    let l = c .before .before .before .before in
+    c .values2 .given ∙ l .loop .inv .long ∙ sym (l .before .before .pre .long)
 
-returns : tie.Need-returns
-unfolding filled
+returns : tie.Need-returns Inv-loop μ-loop
 returns c =
     let p = c .before in
     let e = p .before .before in
-    let f = e .before .before in
-    let s = f .before .before .before in
-    p .apply-patches .ensures
-    ∙ ap₂ (patched (s .args .file .now)) (e .layers-end .ensures) (f .fill-records .ensures)
+    spreading-done _ _ _ _ _ _ (e .before .loop .inv) (e .loop-test .left) _ (p .apply-patches .ensures)
 
 pub fill-spec : {M : Type 1} → statement M
 fill-spec =
     tie.close
-    (tie.spec fill-records-requires layers-end-requires apply-patches-requires same-length returns)
+    (tie.spec
+    Inv-loop
+    μ-loop
+    loop-holds
+    fill-record-requires
+    sub-left
+    loop-less
+    loop-again
+    apply-patches-requires
+    same-length
+    returns)

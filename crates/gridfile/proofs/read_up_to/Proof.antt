@@ -1,5 +1,6 @@
 -- `gridfile::read_up_to` meets its contract.
-use mathlib.Core.Path.{_≡_, sym, _∙_}
+use mathlib.Core.Path.{_≡_, refl, sym, _∙_}
+use mathlib.Core.Logic.{inl}
 use native.Mathlib.Omega.{arith}
 use lib.ListN.{length}
 use borrow.Author.Needs.{needs}
@@ -37,7 +38,11 @@ fill-requires : tie.Need-fill-requires
 fill-requires c κs = rw (c .before .sides-in .ensures) (right (c .before .before))
 
 word-requires : tie.Need-word-requires
-word-requires c κs = omega (arith, right (c .before .before .before .before) .whole)
+word-requires c κs = (inl refl, omega (arith, right (c .before .before .before .before) .whole))
+
+-- T has two bytes
+cast-t12 : tie.Need-cast-t12
+cast-t12 c = omega (arith, c .word .ensures .1)
 
 same-length : tie.Need-same-length
 same-length c = search needs
@@ -51,7 +56,7 @@ returns-2 c =
     let a = r .before .before .args in
     call-done (untouched (a .values .now)) (accepted (a .file .now) (a .values .now)) (readChecks (a .greatest) (a .file .now) (length (a .values .now))) _
     (r .refusal .ensures) (read-numbered (a .greatest) (a .file .now) (length (a .values .now))) (none (s .before)) _
-    (simp (c .word .ensures, f .fill .ensures, s .sides-in .ensures))
+    (simp (c .word .ensures .0, f .fill .ensures, s .sides-in .ensures))
 
 pub read-up-to-spec : {M : Type 1} → statement M
 read-up-to-spec =
@@ -62,5 +67,6 @@ read-up-to-spec =
     sides-in-requires
     fill-requires
     word-requires
+    cast-t12
     same-length
     returns-2)

@@ -5,22 +5,26 @@ use native.Mathlib.Omega.{arith}
 use borrow.Author.Needs.{needs}
 use Rattle.rules.specs.Checks.{firstFailing}
 use Rattle.rules.proofs.Checks.{all-hold, refused-first, held-first}
-use Rattle.layers.specs.Layer.{Readable}
+use Rattle.layers.specs.Layer.{zAt, Readable}
 use Rattle.layers.proofs.Reading.{readable}
-use Rattle.gridfile.specs.File.{orderChecks, recordChecks}
-use Rattle.gridfile.proofs.Checking.{order-repeat, order-skip, order-next}
+use Rattle.gridfile.specs.File.{recordChecks}
+use Rattle.gridfile.proofs.Checking.{behind-layer, repeat-refused, skip-refused, stray-refused, record-taken}
 use Rattle.gridfile.proofs.record_refusal.Statement.{statement}
 use Rattle.gridfile.proofs.record_refusal.Tie as tie
 
--- behind the first branch: the record can be read, and its z decides
+-- behind the first branch: the record can be read, and its z and its values decide
 right : (c : tie.Else1) → let a = c .before .before .before .args in Readable (a .sides) (a .file .now) (a .start)
 right c =
     let l = c .before in
     readable _ _ _ (l .before .before .pre) (all-hold _ refl (sym (l .layer-refusal .ensures) ∙ c .if1 .left))
 
 behind : (c : tie.Else1) (n : ℕ) → let a = c .before .before .before .args in
-    n ≡ firstFailing (orderChecks (a .file .now) (a .start) (a .next)) → n ≡ firstFailing (recordChecks (a .sides) (a .file .now) (a .start) (a .next))
+    n ≡ behind-layer (a .sides) (a .file .now) (a .start) (a .next) → n ≡ firstFailing (recordChecks (a .sides) (a .file .now) (a .start) (a .next))
 behind c n e = held-first _ _ _ (c .before .layer-refusal .ensures) refl (c .if1 .left) n e
+
+-- behind the third: it is the record that is due
+due : (c : tie.Else3) → let a = c .before .before .before .before .before .before .args in zAt (a .file .now) (a .start) ≡ a .next
+due c = c .if3 .left
 
 layer-refusal-requires : tie.Need-layer-refusal-requires
 layer-refusal-requires c κs = search needs
@@ -43,19 +47,30 @@ returns-2 : tie.Need-returns-2
 returns-2 c =
     let e = c .before .before in
     let a = e .before .before .before .args in
-    behind e 24 (order-repeat (a .file .now) (a .start) (a .next) (omega arith))
+    behind e 24 (repeat-refused (a .sides) (a .file .now) (a .start) (a .next) (omega arith))
 
 returns-3 : tie.Need-returns-3
 returns-3 c =
     let e = c .before .before .before in
     let a = e .before .before .before .args in
-    behind e 27 (order-skip (a .file .now) (a .start) (a .next) (omega arith))
+    behind e 27 (skip-refused (a .sides) (a .file .now) (a .start) (a .next) (omega arith))
+
+has-stray-requires : tie.Need-has-stray-requires
+has-stray-requires c κs = right (c .before .before .before)
 
 returns-4 : tie.Need-returns-4
 returns-4 c =
-    let e = c .before .before .before in
+    let s = c .before in
+    let e = s .before .before .before .before in
     let a = e .before .before .before .args in
-    behind e 0 (order-next (a .file .now) (a .start) (a .next) (omega arith))
+    behind e 28 (stray-refused (a .sides) (a .file .now) (a .start) (a .next) (due (s .before)) _ (s .has-stray .ensures) (c .if4 .taken))
+
+returns-5 : tie.Need-returns-5
+returns-5 c =
+    let s = c .before in
+    let e = s .before .before .before .before in
+    let a = e .before .before .before .args in
+    behind e 0 (record-taken (a .sides) (a .file .now) (a .start) (a .next) (due (s .before)) _ (s .has-stray .ensures) (c .if4 .left))
 
 pub record-refusal-spec : {M : Type 1} → statement M
 record-refusal-spec =
@@ -68,4 +83,6 @@ record-refusal-spec =
     cast-z
     returns-2
     returns-3
-    returns-4)
+    has-stray-requires
+    returns-4
+    returns-5)
