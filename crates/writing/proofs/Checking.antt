@@ -1,13 +1,47 @@
--- Write's checks: what holds where none of them fails.
-use mathlib.Core.List.{List}
-use Prim.Native.Nat.{ℕ}
+-- Write's checks, by what the code found: of the grid first, then of the room.
+use mathlib.Core.Path.{_≡_, ap, sym, _∙_}
+use mathlib.Core.Bool.{Bool, true, cond}
+use mathlib.Core.List.{List, [], _∷_}
+use Prim.Native.Nat.{ℕ, _≤_, _<_}
+use lib.Dec.{ltb}
 use lib.ListN.{length}
 use lib.IntN.{ℤ}
-use borrow.Author.Tests.{ltb-false, eqb-true}
+use borrow.Author.Tests.{lt-ltb, le-ltb, eqb-true}
 use Rattle.prelude.proofs.Bools.{not-false}
 use Rattle.rules.specs.declared.Sides.{Sides}
-use Rattle.rules.specs.Checks.{AllHold}
-use Rattle.writing.specs.Written.{writeChecks, Room}
+use Rattle.rules.specs.Grid.{fitSides}
+use Rattle.rules.specs.Checks.{Check, _when_, firstFailing, unless, AllHold}
+use Rattle.rules.specs.Answer.{untouched}
+use Rattle.rules.proofs.Checks.{call-refused, unless-after, unless-held, refused-first, append-hold}
+use Rattle.writing.specs.Written.{writtenLength, gridChecks, writeChecks, Room, written, write}
 
-pub has-room : (s : Sides) (values : List ℤ) (lent : ℕ) → AllHold (writeChecks s values lent) → Room s (length values) lent
-has-room s values lent h = record { fits = not-false _ (h .0); long = eqb-true _ _ (not-false _ (h .1 .0)); room = ltb-false _ _ (h .1 .1 .0) }
+-- what holds of a grid that is not refused
+module _ (s : Sides) (values : List ℤ) (h : AllHold (gridChecks s values)) where
+  pub grid-fits : fitSides s ≡ true
+  grid-fits = not-false _ (h .0)
+
+  pub has-room : (lent : ℕ) → writtenLength s values ≤ lent → Room s values lent
+  has-room lent r = record { fits = grid-fits; long = eqb-true _ _ (not-false _ (h .1 .0)); known = h .1 .1 .0; room = r }
+
+module _ (s : Sides) (T : ℕ) (values : List ℤ) (file : List ℕ) where
+  abbrev roomChecks : List Check
+  roomChecks = 26 when ltb (length file) (writtenLength s values) ∷ []
+
+  pub grid-refused : (n : ℕ) → n ≡ firstFailing (gridChecks s values) → (n ≡ 0 → ⊥) → untouched file n ≡ write s T values file
+  unfolding write
+  grid-refused n e f =
+      call-refused (untouched file) (written s T values file) (writeChecks s values (length file)) n
+      (refused-first (gridChecks s values) roomChecks n e f) f
+
+  module _ (h : AllHold (gridChecks s values)) where
+    pub room-refused : length file < writtenLength s values → untouched file 26 ≡ write s T values file
+    unfolding write unless
+    room-refused l =
+        sym (unless-after (untouched file) (written s T values file) (gridChecks s values) roomChecks h
+        ∙ ap (λ (t : Bool). cond t (untouched file 26) (written s T values file)) (lt-ltb (length file) (writtenLength s values) l))
+
+    pub all-written : writtenLength s values ≤ length file → written s T values file ≡ write s T values file
+    unfolding write
+    all-written r =
+        sym (unless-held (untouched file) (written s T values file) (writeChecks s values (length file))
+        (append-hold (gridChecks s values) roomChecks h (le-ltb (length file) (writtenLength s values) r, tt)))

@@ -1,45 +1,59 @@
 -- The worked writings, by computation.
 use mathlib.Core.Path.{refl}
 use mathlib.Core.List.{flatMap}
-use Prim.Native.Nat.{ℕ, zero, suc, _^_, _<_}
 use native.Mathlib.Omega.{arith}
-use lib.ListN.{getD, replicate}
-use lib.IntN.{pos}
-use lib.Signed.{mag}
-use Rattle.prelude.specs.Lists.{range}
+use lib.ListN.{replicate}
+use Rattle.prelude.specs.Lists.{any, range}
+use Rattle.rules.specs.Value.{isMissing, beyond}
 use Rattle.rules.specs.Grid.{fitSides, size, missing}
 use Rattle.rules.specs.Checks.{unless}
+use Rattle.words.specs.Words.{unsigned, narrowed, valueBytes}
 use Rattle.layers.specs.Examples.{sides}
-use Rattle.words.specs.Words.{unsigned, valueBytes}
-use Rattle.writing.specs.Written.{valuesForm, layersForm, write}
+use Rattle.gridfile.proofs.Examples.{reading-rules}
+use Rattle.writing.specs.Written.{widthFor, valuesForm, layersForm, write}
 use Rattle.writing.specs.RoundTrip.{Writable}
-use Rattle.writing.specs.Examples.{Examples}
-
-alike : (n i : ℕ) → mag (getD (replicate n missing) i (pos 0)) < 2 ^ 15
-alike zero i = omega arith
-alike (suc n) zero = omega arith
-alike (suc n) (suc i) = alike n i
+use Rattle.writing.specs.Examples.{wideValues, Examples}
 
 of-missing : Writable (sides 3 3 3) 0xFFFF (replicate 27 missing)
-unfolding fitSides size
-of-missing = record { fits = refl; long = refl; allowed = omega arith; narrow = alike 27 }
+unfolding fitSides size any beyond isMissing
+of-missing = record { fits = refl; long = refl; known = refl; allowed = omega arith }
+
+of-wide : Writable (sides 3 3 3) 0 wideValues
+unfolding fitSides size any beyond isMissing
+of-wide = record { fits = refl; long = refl; known = refl; allowed = omega arith }
 
 pub examples : Examples
-unfolding flatMap range fitSides size unless unsigned valueBytes valuesForm layersForm write
+unfolding flatMap any range fitSides size unless reading-rules unsigned narrowed valueBytes widthFor valuesForm layersForm write
 examples =
     record {
       takes = of-missing;
+      takes-wide = of-wide;
       header = refl;
       record-of-a-layer = refl;
+      record-of-a-wide-layer = refl;
+      narrow-high = refl;
+      wide-high = refl;
+      narrow-low = refl;
+      wide-low = refl;
+      narrow-missing = refl;
       case-d = refl;
       longest = refl;
+      longest-wide = refl;
       grid = refl;
       rest-stays = refl;
+      wide-grid = refl;
+      read-back = refl;
+      read-back-wide = refl;
       small-side = refl;
       large-side = refl;
       too-few = refl;
       too-many = refl;
+      too-high = refl;
+      too-low = refl;
       no-room = refl;
+      no-room-wide = refl;
       sides-before-values = refl;
+      values-before-range = refl;
       values-before-room = refl;
+      range-before-room = refl;
     }

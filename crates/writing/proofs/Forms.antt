@@ -1,4 +1,4 @@
--- The written form by its parts: how long each is, and one more at the end.
+-- The written form by its parts, of either width: how long each is, and one more at the end.
 use mathlib.Core.Path.{_≡_, refl, ap, ap₂, _∙_}
 use mathlib.Core.List.{List, [], _∷_, _++_, flatMap}
 use Prim.Native.Nat.{ℕ, zero, suc, _+_, _*_, _≤_, _<_}
@@ -12,33 +12,35 @@ use Rattle.rules.specs.declared.Sides.{Sides}
 use Rattle.rules.specs.Grid.{size}
 use Rattle.words.specs.Words.{valueBytes}
 use Rattle.words.proofs.Bytes.{length-valuesBytes}
-use Rattle.layers.specs.Layer.{width, area, layerLength}
+use Rattle.layers.specs.Layer.{area, layerLength}
 use Rattle.layers.proofs.Sizes.{layer-room}
 use Rattle.writing.specs.Written.{layerValues, valuesForm, layerForm, layersForm}
 use Rattle.writing.proofs.Laying.{flatMap-snoc}
 
 -- ---- values
 
-pub length-valuesForm : (values : List ℤ) → length (valuesForm values) ≡ width * length values
-unfolding valuesForm
-length-valuesForm values = length-valuesBytes width values
+module _ (width : ℕ) (values : List ℤ) where
+  pub length-valuesForm : length (valuesForm width values) ≡ width * length values
+  unfolding valuesForm
+  length-valuesForm = length-valuesBytes width values
 
-pub valuesForm-next :
-    (values : List ℤ) (i : ℕ) → i < length values → valuesForm (take (suc i) values) ≡ valuesForm (take i values) ++ valueBytes width (getD values i (pos 0))
-unfolding valuesForm
-valuesForm-next values i h = ap valuesForm (take-suc values i (pos 0) h) ∙ flatMap-snoc (valueBytes width) (take i values) (getD values i (pos 0))
+  pub valuesForm-next :
+      (i : ℕ) → i < length values
+      → valuesForm width (take (suc i) values) ≡ valuesForm width (take i values) ++ valueBytes width (getD values i (pos 0))
+  unfolding valuesForm
+  valuesForm-next i h = ap (valuesForm width) (take-suc values i (pos 0) h) ∙ flatMap-snoc (valueBytes width) (take i values) (getD values i (pos 0))
 
 -- ---- records
 
-module _ (s : Sides) (values : List ℤ) where
+module _ (s : Sides) (width : ℕ) (values : List ℤ) where
   -- that of layer z; those of as many layers as are left, from z on
   abbrev pub recordForm : ℕ → List ℕ
-  recordForm z = layerForm z (layerValues s values z)
+  recordForm z = layerForm width z (layerValues s values z)
 
   abbrev pub recordsFrom : ℕ → ℕ → List ℕ
   recordsFrom z left = flatMap recordForm (range z left)
 
-  pub layersForm-next : (z : ℕ) → layersForm s values (suc z) ≡ layersForm s values z ++ recordForm z
+  pub layersForm-next : (z : ℕ) → layersForm s width values (suc z) ≡ layersForm s width values z ++ recordForm z
   unfolding layersForm
   layersForm-next z =
       let e : 0 + z ≡ z = omega arith in
@@ -49,10 +51,13 @@ module _ (s : Sides) (values : List ℤ) where
     length-layerValues z h =
         length-take-le (area s) (drop (z * area s) values) (omega (arith, length-drop (z * area s) values, layer-room s z (area s) refl h))
 
-    pub length-recordForm : (z : ℕ) → z < s .c → length (recordForm z) ≡ layerLength s
-    length-recordForm z h = omega (arith, length-valuesForm (layerValues s values z), length-layerValues z h)
+    pub length-layer : (z : ℕ) → z < s .c → length (valuesForm width (layerValues s values z)) ≡ width * area s
+    length-layer z h = length-valuesForm width (layerValues s values z) ∙ ap (λ (n : ℕ). width * n) (length-layerValues z h)
 
-    pub length-recordsFrom : (z left : ℕ) → z + left ≤ s .c → length (recordsFrom z left) ≡ left * layerLength s
+    pub length-recordForm : (z : ℕ) → z < s .c → length (recordForm z) ≡ layerLength s width
+    length-recordForm z h = omega (arith, length-layer z h)
+
+    pub length-recordsFrom : (z left : ℕ) → z + left ≤ s .c → length (recordsFrom z left) ≡ left * layerLength s width
     unfolding flatMap range
     length-recordsFrom z zero h = omega arith
     length-recordsFrom z (suc left) h =
@@ -60,6 +65,6 @@ module _ (s : Sides) (values : List ℤ) where
         ∙ ap₂ _+_ (length-recordForm z (omega arith)) (length-recordsFrom (suc z) left (omega arith))
         ∙ omega arith
 
-    pub length-layersForm : (count : ℕ) → count ≤ s .c → length (layersForm s values count) ≡ count * layerLength s
+    pub length-layersForm : (count : ℕ) → count ≤ s .c → length (layersForm s width values count) ≡ count * layerLength s width
     unfolding layersForm
     length-layersForm count h = length-recordsFrom 0 count (omega arith)

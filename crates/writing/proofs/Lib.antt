@@ -1,4 +1,5 @@
 pub mod Laying
+pub mod Holding
 pub mod Forms
 pub mod Values
 pub mod Layers

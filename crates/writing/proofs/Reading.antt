@@ -1,111 +1,133 @@
--- The next of the written records in a file: its checks hold, and its values come to stand where they belong.
-use mathlib.Core.Path.{_≡_, refl, ap, ap₂, sym, _∙_}
-use mathlib.Core.Bool.{true, not, _&&_}
-use mathlib.Core.List.{List, [], _++_, flatMap, append-assoc, append-nil}
+-- The next of the written records in a file: its mark tells its width, it has the values of its layer, and its checks hold.
+use mathlib.Core.Path.{_≡_, ap, ap₂, sym, _∙_}
+use mathlib.Core.Logic.{⊎-elim}
+use mathlib.Core.Bool.{Bool, true, cond, not, _&&_, _||_}
+use mathlib.Core.List.{List, [], _++_, flatMap, append-nil}
 use Prim.Native.Nat.{ℕ, suc, _+_, _-_, _*_, _≤_, _<_}
 use native.Mathlib.Omega.{arith}
 use lib.Dec.{eqb}
 use lib.ListN.{length, take, drop, length-append, length-drop}
-use lib.Seq.{length-take-le, take-add, take-at, drop-at, drop-drop, getD-drop, getD-take}
+use lib.Seq.{take-at, drop-at, drop-drop, getD-drop}
 use lib.IntN.{ℤ}
 use borrow.Author.Tests.{le-ltb, lt-leb}
-use Rattle.prelude.specs.Lists.{range}
+use Rattle.prelude.specs.Lists.{any, range}
 use Rattle.rules.specs.declared.Sides.{Sides}
+use Rattle.rules.specs.Value.{stray}
 use Rattle.rules.specs.Checks.{AllHold}
-use Rattle.rules.proofs.Checks.{append-hold}
-use Rattle.words.specs.Words.{byteAt, tagged, valuesOf}
-use Rattle.words.proofs.Bytes.{Narrow, valuesOf-valuesBytes}
-use Rattle.layers.specs.Layer.{width, area, layerLength, zAt, layerChecks, layerAt, stretch, withLayer}
-use Rattle.layers.proofs.Sizes.{layer-room}
-use Rattle.gridfile.specs.File.{orderChecks, recordChecks}
-use Rattle.gridfile.proofs.Checking.{order-holds}
-use Rattle.writing.specs.Written.{layerValues, valuesForm}
+use Rattle.words.specs.Words.{Width, byteAt, tagged, valuesOf}
+use Rattle.words.proofs.Bytes.{valuesOf-valuesBytes}
+use Rattle.layers.specs.Layer.{narrowKind, wideKind, kindOf, area, layerLength, widthAt, recordLength, zAt, layerAt, stretch, valuesIn}
+use Rattle.gridfile.specs.File.{layerStart, recordChecks}
+use Rattle.gridfile.specs.Widths.{layerDue}
+use Rattle.gridfile.proofs.Checking.{order-holds, checked-record}
+use Rattle.writing.specs.Written.{layerValues, widthFor, Held, valuesForm}
 use Rattle.writing.specs.RoundTrip.{Writable}
-use Rattle.writing.proofs.Forms.{recordForm, recordsFrom, length-valuesForm, length-layerValues, length-recordForm}
+use Rattle.writing.proofs.Holding.{held, held-at, held-between, none-between}
+use Rattle.writing.proofs.Forms.{recordForm, recordsFrom, length-layerValues, length-layer, length-recordForm}
 
-module _ (s : Sides) (values : List ℤ) where
-  -- what is left of a file from start on: those records and nothing more
-  pub record Ahead (file : List ℕ) (start z left : ℕ) : Type 0 where
+-- ---- a kind tells the width, and is the mark of a layer
+
+kind-width : (width : ℕ) → Width width → cond (eqb (kindOf width) wideKind) 4 2 ≡ width
+kind-width width = ⊎-elim (λ e. rw e) (λ e. rw e)
+
+kind-known : (width : ℕ) → Width width → (eqb (kindOf width) narrowKind || eqb (kindOf width) wideKind) ≡ true
+kind-known width = ⊎-elim (λ e. rw e) (λ e. rw e)
+
+-- ---- records ahead
+
+module _ (s : Sides) (width : ℕ) (values : List ℤ) where
+  -- what is left of a file from where layer z is due: those records and nothing more
+  pub record Ahead (file : List ℕ) (z left : ℕ) : Type 0 where
     pub count : z + left ≡ s .c
-    pub holds : drop start file ≡ recordsFrom s values z left
+    pub holds : drop (layerStart s file z) file ≡ recordsFrom s width values z left
 
 module _ {s : Sides} {T : ℕ} {values : List ℤ} (w : Writable s T values) where
-  abbrev own-values : (z : ℕ) → z < s .c → length (layerValues s values z) ≡ area s
-  own-values = length-layerValues s values (w .long)
+  abbrev width : ℕ
+  width = widthFor values
 
-  abbrev pub own-length : (z : ℕ) → z < s .c → length (recordForm s values z) ≡ layerLength s
-  own-length = length-recordForm s values (w .long)
+  own : Held width values
+  own = held values (w .known)
+
+  abbrev own-values : (z : ℕ) → z < s .c → length (layerValues s values z) ≡ area s
+  own-values = length-layerValues s width values (w .long)
+
+  abbrev pub own-length : (z : ℕ) → z < s .c → length (recordForm s width values z) ≡ layerLength s width
+  own-length = length-recordForm s width values (w .long)
 
   -- ---- the next record
 
-  module _ {file : List ℕ} {start z left : ℕ} (r : Ahead s values file start z (suc left)) where
+  module _ {file : List ℕ} {z left : ℕ} (r : Ahead s width values file z (suc left)) where
     pub z-below : z < s .c
     z-below = omega arith
 
-    abbrev rest : List ℕ
-    rest = recordsFrom s values (suc z) left
+    abbrev start : ℕ
+    start = layerStart s file z
 
-    pub starts : drop start file ≡ recordForm s values z ++ rest
+    abbrev rest : List ℕ
+    rest = recordsFrom s width values (suc z) left
+
+    pub starts : drop start file ≡ recordForm s width values z ++ rest
     unfolding flatMap range
     starts = r .holds
 
-    byte-ahead : (i : ℕ) → byteAt file (start + i) ≡ byteAt (recordForm s values z ++ rest) i
+    byte-ahead : (i : ℕ) → byteAt file (start + i) ≡ byteAt (recordForm s width values z ++ rest) i
     byte-ahead i = sym (getD-drop start file i 0) ∙ ap (λ (l : List ℕ). byteAt l i) starts
+
+    tag-ahead : (kind : ℕ) → tagged kind file start ≡ eqb (kindOf width) kind
+    tag-ahead kind =
+        let e : start + 0 ≡ start = omega arith in
+        ap₂ (λ (x y : ℕ). eqb x 0x56 && eqb y kind) (ap (byteAt file) (sym e) ∙ byte-ahead 0) (byte-ahead 1)
+
+    pub width-ahead : widthAt file start ≡ width
+    unfolding widthAt
+    width-ahead = ap (λ (t : Bool). cond t 4 2) (tag-ahead wideKind) ∙ kind-width width (own .two-or-four)
+
+    length-ahead : recordLength s file start ≡ layerLength s width
+    length-ahead = ap (layerLength s) width-ahead
 
     pub z-ahead : zAt file start ≡ z
     z-ahead = byte-ahead 2
 
-    pub ahead-next : Ahead s values file (start + layerLength s) (suc z) left
+    pub ahead-next : Ahead s width values file (suc z) left
+    unfolding layerStart
     ahead-next =
         record {
           count = omega arith;
           holds =
-              sym (drop-drop (layerLength s) start file)
-              ∙ ap (drop (layerLength s)) starts
-              ∙ drop-at (recordForm s values z) rest (layerLength s) (own-length z z-below);
+              sym (drop-drop (recordLength s file start) start file)
+              ∙ ap₂ drop length-ahead starts
+              ∙ drop-at (recordForm s width values z) rest (layerLength s width) (own-length z z-below);
         }
-
-    -- ---- its checks
-
-    whole-ahead : start + layerLength s ≤ length file
-    whole-ahead =
-        let n = length-append (recordForm s values z) rest in
-        omega (arith, length-drop start file, ap length starts, n, own-length z z-below)
-
-    tag-ahead : tagged 0x4C file start ≡ true
-    tag-ahead =
-        let e : start + 0 ≡ start = omega arith in
-        ap₂ (λ (x y : ℕ). eqb x 0x56 && eqb y 0x4C) (ap (byteAt file) (sym e) ∙ byte-ahead 0) (byte-ahead 1)
-
-    pub record-holds : AllHold (recordChecks s file start z)
-    record-holds =
-        append-hold (layerChecks s file start) (orderChecks file start z)
-        (le-ltb _ _ whole-ahead, (ap not tag-ahead, (rw z-ahead (lt-leb _ _ z-below), tt))) (order-holds file start z z-ahead)
 
     -- ---- its values
 
-    stretch-ahead : stretch file (layerAt s file start) ≡ valuesForm (layerValues s values z)
+    stretch-ahead : stretch file (layerAt s file start) ≡ valuesForm width (layerValues s values z)
     stretch-ahead =
-        let n : start + layerLength s - (start + 3) ≡ width * area s = omega arith in
+        let n : start + recordLength s file start - (start + 3) ≡ width * area s = omega (arith, length-ahead) in
         ap₂ take n (sym (drop-drop 3 start file) ∙ ap (drop 3) starts)
-        ∙ take-at (valuesForm (layerValues s values z)) rest (width * area s) (length-valuesForm _ ∙ ap (λ (n : ℕ). width * n) (own-values z z-below))
+        ∙ take-at (valuesForm width (layerValues s values z)) rest (width * area s) (length-layer s width values (w .long) z z-below)
 
-    narrow-layer : Narrow width (layerValues s values z)
-    narrow-layer i h = let k : i < area s = omega (arith, own-values z z-below) in rw (getD-take, getD-drop) (w .narrow (z * area s + i))
-
-    values-ahead : valuesOf width (area s) (stretch file (layerAt s file start)) ≡ layerValues s values z
-    unfolding valuesForm
+    pub values-ahead : layerDue s file z ≡ layerValues s values z
+    unfolding valuesIn valuesForm
     values-ahead =
-        ap₂ (valuesOf width) (sym (own-values z z-below)) (stretch-ahead ∙ sym (append-nil _))
-        ∙ valuesOf-valuesBytes width [] (layerValues s values z) narrow-layer
+        ap (λ (v : ℕ). valuesOf v (area s) (stretch file (layerAt s file start))) width-ahead
+        ∙ ap₂ (valuesOf width) (sym (own-values z z-below)) (stretch-ahead ∙ sym (append-nil _))
+        ∙ valuesOf-valuesBytes width (own .two-or-four) [] (layerValues s values z) (held-at (held-between own (area s) (z * area s)))
 
-    -- a buffer that held the values of the layers below z holds those of one layer more
-    pub withLayer-ahead :
-        (buffer : List ℤ) → take (z * area s) buffer ≡ take (z * area s) values
-        → take (suc z * area s) (withLayer s file buffer (layerAt s file start)) ≡ take (suc z * area s) values
-    unfolding withLayer
-    withLayer-ahead buffer e =
-        let m : ℕ = z * area s + area s in
-        let k : suc z * area s ≡ m = omega arith in
-        let l : length (take m values) ≡ m = length-take-le m values (omega (arith, layer-room s z (area s) refl z-below)) in
-        rw (k, z-ahead, values-ahead, e, ← append-assoc, ← take-add, take-at (take m values) _ m l)
+    -- ---- its checks
+
+    whole-ahead : start + recordLength s file start ≤ length file
+    whole-ahead =
+        let n = length-append (recordForm s width values z) rest in
+        omega (arith, length-ahead, length-drop start file, ap length starts, n, own-length z z-below)
+
+    mark-ahead : (tagged narrowKind file start || tagged wideKind file start) ≡ true
+    mark-ahead = ap₂ _||_ (tag-ahead narrowKind) (tag-ahead wideKind) ∙ kind-known width (own .two-or-four)
+
+    pub record-holds : AllHold (recordChecks s file start z)
+    record-holds =
+        checked-record s file start z (record {
+          layer = (le-ltb _ _ whole-ahead, (ap not mark-ahead, (rw z-ahead (lt-leb _ _ z-below), tt)));
+          order = order-holds file start z z-ahead;
+          range = (ap (any stray) values-ahead ∙ none-between stray (area s) (z * area s) values (w .known), tt);
+        })

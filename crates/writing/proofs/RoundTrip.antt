@@ -1,11 +1,11 @@
--- Reading what was written gives the grid back; so two grids with one form are one grid.
+-- Reading what was written gives the grid back, whichever its width; so two grids with one form are one grid.
 use mathlib.Core.Path.{_≡_, refl, ap, ap₂, sym, subst, _∙_}
 use mathlib.Core.Bool.{true, not}
-use mathlib.Core.List.{List, flatMap}
+use mathlib.Core.List.{List, _++_, flatMap}
 use Prim.Native.Nat.{ℕ, zero, suc, _+_, _-_, _*_, _≤_, _<_}
 use native.Mathlib.Omega.{arith}
-use lib.ListN.{length, take, drop}
-use lib.Seq.{take-all, take-at}
+use lib.ListN.{length, take, drop, length-drop, take-append-drop, drop-of-length-le}
+use lib.Seq.{take-at, drop-drop}
 use lib.IntN.{ℤ}
 use borrow.Author.Tests.{le-ltb, le-leb, eq-eqb}
 use Rattle.prelude.specs.Lists.{range}
@@ -17,70 +17,78 @@ use Rattle.rules.specs.Answer.{untouched}
 use Rattle.rules.proofs.Checks.{append-hold, unless-held}
 use Rattle.rules.proofs.Places.{fit}
 use Rattle.words.proofs.Bytes.{word-drop, word-wordBytes}
-use Rattle.layers.specs.declared.LayerSpan.{LayerSpan}
-use Rattle.layers.specs.Layer.{area, layerLength, layerAt, withLayer}
-use Rattle.layers.proofs.Sizes.{length-withLayer}
-use Rattle.gridfile.specs.File.{headerLength, sidesIn, allowedIn, fitUpTo, headerChecks, recordChecks, layersChecks, layersFilled}
+use Rattle.layers.specs.Layer.{area, layerLength}
+use Rattle.gridfile.specs.File.{headerLength, sidesIn, allowedIn, fitUpTo, headerChecks, layerStart, recordChecks, layersChecks, layersFilled}
 use Rattle.gridfile.specs.File.{layersEnd, recordsChecks, readChecks, filled, accepted, readUpTo, read}
+use Rattle.gridfile.specs.Widths.{layerDue}
+use Rattle.gridfile.proofs.Widths.{even-start, filled-layers}
 use Rattle.patches.specs.Patch.{patchesChecks}
 use Rattle.patches.proofs.Patching.{checks-none, patched-none}
-use Rattle.writing.specs.Written.{layerValues, layerForm, layersForm, writtenForm, writtenLength, writeChecks, written, write}
+use Rattle.writing.specs.Written.{layerValues, widthFor, layerForm, layersForm, writtenForm, writtenLength, gridChecks, write}
 use Rattle.writing.specs.RoundTrip.{Writable, grid, RoundTrip}
 use Rattle.writing.proofs.Forms.{recordForm, length-layersForm}
-use Rattle.writing.proofs.Reading.{Ahead, own-length, starts, z-below, z-ahead, ahead-next, record-holds, withLayer-ahead}
+use Rattle.writing.proofs.Checking.{all-written}
+use Rattle.writing.proofs.Reading.{Ahead, own-length, starts, width-ahead, ahead-next, values-ahead, record-holds}
 
 module _ {s : Sides} {T : ℕ} {values : List ℤ} (w : Writable s T values) where
+  abbrev width : ℕ
+  width = widthFor values
+
   abbrev form : List ℕ
   form = writtenForm s T values
 
-  form-length : length form ≡ writtenLength s
-  form-length = omega (arith, length-layersForm s values (w .long) (s .c) (omega arith))
-
-  -- no byte is left for a patch
-  form-ends : length form ≤ layersEnd s
-  form-ends = omega (arith, form-length)
+  form-length : length form ≡ writtenLength s values
+  form-length = omega (arith, length-layersForm s width values (w .long) (s .c) (omega arith))
 
   -- ---- reading the records that are left
 
-  records-ahead : Ahead s values form headerLength 0 (s .c)
-  unfolding layersForm
-  records-ahead = record { count = omega arith; holds = refl }
-
-  ahead-at : (z left : ℕ) → z + left ≡ s .c → Ahead s values form (headerLength + z * layerLength s) z left
-  ahead-at zero left e =
-      let start : headerLength ≡ headerLength + 0 * layerLength s = omega arith in
+  -- from layer z on, that is, behind the z before it
+  records-ahead : (z left : ℕ) → z + left ≡ s .c → Ahead s width values form z left
+  unfolding layersForm layerStart
+  records-ahead zero left e =
       let all : s .c ≡ left = omega (arith, e) in
-      subst (λ (n : ℕ). Ahead s values form n 0 left) start (subst (Ahead s values form headerLength 0) all records-ahead)
-  ahead-at (suc z) left e =
-      let start : headerLength + z * layerLength s + layerLength s ≡ headerLength + suc z * layerLength s = omega arith in
-      subst (λ (n : ℕ). Ahead s values form n (suc z) left) start (ahead-next w (ahead-at z (suc left) (omega (arith, e))))
+      subst (Ahead s width values form 0) all (record { count = omega arith; holds = refl })
+  records-ahead (suc z) left e = ahead-next w (records-ahead z (suc left) (omega (arith, e)))
 
-  rising : (z : ℕ) → z < s .c → take (layerLength s) (drop (headerLength + z * layerLength s) form) ≡ layerForm z (layerValues s values z)
+  ahead : (z : ℕ) → z < s .c → Ahead s width values form z (suc (s .c - 1 - z))
+  ahead z h = records-ahead z (suc (s .c - 1 - z)) (omega arith)
+
+  rising :
+      (z : ℕ) → z < s .c
+      → take (layerLength s width) (drop (headerLength + z * layerLength s width) form) ≡ layerForm width z (layerValues s values z)
   rising z h =
-      ap (take (layerLength s)) (starts w (ahead-at z (suc (s .c - 1 - z)) (omega arith)))
-      ∙ take-at (recordForm s values z) _ (layerLength s) (own-length w z h)
+      rw (← (even-start s form width (s .c) (λ k b. width-ahead w (ahead k b)) z (omega arith)), starts w (ahead z h))
+      (take-at (recordForm s width values z) _ (layerLength s width) (own-length w z h))
 
-  layers-hold : (left start z : ℕ) → Ahead s values form start z left → AllHold (layersChecks s form left start z)
-  unfolding layersChecks flatMap range
-  layers-hold zero start z r = tt
-  layers-hold (suc left) start z r =
-      let next : ℕ = start + layerLength s in
-      append-hold (recordChecks s form start z) (layersChecks s form left next (suc z)) (record-holds w r) (layers-hold left next (suc z) (ahead-next w r))
+  -- no byte is left for a patch
+  form-ends : length form ≤ layersEnd s form
+  unfolding flatMap range
+  form-ends = let none = ap length (records-ahead (s .c) 0 (omega arith) .holds) in omega (arith, length-drop (layersEnd s form) form)
 
-  layers-filled :
-      (left start z : ℕ) (buffer : List ℤ) → Ahead s values form start z left → length buffer ≡ size s
-      → take (z * area s) buffer ≡ take (z * area s) values
-      → layersFilled s form left start buffer ≡ values
-  unfolding layersFilled size
-  layers-filled zero start z buffer r long e =
+  layers-hold : (left z : ℕ) → Ahead s width values form z left → AllHold (layersChecks s form left z)
+  unfolding layersChecks
+  layers-hold zero z r = tt
+  layers-hold (suc left) z r =
+      append-hold (recordChecks s form (layerStart s form z) z) (layersChecks s form left (suc z))
+      (record-holds w r) (layers-hold left (suc z) (ahead-next w r))
+
+  all-ahead : Ahead s width values form 0 (s .c)
+  all-ahead = records-ahead 0 (s .c) (omega arith)
+
+  all-layers-hold : AllHold (layersChecks s form (s .c) 0)
+  all-layers-hold = layers-hold (s .c) 0 all-ahead
+
+  -- their values, one after the other
+  layers-due : (left z : ℕ) → Ahead s width values form z left → flatMap (layerDue s form) (range z left) ≡ drop (z * area s) values
+  unfolding flatMap range size
+  layers-due zero z r =
       let c : z ≡ s .c = omega arith in
       let n : z * area s ≡ s .c * area s = ap (λ (k : ℕ). k * area s) c in
-      sym (take-all (z * area s) buffer (omega arith)) ∙ e ∙ take-all (z * area s) values (omega (arith, w .long))
-  layers-filled (suc left) start z buffer r long e =
-      let l : LayerSpan = layerAt s form start in
-      let below : l .z < s .c = rw (z-ahead w r) (z-below w r) in
-      layers-filled left (start + layerLength s) (suc z) (withLayer s form buffer l) (ahead-next w r)
-      (length-withLayer s form buffer l below long) (withLayer-ahead w r buffer e)
+      sym (drop-of-length-le values {i = z * area s} (omega (arith, w .long)))
+  layers-due (suc left) z r =
+      let n : suc z * area s ≡ z * area s + area s = omega arith in
+      ap₂ _++_ (values-ahead w r) (layers-due left (suc z) (ahead-next w r) ∙ ap (λ (k : ℕ). drop k values) n ∙ sym (drop-drop (area s) (z * area s) values))
+      ∙ take-append-drop (area s) (drop (z * area s) values)
 
   -- ---- reading
 
@@ -91,7 +99,7 @@ module _ {s : Sides} {T : ℕ} {values : List ℤ} (w : Writable s T values) whe
       true-and _ _ (w .fits) (true-and _ _ (le-leb _ _ (f .a-high)) (true-and _ _ (le-leb _ _ (f .b-high)) (le-leb _ _ (f .c-high))))
 
   allowed-read : allowedIn form ≡ T
-  allowed-read = sym (word-drop 2 5 form 0) ∙ word-wordBytes 2 T (layersForm s values (s .c)) (w .allowed)
+  allowed-read = sym (word-drop 2 5 form 0) ∙ word-wordBytes 2 T (layersForm s width values (s .c)) (w .allowed)
 
   module _ (lent : List ℤ) (long : length lent ≡ size s) where
     header-holds : AllHold (headerChecks 64 form (length lent))
@@ -100,28 +108,30 @@ module _ {s : Sides} {T : ℕ} {values : List ℤ} (w : Writable s T values) whe
     read-holds : AllHold (readChecks 64 form (length lent))
     read-holds =
         append-hold (headerChecks 64 form (length lent)) (recordsChecks s form) header-holds
-        (append-hold (layersChecks s form (s .c) headerLength 0) (patchesChecks (size s) form (layersEnd s))
-        (layers-hold (s .c) headerLength 0 records-ahead)
-        (subst AllHold (sym (checks-none (size s) form (layersEnd s) form-ends)) tt))
+        (append-hold (layersChecks s form (s .c) 0) (patchesChecks (size s) form (layersEnd s form))
+        all-layers-hold
+        (subst AllHold (sym (checks-none (size s) form (layersEnd s form) form-ends)) tt))
+
+    layers-back : layersFilled s form (s .c) 0 lent ≡ values
+    layers-back =
+        let n : 0 * area s ≡ 0 = omega arith in
+        filled-layers s form (s .c) 0 lent (omega arith) long all-layers-hold
+        ∙ ap₂ _++_ (ap (λ (k : ℕ). take k lent) n) (layers-due (s .c) 0 all-ahead ∙ ap (λ (k : ℕ). drop k values) n)
 
     read-back : read form lent ≡ grid s T values
     unfolding read readUpTo filled
     read-back =
-        let n : 0 * area s ≡ 0 = omega arith in
         unless-held (untouched lent) (accepted form lent) (readChecks 64 form (length lent)) read-holds
-        ∙ ap₂ (grid s) allowed-read
-        (patched-none form (layersEnd s) _ form-ends ∙ layers-filled (s .c) headerLength 0 lent records-ahead long (rw n))
+        ∙ ap₂ (grid s) allowed-read (patched-none form (layersEnd s form) _ form-ends ∙ layers-back)
 
   -- ---- the bytes that write leaves, up to what it answers
 
-  write-holds : (file : List ℕ) → writtenLength s ≤ length file → AllHold (writeChecks s values (length file))
-  write-holds file room = (ap not (w .fits), (ap not (eq-eqb _ _ (w .long)), (le-ltb _ _ room, tt)))
+  grid-holds : AllHold (gridChecks s values)
+  grid-holds = (ap not (w .fits), (ap not (eq-eqb _ _ (w .long)), (w .known, tt)))
 
-  output-is : (file : List ℕ) → writtenLength s ≤ length file → take (writtenLength s) (write s T values file .lent) ≡ form
-  unfolding write
+  output-is : (file : List ℕ) → writtenLength s values ≤ length file → take (writtenLength s values) (write s T values file .lent) ≡ form
   output-is file room =
-      rw (unless-held (untouched file) (written s T values file) (writeChecks s values (length file)) (write-holds file room))
-      (take-at form (drop (writtenLength s) file) (writtenLength s) form-length)
+      rw (← (all-written s T values file grid-holds room)) (take-at form (drop (writtenLength s values) file) (writtenLength s values) form-length)
 
 -- the sides stand in the form: they agree before anything is read into a buffer
 one-grid : {s t : Sides} {T U : ℕ} {values others : List ℤ} → Writable s T values → Writable t U others

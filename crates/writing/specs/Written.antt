@@ -1,19 +1,20 @@
--- Document 02, CR 1, "Grid files out": sides, T and values in, file bytes into a lent buffer.
+-- Document 02, CR 1, "Grid files out", with CR 5: sides, T and values in, file bytes into a lent buffer.
 use mathlib.Core.Path.{_≡_}
-use mathlib.Core.Bool.{not, true}
+use mathlib.Core.Bool.{not, cond, true, false}
 use mathlib.Core.List.{List, [], _∷_, _++_, flatMap}
-use Prim.Native.Nat.{ℕ, _*_, _≤_}
+use Prim.Native.Nat.{ℕ, _+_, _-_, _*_, _≤_}
 use lib.Dec.{ltb, eqb}
 use lib.ListN.{length, take, drop}
 use lib.IntN.{ℤ}
-use Rattle.prelude.specs.Lists.{range}
+use Rattle.prelude.specs.Lists.{any, range}
 use Rattle.rules.specs.declared.Sides.{Sides}
+use Rattle.rules.specs.Value.{beyond, stray}
 use Rattle.rules.specs.Grid.{fitSides, size}
 use Rattle.rules.specs.Checks.{Check, _when_, unless}
 use Rattle.rules.specs.Answer.{Reply, refused, done, Outcome, outcome, untouched}
-use Rattle.words.specs.Words.{wordBytes, valueBytes}
-use Rattle.layers.specs.Layer.{width, area}
-use Rattle.gridfile.specs.File.{layersEnd}
+use Rattle.words.specs.Words.{Width, half, wordBytes, valueBytes}
+use Rattle.layers.specs.Layer.{kindOf, area, layerLength}
+use Rattle.gridfile.specs.File.{headerLength}
 use Rattle.writing.specs.declared.WriteAnswer.{WriteAnswer}
 
 -- ---- the written form of a grid
@@ -26,43 +27,56 @@ headerForm s T = 0x56 ∷ 0x48 ∷ s .a ∷ s .b ∷ s .c ∷ wordBytes 2 T
 abbrev pub layerValues : Sides → List ℤ → ℕ → List ℤ
 layerValues s values z = take (area s) (drop (z * area s) values)
 
--- values one after the other
-unfoldable pub valuesForm : List ℤ → List ℕ
-valuesForm values = flatMap (valueBytes width) values
+-- two bytes a value where all measured values lie in -32,767 to 32,767, otherwise four throughout
+unfoldable pub widthFor : List ℤ → ℕ
+widthFor values = cond (any (beyond 32767) values) 4 2
 
--- hex 56 4C, byte z, then the values
-abbrev pub layerForm : ℕ → List ℤ → List ℕ
-layerForm z values = 0x56 ∷ 0x4C ∷ z ∷ valuesForm values
+-- values that so many bytes can say
+pub record Held (width : ℕ) (values : List ℤ) : Type 0 where
+  pub two-or-four : Width width
+  pub each : any (beyond (half width - 1)) values ≡ false
+
+-- values one after the other, of so many bytes each
+unfoldable pub valuesForm : ℕ → List ℤ → List ℕ
+valuesForm width values = flatMap (valueBytes width) values
+
+-- hex 56 4C or hex 56 57, byte z, then the values
+abbrev pub layerForm : ℕ → ℕ → List ℤ → List ℕ
+layerForm width z values = 0x56 ∷ kindOf width ∷ z ∷ valuesForm width values
 
 -- the first layers, in rising z
-unfoldable pub layersForm : Sides → List ℤ → ℕ → List ℕ
-layersForm s values count = flatMap (λ z. layerForm z (layerValues s values z)) (range 0 count)
+unfoldable pub layersForm : Sides → ℕ → List ℤ → ℕ → List ℕ
+layersForm s width values count = flatMap (λ z. layerForm width z (layerValues s values z)) (range 0 count)
 
 abbrev pub writtenForm : Sides → ℕ → List ℤ → List ℕ
-writtenForm s T values = headerForm s T ++ layersForm s values (s .c)
+writtenForm s T values = headerForm s T ++ layersForm s (widthFor values) values (s .c)
 
--- 7 + c times (3 + 2 times a times b): the writer writes layers only
-abbrev pub writtenLength : Sides → ℕ
-writtenLength s = layersEnd s
+-- 7 + c times (3 + 2 times a times b), or with 4 for 2: the writer writes layers only
+abbrev pub writtenLength : Sides → List ℤ → ℕ
+writtenLength s values = headerLength + s .c * layerLength s (widthFor values)
 
 -- ---- write: it answers that length, and bytes past it stay untouched
 
--- the lent buffer is of so many bytes
-abbrev pub writeChecks : Sides → List ℤ → ℕ → List Check
-writeChecks s values lent =
+abbrev pub gridChecks : Sides → List ℤ → List Check
+gridChecks s values =
     1 when not (fitSides s)
     ∷ 2 when not (eqb (length values) (size s))
-    ∷ 26 when ltb lent (writtenLength s)
+    ∷ 28 when any stray values
     ∷ []
 
+-- the lent buffer is of so many bytes
+abbrev pub writeChecks : Sides → List ℤ → ℕ → List Check
+writeChecks s values lent = gridChecks s values ++ (26 when ltb lent (writtenLength s values) ∷ [])
+
 -- what holds where none of them fails
-pub record Room (s : Sides) (values lent : ℕ) : Type 0 where
+pub record Room (s : Sides) (values : List ℤ) (lent : ℕ) : Type 0 where
   pub fits : fitSides s ≡ true
-  pub long : values ≡ size s
-  pub room : writtenLength s ≤ lent
+  pub long : length values ≡ size s
+  pub known : any stray values ≡ false
+  pub room : writtenLength s values ≤ lent
 
 abbrev pub written : Sides → ℕ → List ℤ → List ℕ → Outcome (List ℕ) ℕ
-written s T values lent = outcome (done (writtenLength s)) (writtenForm s T values ++ drop (writtenLength s) lent)
+written s T values lent = outcome (done (writtenLength s values)) (writtenForm s T values ++ drop (writtenLength s values) lent)
 
 unfoldable pub write : Sides → ℕ → List ℤ → List ℕ → Outcome (List ℕ) ℕ
 write s T values lent = unless (writeChecks s values (length lent)) (untouched lent) (written s T values lent)

@@ -7,10 +7,12 @@ ghost use lib.ListN.{length, take, drop};
 ghost use Rattle.rules.specs.Grid.{fitSides};
 ghost use Rattle.rules.specs.Checks.{firstFailing};
 ghost use Rattle.rules.specs.Answer.{outcome};
-ghost use Rattle.layers.specs.Layer.{width};
+ghost use Rattle.words.specs.Words.{Width};
+ghost use Rattle.layers.specs.Layer.{kindOf, layerLength};
 ghost use Rattle.gridfile.specs.File.{headerLength};
 ghost use Rattle.writing.specs.Written as spec;
-ghost use Rattle.writing.specs.Written.{headerForm, valuesForm, layerForm, layersForm, writtenForm, writtenLength, writeChecks, Room, writeAnswer};
+ghost use Rattle.writing.specs.Written.{headerForm, widthFor, Held, valuesForm, layerForm, layersForm, writtenForm, writtenLength};
+ghost use Rattle.writing.specs.Written.{gridChecks, Room, writeAnswer};
 use rules::Sides;
 
 // What writing a file answers: its length.
@@ -19,7 +21,36 @@ pub enum WriteAnswer {
     Refused(u8),
 }
 
+// ---- how wide it is, and how long
+
+// Two bytes a value where all measured values can be said so, else four.
+fn width_for(values: &[i32]) -> usize
+    ensures { λ r. ⌜ (r ≡ widthFor (now (values .entry))) × (Width r) ⌝ }
+{
+    if values::any_beyond(values, 32767) {
+        return 4;
+    }
+    2
+}
+
+fn written_length(sides: Sides, width: usize) -> usize
+    requires { ⌜ (fitSides sides ≡ true) × (Width width) ⌝ }
+    ensures { λ r. ⌜ r ≡ headerLength + sides .c * layerLength sides width ⌝ }
+{
+    7 + sides.c * layers::layer_length(sides, width)
+}
+
 // ---- the written form
+
+fn kind_of(width: usize) -> u8
+    requires { ⌜ Width width ⌝ }
+    ensures { λ r. ⌜ r ≡ kindOf width ⌝ }
+{
+    if width == 4 {
+        return 0x57;
+    }
+    0x4C
+}
 
 fn write_header(sides: Sides, allowed: u16, file: &mut [u8])
     requires { ⌜ (fitSides sides ≡ true) × (headerLength ≤ length (now file)) ⌝ }
@@ -30,46 +61,48 @@ fn write_header(sides: Sides, allowed: u16, file: &mut [u8])
     file[2] = sides.a as u8;
     file[3] = sides.b as u8;
     file[4] = sides.c as u8;
-    words::put_word(file, 5, allowed);
+    words::put_word(file, 5, 2, allowed as u32);
 }
 
-// Two bytes each.
-fn write_values(values: &[i16], bytes: &mut [u8])
-    requires { ⌜ length (now bytes) ≡ width * length (now values) ⌝ }
-    ensures { λ _. ⌜ now (bytes .exit) ≡ valuesForm (now (values .entry)) ⌝ }
+// So many bytes each.
+fn write_values(width: usize, values: &[i32], bytes: &mut [u8])
+    requires { ⌜ (Held width (now values)) × (length (now bytes) ≡ width * length (now values)) ⌝ }
+    ensures { λ _. ⌜ now (bytes .exit) ≡ valuesForm width (now (values .entry)) ⌝ }
 {
     let mut i = 0;
     while i < values.len() {
-        words::put_value(bytes, 2 * i, values[i]);
+        words::put_value(bytes, width * i, width, values[i]);
         i += 1;
     }
 }
 
 // The record of layer z.
-fn write_layer(z: u8, values: &[i16], bytes: &mut [u8])
-    requires { ⌜ length (now bytes) ≡ 3 + width * length (now values) ⌝ }
-    ensures { λ _. ⌜ now (bytes .exit) ≡ layerForm z (now (values .entry)) ⌝ }
+fn write_layer(width: usize, z: u8, values: &[i32], bytes: &mut [u8])
+    requires { ⌜ (Held width (now values)) × (length (now bytes) ≡ 3 + width * length (now values)) ⌝ }
+    ensures { λ _. ⌜ now (bytes .exit) ≡ layerForm width z (now (values .entry)) ⌝ }
 {
     bytes[0] = 0x56;
-    bytes[1] = 0x4C;
+    bytes[1] = kind_of(width);
     bytes[2] = z;
     let end = bytes.len();
-    write_values(values, &mut bytes[3..end]);
+    write_values(width, values, &mut bytes[3..end]);
 }
 
 // All records, behind the header.
-fn write_layers(sides: Sides, values: &[i16], file: &mut [u8])
-    requires { ⌜ Room sides (length (now values)) (length (now file)) ⌝ }
+fn write_layers(sides: Sides, width: usize, values: &[i32], file: &mut [u8])
+    requires { ⌜ (Room sides (now values) (length (now file))) × (width ≡ widthFor (now values)) ⌝ }
     ensures { λ _. ⌜ now (file .exit)
-        ≡ (take headerLength (now (file .entry)) ++ layersForm sides (now (values .entry)) (sides .c)) ++ drop (writtenLength sides) (now (file .entry)) ⌝ }
+        ≡ (take headerLength (now (file .entry)) ++ layersForm sides width (now (values .entry)) (sides .c))
+        ++ drop (writtenLength sides (now (values .entry))) (now (file .entry)) ⌝ }
 {
     let count = layers::area(sides);
-    let total = layers::layer_length(sides);
+    let total = layers::layer_length(sides, width);
     let mut start = 7;
     let mut z = 0;
     while z < sides.c {
         let at = z * count;
         write_layer(
+            width,
             z as u8,
             &values[at..at + count],
             &mut file[start..start + total],
@@ -79,19 +112,20 @@ fn write_layers(sides: Sides, values: &[i16], file: &mut [u8])
     }
 }
 
-fn write_file(sides: Sides, allowed: u16, values: &[i16], file: &mut [u8])
-    requires { ⌜ Room sides (length (now values)) (length (now file)) ⌝ }
-    ensures { λ _. ⌜ now (file .exit) ≡ writtenForm sides allowed (now (values .entry)) ++ drop (writtenLength sides) (now (file .entry)) ⌝ }
+fn write_file(sides: Sides, allowed: u16, width: usize, values: &[i32], file: &mut [u8])
+    requires { ⌜ (Room sides (now values) (length (now file))) × (width ≡ widthFor (now values)) ⌝ }
+    ensures { λ _. ⌜ now (file .exit)
+        ≡ writtenForm sides allowed (now (values .entry)) ++ drop (writtenLength sides (now (values .entry))) (now (file .entry)) ⌝ }
 {
     write_header(sides, allowed, file);
-    write_layers(sides, values, file);
+    write_layers(sides, width, values, file);
 }
 
 // ---- write
 
-// The number that a grid is refused with, for a buffer of that length, or 0.
-fn refusal(sides: Sides, values: &[i16], lent: usize) -> u8
-    ensures { λ r. ⌜ r ≡ firstFailing (writeChecks sides (now (values .entry)) lent) ⌝ }
+// The number that a grid is refused with, whatever the buffer, or 0.
+fn grid_refusal(sides: Sides, values: &[i32]) -> u8
+    ensures { λ r. ⌜ r ≡ firstFailing (gridChecks sides (now (values .entry))) ⌝ }
 {
     if !sizes::fit_sides(sides) {
         return 1;
@@ -99,19 +133,24 @@ fn refusal(sides: Sides, values: &[i16], lent: usize) -> u8
     if values.len() != sizes::voxel_count(sides) {
         return 2;
     }
-    if lent < gridfile::layers_end(sides) {
-        return 26;
+    if values::any_beyond(values, 1000000000) {
+        return 28;
     }
     0
 }
 
-pub fn write(sides: Sides, allowed: u16, values: &[i16], file: &mut [u8]) -> WriteAnswer
+pub fn write(sides: Sides, allowed: u16, values: &[i32], file: &mut [u8]) -> WriteAnswer
     ensures { λ r. ⌜ outcome (writeAnswer r) (now (file .exit)) ≡ spec.write sides allowed (now (values .entry)) (now (file .entry)) ⌝ }
 {
-    let n = refusal(sides, values, file.len());
+    let n = grid_refusal(sides, values);
     if n != 0 {
         return WriteAnswer::Refused(n);
     }
-    write_file(sides, allowed, values, file);
-    WriteAnswer::Written(gridfile::layers_end(sides))
+    let width = width_for(values);
+    let length = written_length(sides, width);
+    if file.len() < length {
+        return WriteAnswer::Refused(26);
+    }
+    write_file(sides, allowed, width, values, file);
+    WriteAnswer::Written(length)
 }

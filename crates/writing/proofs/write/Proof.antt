@@ -1,62 +1,75 @@
 -- `writing::write` meets its contract.
-use mathlib.Core.Path.{_≡_, refl, sym, _∙_}
+use mathlib.Core.Path.{_≡_, refl, ap, sym, _∙_}
+use Prim.Native.Nat.{ℕ, _+_, _*_, _≤_}
 use native.Mathlib.Omega.{arith}
 use lib.ListN.{length}
 use borrow.Author.Needs.{needs}
-use Rattle.rules.specs.Answer.{untouched}
-use Rattle.rules.proofs.Checks.{all-hold, call-refused, call-done}
-use Rattle.writing.specs.Written.{writeChecks, Room, written, write}
-use Rattle.writing.proofs.Checking.{has-room}
+use Rattle.rules.specs.Checks.{AllHold}
+use Rattle.rules.proofs.Checks.{all-hold}
+use Rattle.layers.specs.Layer.{layerLength}
+use Rattle.gridfile.specs.File.{headerLength}
+use Rattle.writing.specs.Written.{writtenLength, gridChecks}
+use Rattle.writing.proofs.Checking.{grid-fits, has-room, grid-refused, room-refused, all-written}
 use Rattle.writing.proofs.write.Statement.{statement}
 use Rattle.writing.proofs.write.Tie as tie
 
--- behind the branch
-none : (c : tie.Else1) → c .before .refusal .result ≡ 0
-none c = omega arith
-
-right : (c : tie.Else1) → let a = c .before .before .before .args in Room (a .sides) (length (a .values .now)) (length (a .file .now))
+-- behind the first branch: the grid is not refused
+right : (c : tie.Else1) → let a = c .before .before .before .args in AllHold (gridChecks (a .sides) (a .values .now))
 right c =
-    let a = c .before .before .before .args in
-    has-room (a .sides) (a .values .now) (length (a .file .now)) (all-hold _ refl (sym (c .before .refusal .ensures) ∙ none c))
+    let none : c .before .grid-refusal .result ≡ 0 = omega arith in
+    all-hold _ refl (sym (c .before .grid-refusal .ensures) ∙ none)
 
-refusal-requires : tie.Need-refusal-requires
-refusal-requires c κs = search needs
+-- the length, by the width that the code found
+length-is : (c : tie.After-written-length) → let a = c .before .before .before .before .before .args in
+    c .written-length .result ≡ writtenLength (a .sides) (a .values .now)
+length-is c =
+    let s = c .before .before .before .before .before .args .sides in
+    c .written-length .ensures ∙ ap (λ (w : ℕ). headerLength + s .c * layerLength s w) (c .before .width-for .ensures .0)
+
+-- behind the second: it has room
+roomy : (c : tie.Else2) → let a = c .before .before .before .before .before .before .args in
+    writtenLength (a .sides) (a .values .now) ≤ length (a .file .now)
+roomy c = rw (length-is (c .before)) at (c .if2 .left)
+
+grid-refusal-requires : tie.Need-grid-refusal-requires
+grid-refusal-requires c κs = search needs
 
 returns : tie.Need-returns
-unfolding write
-returns c =
-    let r = c .before in
-    let a = r .before .before .args in
-    call-refused (untouched (a .file .now)) (written (a .sides) (a .allowed) (a .values .now) (a .file .now)) _ _ (r .refusal .ensures) (λ e. omega arith)
+returns c = grid-refused _ _ _ _ _ (c .before .grid-refusal .ensures) (λ e. omega arith)
+
+width-for-requires : tie.Need-width-for-requires
+width-for-requires c κs = search needs
+
+written-length-requires : tie.Need-written-length-requires
+written-length-requires c κs = (grid-fits _ _ (right (c .before)), c .width-for .ensures .1)
+
+returns-2 : tie.Need-returns-2
+returns-2 c = room-refused _ _ _ _ (right (c .before .before .before)) (rw (length-is (c .before)) at (c .if2 .taken))
 
 write-file-requires : tie.Need-write-file-requires
-write-file-requires c κs = right (c .before)
-
-layers-end-requires : tie.Need-layers-end-requires
-layers-end-requires c κs = right (c .before .before .before .before) .fits
+write-file-requires c κs =
+    let w = c .before .before .before in
+    (has-room _ _ (right (w .before)) _ (roomy (c .before)), w .width-for .ensures .0)
 
 same-length : tie.Need-same-length
 same-length c = search needs
 
-returns-2 : tie.Need-returns-2
-unfolding write
-returns-2 c =
-    let w = c .before .before .before in
-    let e = w .before .before in
-    let r = e .before in
-    let a = r .before .before .args in
-    call-done (untouched (a .file .now)) (written (a .sides) (a .allowed) (a .values .now) (a .file .now))
-    (writeChecks (a .sides) (a .values .now) (length (a .file .now))) _
-    (r .refusal .ensures) refl (none e) _
-    (simp (c .layers-end .ensures, w .write-file .ensures))
+returns-3 : tie.Need-returns-3
+returns-3 c =
+    let f = c .before .before in
+    let e = f .before .before in
+    let l = e .before in
+    rw (length-is l, f .write-file .ensures) (all-written _ _ _ _ (right (l .before .before)) (roomy e))
 
 pub write-spec : {M : Type 1} → statement M
 write-spec =
     tie.close
     (tie.spec
-    refusal-requires
+    grid-refusal-requires
     returns
+    width-for-requires
+    written-length-requires
+    returns-2
     write-file-requires
-    layers-end-requires
     same-length
-    returns-2)
+    returns-3)

@@ -1,5 +1,6 @@
 -- `writing::write_header` meets its contract.
-use mathlib.Core.Path.{ap, _∙_}
+use mathlib.Core.Path.{refl, ap, _∙_}
+use mathlib.Core.Logic.{inl}
 use Prim.Native.Nat.{_≤_}
 use native.Mathlib.Omega.{arith}
 use lib.ListN.{length, length-set, length-drop}
@@ -37,7 +38,7 @@ slice-write-file-5 : tie.Need-slice-write-file-5
 slice-write-file-5 c = simp length-set (omega (arith, room (c .before .before .before .before)))
 
 put-word-requires : tie.Need-put-word-requires
-put-word-requires c κs = simp length-set (omega (arith, room (c .before .before .before .before .before)))
+put-word-requires c κs = (inl refl, simp length-set (omega (arith, room (c .before .before .before .before .before))), search needs)
 
 returns : tie.Need-returns
 returns c =

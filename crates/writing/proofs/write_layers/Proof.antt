@@ -1,44 +1,54 @@
 -- `writing::write_layers` meets its contract.
+use mathlib.Core.Path.{_≡_, ap}
 use Prim.Native.Nat.{ℕ, _+_, _-_, _*_, _≤_}
 use native.Mathlib.Omega.{arith}
 use lib.ListN.{length}
 use borrow.Author.Needs.{needs}
 use Rattle.rules.specs.Grid.{size}
 use Rattle.rules.proofs.Places.{fit}
-use Rattle.layers.proofs.Sizes.{size-small, layer-room, length-part}
-use Rattle.writing.proofs.Layers.{Laid, laid-start, laid-long, laid-room, laid-end, laid-next, laid-done}
+use Rattle.layers.specs.Layer.{area}
+use Rattle.layers.proofs.Sizes.{size-small, layer-room}
+use Rattle.writing.proofs.Holding.{held}
+use Rattle.writing.proofs.Layers.{Laid, laid-start, laid-long, laid-room, laid-end, laid-part, laid-next, laid-done}
 use Rattle.writing.proofs.write_layers.Statement.{statement}
 use Rattle.writing.proofs.write_layers.Tie as tie
 
 abbrev Inv-loop : tie.InvT-loop
-Inv-loop sides values file₀ count total start₀ z₀ file start z = Laid sides values file₀ file start z
+Inv-loop sides width values file₀ count total start₀ z₀ file start z = Laid sides width values file₀ file start z
 
 abbrev μ-loop : tie.MeasureT-loop
-μ-loop sides values file₀ count total start₀ z₀ file start z = sides .c - z
+μ-loop sides width values file₀ count total start₀ z₀ file start z = sides .c - z
 
 -- in the loop: where the layer lies among the values, and its record in the file
 room : (c : tie.Then1 Inv-loop μ-loop) → let l = c .before .before in let n = l .before .before .area .result in
     l .loop .z * n + n ≤ size (c .before .before .before .before .before .before .args .sides)
 room c = layer-room _ _ _ (c .before .before .before .before .area .ensures .0) (c .if1 .taken)
 
+below : (c : tie.Then1 Inv-loop μ-loop) → let l = c .before .before in
+    l .loop .z * l .before .before .area .result ≡ l .loop .z * area (l .before .before .before .before .args .sides)
+below c = ap (λ (n : ℕ). c .before .before .loop .z * n) (c .before .before .before .before .area .ensures .0)
+
 small : (c : tie.Then1 Inv-loop μ-loop) → size (c .before .before .before .before .before .before .args .sides) ≤ 262144
 small c = size-small _ (c .before .before .loop .inv .ready .fits)
 
 record-room : (c : tie.Then1 Inv-loop μ-loop) → let l = c .before .before in l .loop .start + l .before .layer-length .result ≤ length (l .loop .file)
-record-room c = omega (arith, laid-room _ _ _ _ _ _ (c .before .before .loop .inv) (c .if1 .taken), c .before .before .before .layer-length .ensures)
+record-room c = let l = c .before .before in laid-room _ _ _ _ _ _ _ (l .loop .inv) _ (c .if1 .taken) (l .before .layer-length .ensures .0)
 
 -- no sum overflows
-record-end : (c : tie.Then1 Inv-loop μ-loop) → let l = c .before .before in l .loop .start + l .before .layer-length .result ≤ 524487
-record-end c = let l = c .before .before in laid-end _ _ _ _ _ _ (l .loop .inv) _ (c .if1 .taken) (l .before .layer-length .ensures)
+record-end : (c : tie.Then1 Inv-loop μ-loop) → let l = c .before .before in l .loop .start + l .before .layer-length .result ≤ 1048775
+record-end c =
+    let l = c .before .before in
+    let e = l .before .layer-length .ensures in
+    laid-end _ _ _ _ _ _ _ (l .loop .inv) _ (c .if1 .taken) (e .0) (e .1)
 
 area-requires : tie.Need-area-requires Inv-loop μ-loop
-area-requires c κs = c .before .pre .fits
+area-requires c κs = c .before .pre .0 .fits
 
 layer-length-requires : tie.Need-layer-length-requires Inv-loop μ-loop
-layer-length-requires c κs = c .before .before .pre .fits
+layer-length-requires c κs = let p = c .before .before .pre in (p .0 .fits, rw (p .1) (held _ (p .0 .known) .two-or-four))
 
 loop-holds : tie.Need-loop-holds Inv-loop μ-loop
-loop-holds c = laid-start _ _ _ (c .before .before .before .pre)
+loop-holds c = let p = c .before .before .before .pre in laid-start _ _ _ _ (p .0) (p .1)
 
 mul-at : tie.Need-mul-at Inv-loop μ-loop
 mul-at c = omega (arith, room c, small c)
@@ -77,12 +87,8 @@ write-layer-requires : tie.Need-write-layer-requires Inv-loop μ-loop
 write-layer-requires c κs =
     let t = c .before .before in
     let l = t .before .before in
-    let n : ℕ = l .before .before .area .result in
-    let at : ℕ = l .loop .z * n in
-    let bytes = length-part (l .loop .file) (l .loop .start) (l .loop .start + l .before .layer-length .result) (omega arith) (record-room t) in
-    let all = l .before .before .before .before .args .values .now in
-    let values = length-part all at (at + n) (omega arith) (omega (arith, room t, l .loop .inv .ready .long)) in
-    omega (arith, bytes, values, l .before .layer-length .ensures, l .before .before .area .ensures .0)
+    let e = l .before .before .area .ensures .0 in
+    laid-part _ _ _ _ _ _ _ (l .loop .inv) _ _ _ (t .if1 .taken) (below t) e (l .before .layer-length .ensures .0)
 
 add-start : tie.Need-add-start Inv-loop μ-loop
 add-start c = omega (arith, record-end (c .before .before .before .before .before))
@@ -99,15 +105,14 @@ loop-again : tie.Need-loop-again Inv-loop μ-loop
 loop-again c =
     let t = c .before .before .before .before .before in
     let l = t .before .before in
-    let area = l .before .before .area .ensures .0 in
-    laid-next _ _ _ _ _ _ (l .loop .inv) _ _ _ _ (t .if1 .taken) (rw area (omega arith)) area (l .before .layer-length .ensures)
-    (c .before .before .write-layer .ensures)
+    let e = l .before .before .area .ensures .0 in
+    laid-next _ _ _ _ _ _ _ (l .loop .inv) _ _ _ (t .if1 .taken) (below t) e (l .before .layer-length .ensures .0) _ (c .before .before .write-layer .ensures)
 
 same-length : tie.Need-same-length Inv-loop μ-loop
-same-length c = laid-long _ _ _ _ _ _ (c .before .before .loop .inv)
+same-length c = laid-long _ _ _ _ _ _ _ (c .before .before .loop .inv)
 
 returns : tie.Need-returns Inv-loop μ-loop
-returns c = laid-done _ _ _ _ _ _ (c .before .before .loop .inv) (c .if1 .left)
+returns c = laid-done _ _ _ _ _ _ _ (c .before .before .loop .inv) (c .if1 .left)
 
 pub write-layers-spec : {M : Type 1} → statement M
 write-layers-spec =
