@@ -57,7 +57,7 @@ pub extern "C" fn wattlerugby_points(
 }
 
 #[no_mangle]
-pub extern "C" fn wattlerugby_read(file: &[u8], values: &mut [i16]) -> ReadReply
+pub extern "C" fn wattlerugby_read(file: &[u8], values: &mut [i32]) -> ReadReply
     ensures { λ r. ⌜ returned r (now (values .exit)) ≡ writtenOut readStruct (read (now (file .entry)) (now (values .entry))) ⌝ }
 {
     look_replies::read_answer(gridfile::read(file, values))
@@ -74,7 +74,7 @@ pub extern "C" fn wattlerugby_read_layer(sides: Sides, file: &[u8], start: usize
 pub extern "C" fn wattlerugby_write(
     sides: Sides,
     allowed: u16,
-    values: &[i16],
+    values: &[i32],
     file: &mut [u8],
 ) -> WriteReply
     ensures { λ r. ⌜ returned r (now (file .exit)) ≡ writtenOut writeStruct (write sides allowed (now (values .entry)) (now (file .entry))) ⌝ }

@@ -18,7 +18,7 @@ use rules::Sides;
 pub extern "C" fn wattlerugby_begin(
     sides: Sides,
     allowed: u16,
-    values: &[i16],
+    values: &[i32],
     dist: &mut [i32],
     status: &mut [u8],
 ) -> BeginAnswer

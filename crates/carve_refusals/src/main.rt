@@ -32,6 +32,34 @@ fn print_changed(at: usize, byte: u8, n: usize)
     printing::print_line(&file[..n]);
 }
 
+// Prints the line of a file of three wide layers of 39 bytes. Each value is 0 but for a -1 in the middle and, in a corner, 1,000,000,000 and so
+// much more.
+fn print_wide(more: u8) {
+    let mut file = [0u8; 124];
+    file[0] = 0x56;
+    file[1] = 0x48;
+    file[2] = 3;
+    file[3] = 3;
+    file[4] = 3;
+    file[7] = 0x56;
+    file[8] = 0x57;
+    file[10] = more;
+    file[11] = 0xCA;
+    file[12] = 0x9A;
+    file[13] = 0x3B;
+    file[46] = 0x56;
+    file[47] = 0x57;
+    file[48] = 1;
+    file[65] = 0xFF;
+    file[66] = 0xFF;
+    file[67] = 0xFF;
+    file[68] = 0xFF;
+    file[85] = 0x56;
+    file[86] = 0x57;
+    file[87] = 2;
+    printing::print_line(&file);
+}
+
 // 25, whatever the input holds.
 fn print_too_long() {
     let input = [0u8; 65537];
@@ -52,6 +80,9 @@ fn main() {
     print_changed(30, 3, 70);
     print_changed(30, 0, 70);
     print_changed(30, 2, 70);
+    // none, and 28: wide layers
+    print_wide(0);
+    print_wide(1);
     // 21, 22 and 5: a patch
     print_changed(0, 0x56, 77);
     print_changed(71, 0x4C, 78);

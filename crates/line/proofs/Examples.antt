@@ -35,5 +35,7 @@ examples =
       layer-skipped = refl;
       border = refl;
       mended = refl;
+      wide = refl;
+      out-of-range = refl;
       too-long = too-long;
     }

@@ -1,10 +1,11 @@
--- Worked files of the program, as theorems by computation (proofs/Examples.antt): cases C and D, and refusals of read and of begin.
+-- Worked files of the program, as theorems by computation (proofs/Examples.antt): cases C and D, layers of both widths, and refusals of read and
+-- of begin.
 use mathlib.Core.Path.{_≡_}
 use mathlib.Core.List.{List, [], _∷_, _++_}
 use Prim.Native.Nat.{ℕ, _<_}
-use lib.ListN.{length}
+use lib.ListN.{length, replicate}
 use lib.IntN.{pos}
-use Rattle.gridfile.specs.Examples.{header, file, fileD}
+use Rattle.gridfile.specs.Examples.{header, three, file, first, top, bottom, above, fileD}
 use Rattle.text.specs.Line.{refusedLine, carvedLine}
 use Rattle.line.specs.Program.{longestInput, programLine}
 
@@ -28,6 +29,10 @@ fileC T =
     ++ ((0x56 ∷ 0x4C ∷ 1 ∷ flat ++ (across ++ (beside ++ (across ++ flat))))
     ++ (0x56 ∷ 0x4C ∷ 2 ∷ plane)))
 
+-- 3, 3, 3: wide layers of zeros but for one value of four bytes in a corner, and for -1,000,000,000 in the middle; then a narrow one
+abbrev pub fileWide : List ℕ → List ℕ
+fileWide corner = three (first corner 0) (0x56 ∷ 0x57 ∷ 1 ∷ replicate 16 0 ++ (bottom ++ replicate 16 0)) (0x56 ∷ 0x4C ∷ 2 ∷ replicate 18 0)
+
 pub record Examples : Type 0 where
   -- kept 2 removed 2 opened 0 examined 2 euler 1
   pub case-d : programLine fileD ≡ carvedLine 2 2 0 2 (pos 1)
@@ -44,5 +49,8 @@ pub record Examples : Type 0 where
   pub border : programLine (file 0 1 2) ≡ refusedLine 3
   -- a patch gives case C its middle: no hole, and nothing to carve
   pub mended : programLine (fileC 0 ++ (0x56 ∷ 0x50 ∷ 37 ∷ 0 ∷ 0 ∷ 0 ∷ 0xFC ∷ 0xFF ∷ [])) ≡ carvedLine 9 0 0 0 (pos 1)
+  -- 1,000,000,000 is in the range, and one more is 28
+  pub wide : programLine (fileWide top) ≡ carvedLine 1 0 0 0 (pos 1)
+  pub out-of-range : programLine (fileWide above) ≡ refusedLine 28
   -- input over 65,536 bytes, whatever it holds
   pub too-long : (input : List ℕ) → longestInput < length input → programLine input ≡ refusedLine 25

@@ -118,7 +118,7 @@ fn carved_to_end(given: Record, dist: &mut [i32], status: &mut [u8]) -> Text
 fn begun_line(
     sides: Sides,
     allowed: u16,
-    values: &[i16],
+    values: &[i32],
     dist: &mut [i32],
     status: &mut [u8],
 ) -> Text
@@ -131,7 +131,7 @@ fn begun_line(
 }
 
 // The line of a file, with buffers of zeros that are long enough where the header is right.
-fn line_in(file: &[u8], values: &mut [i16], dist: &mut [i32], status: &mut [u8]) -> Text
+fn line_in(file: &[u8], values: &mut [i32], dist: &mut [i32], status: &mut [u8]) -> Text
     requires { ⌜ Lent (lentFor (now file)) (now values) (now dist) (now status) ⌝ }
     ensures { λ r. ⌜ r ≡ printed (fileLine (now (file .entry))) ⌝ }
 {
@@ -160,7 +160,7 @@ fn file_line(file: &[u8]) -> Text
     ensures { λ r. ⌜ r ≡ printed (fileLine (now (file .entry))) ⌝ }
 {
     let n = voxels_in(file);
-    let mut values = [0i16; 13824];
+    let mut values = [0i32; 13824];
     let mut dist = [0i32; 13824];
     let mut status = [0u8; 13824];
     line_in(file, &mut values[..n], &mut dist[..n], &mut status[..n])

@@ -32,8 +32,8 @@ readStruct (refused n) = record { refusal = n; sides = record { a = 0; b = 0; c 
 readStruct (done h) = record { refusal = 0; sides = h .sides; allowed = h .allowed }
 
 abbrev pub layerStruct : Reply LayerSpan → LayerReply
-layerStruct (refused n) = record { refusal = n; z = 0; from = 0; to = 0 }
-layerStruct (done l) = record { refusal = 0; z = l .z; from = l .from; to = l .to }
+layerStruct (refused n) = record { refusal = n; z = 0; width = 0; from = 0; to = 0 }
+layerStruct (done l) = record { refusal = 0; z = l .z; width = l .width; from = l .from; to = l .to }
 
 abbrev pub writeStruct : Reply ℕ → WriteReply
 writeStruct (refused n) = record { refusal = n; length = 0 }

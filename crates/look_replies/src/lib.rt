@@ -39,6 +39,7 @@ pub struct ReadReply {
 pub struct LayerReply {
     pub refusal: u8,
     pub z: u8,
+    pub width: u8,
     pub from: usize,
     pub to: usize,
 }
@@ -119,15 +120,17 @@ pub fn layer_answer(l: LayerAnswer) -> LayerReply
     ensures { λ r. ⌜ r ≡ layerStruct (layerAnswer l) ⌝ }
 {
     match l {
-        LayerAnswer::Found { z, from, to } => LayerReply {
+        LayerAnswer::Found { z, width, from, to } => LayerReply {
             refusal: 0,
             z,
+            width,
             from,
             to,
         },
         LayerAnswer::Refused(refusal) => LayerReply {
             refusal,
             z: 0,
+            width: 0,
             from: 0,
             to: 0,
         },

@@ -8,7 +8,7 @@ use lib.Dec.{leb, ltb}
 use Rattle.prelude.proofs.Bools.{or-false}
 use Rattle.rules.specs.declared.Sides.{Sides}
 use Rattle.rules.specs.Grid.{size}
-use Rattle.rules.specs.Checks.{_when_, firstFailing}
+use Rattle.rules.specs.Checks.{_when_, firstFailing, AllHold}
 use Rattle.rules.specs.Machine.{State, finishedChecks}
 use Rattle.rules.proofs.Checks.{fails-first, holds-first, all-hold, hold-append}
 use Rattle.rules.proofs.Fit.{ended}
@@ -33,11 +33,11 @@ module _ (i axis : ℕ) (s : Sides) where
 
 -- ---- where none fails
 
-pub crossable : (i axis : ℕ) (g : State) (n : ℕ) → n ≡ firstFailing (crossingChecks i axis g) → n ≡ 0 → Crossable i axis g
+pub crossable-held : (i axis : ℕ) (g : State) → AllHold (crossingChecks i axis g) → Crossable i axis g
 unfolding noNext
-crossable i axis g n f z =
+crossable-held i axis g h =
     let s = g .rec .sides in
-    let p = hold-append (finishedChecks g) (nextChecks i axis s) (all-hold (crossingChecks i axis g) refl (sym f ∙ z)) in
+    let p = hold-append (finishedChecks g) (nextChecks i axis s) h in
     let e = ended g (p .0) in
     let six = or-false (ltb 2 axis) (noNext s i axis) (p .1 .1 .0) in
     record {
@@ -45,3 +45,6 @@ crossable i axis g n f z =
       low = ltb-false _ _ (six .0);
       next = record { fit = e .fit .voxels .lent .sides; here = leb-false (size s) i (p .1 .0); there = leb-false _ _ (six .1) };
     }
+
+pub crossable : (i axis : ℕ) (g : State) (n : ℕ) → n ≡ firstFailing (crossingChecks i axis g) → n ≡ 0 → Crossable i axis g
+crossable i axis g n f z = crossable-held i axis g (all-hold (crossingChecks i axis g) refl (sym f ∙ z))

@@ -7,3 +7,4 @@ pub mod BoundSums
 pub mod Bound
 pub mod Between
 pub mod Crossable
+pub mod LongRange

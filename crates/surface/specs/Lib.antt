@@ -1,2 +1,3 @@
 pub mod Surface
 pub mod Coordinates
+pub mod LongRange

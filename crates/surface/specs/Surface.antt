@@ -1,4 +1,4 @@
--- Document 01, "Surface points": crossing, and the bound on its changed coordinate.
+-- Document 01, "Surface points": crossing, and the bound on its changed coordinate, which document 02's CR 5 asks for over the longer range too.
 use mathlib.Core.Path.{_≡_}
 use mathlib.Core.Bool.{Bool, true, false, _||_}
 use mathlib.Core.List.{List, [], _∷_, _++_}
@@ -131,7 +131,8 @@ Bounded axis v (pos q) (negsuc p) r = Near (along axis (r .x) (r .y) (r .z)) (ex
 Bounded axis v (negsuc p) (negsuc q) r = ⊥
 Bounded axis v (pos p) (pos q) r = ⊥
 
--- what crossing answers where it does not refuse: a point lies within the bound
+-- what crossing answers where it does not refuse: a point lies within the bound. The code ensures it of any two distances of 32 bits, and so of all
+-- that begin can leave: document 02's CR 5, "The bound on surface points covers the longer range as well". LongRange.antt says it of whole grids.
 abbrev pub BoundedAt : Sides → List ℤ → ℕ → ℕ → Option Point → Type 0
 BoundedAt s dist i axis none = Unit
 BoundedAt s dist i axis (some r) = Bounded axis (voxel s i) (distanceAt dist i) (distanceAt dist (nextIndex s i axis)) r
