@@ -1,6 +1,15 @@
-//! Sides, voxels and begin (document 01, "Grid and worked distances").
+//! Sides, voxels, values and begin (document 01, "Grid and worked distances"; document 02, CR 5 for the range of values).
 
-pub const MISSING: i64 = -32768;
+/// The mark of a missing point.
+pub const MISSING: i32 = -2_147_483_648;
+
+const LEAST: i32 = -1_000_000_000;
+const GREATEST: i32 = 1_000_000_000;
+
+/// Whether a value is measured or the mark of a missing point: any other is number 28.
+pub fn is_value(value: i32) -> bool {
+    value == MISSING || (LEAST..=GREATEST).contains(&value)
+}
 
 /// Sides as given by a caller: any numbers.
 #[derive(Clone, Copy, Debug, PartialEq, Eq)]
@@ -90,12 +99,12 @@ impl Record {
 
 pub type Refused = u8;
 
-fn negative(value: i16) -> bool {
-    value < 0 && i64::from(value) != MISSING
+fn negative(value: i32) -> bool {
+    value < 0 && value != MISSING
 }
 
 /// Step 1: the largest group of measured negative voxels joined by touching; of equal groups the one with the smallest index.
-fn inside(sides: &Sides, values: &[i16]) -> Vec<bool> {
+fn inside(sides: &Sides, values: &[i32]) -> Vec<bool> {
     let n = sides.n();
     let mut group = vec![usize::MAX; n];
     let mut best: (usize, usize) = (0, usize::MAX);
@@ -146,13 +155,16 @@ fn steps_to(sides: &Sides, set: &[bool]) -> Vec<i64> {
     steps
 }
 
-pub fn begin(sides: Sides, t: u16, values: &[i16], dist: &mut [i32], status: &mut [u8]) -> Result<Record, Refused> {
+pub fn begin(sides: Sides, t: u16, values: &[i32], dist: &mut [i32], status: &mut [u8]) -> Result<Record, Refused> {
     if !sides.fit() {
         return Err(1);
     }
     let n = sides.n();
     if values.len() != n || dist.len() != n || status.len() != n {
         return Err(2);
+    }
+    if !values.iter().all(|&v| is_value(v)) {
+        return Err(28);
     }
     if (0..n).any(|i| sides.border(i) && negative(values[i])) {
         return Err(3);
@@ -166,7 +178,7 @@ pub fn begin(sides: Sides, t: u16, values: &[i16], dist: &mut [i32], status: &mu
     let m = (0..n).filter(|&i| !s[i] && values[i] >= 0 && facing(i)).map(|i| i64::from(values[i])).max().unwrap_or(1).max(1);
     for i in 0..n {
         dist[i] = if s[i] || (values[i] >= 0 && facing(i)) {
-            i32::from(values[i])
+            values[i]
         } else if facing(i) {
             m as i32
         } else {

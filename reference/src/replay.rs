@@ -11,7 +11,7 @@ use std::io::{BufRead, Write};
 pub struct Replay {
     pub sides: Sides,
     pub t: u16,
-    pub values: Vec<i16>,
+    pub values: Vec<i32>,
     pub dist: Vec<i32>,
     pub status: Vec<u8>,
     pub file: Vec<u8>,
@@ -119,7 +119,7 @@ impl Replay {
 
     fn hashes(&self) -> String {
         let dist = self.dist.iter().flat_map(|&d| d.to_le_bytes());
-        let values = self.values.iter().flat_map(|&v| i32::from(v).to_le_bytes());
+        let values = self.values.iter().flat_map(|&v| v.to_le_bytes());
         format!("dist {} status {} values {}", fnv(dist), fnv(self.status.iter().copied()), fnv(values))
     }
 
@@ -246,7 +246,7 @@ impl Replay {
             }
             "readlayer" => layer(&self.sides, &self.file, words.number()?).map(|l| {
                 let bytes = self.file[l.from..l.to].iter().copied();
-                format!("z {} from {} to {} bytes {}", l.z, l.from, l.to, fnv(bytes))
+                format!("z {} width {} from {} to {} bytes {}", l.z, l.width, l.from, l.to, fnv(bytes))
             }),
             "read" => read(&self.file, &mut self.values, 64).map(|(sides, t)| {
                 (self.sides, self.t) = (sides, t);

@@ -14,7 +14,7 @@ fn start(record: usize) -> usize {
 
 /// The file of a grid with a body, whose records say these z.
 fn file(z: [u8; 4]) -> Vec<u8> {
-    let values: Vec<i16> = (0..N as i16).map(|i| if i == 17 { -6 } else { 6 + i }).collect();
+    let values: Vec<i32> = (0..N as i32).map(|i| if i == 17 { -6 } else { 6 + i }).collect();
     let mut file = vec![0; 7 + 4 * RECORD];
     assert_eq!(write(&SIDES, 1, &values, &mut file), Ok(file.len()));
     (0..4).for_each(|record| file[start(record) + 2] = z[record]);

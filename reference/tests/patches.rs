@@ -1,10 +1,10 @@
 //! Patch records (document 02, CR 2): what they change, the three checks of each, and the program's limit.
 
 use reference::file::{program_line, read, write};
-use reference::grid::Sides;
+use reference::grid::{Sides, MISSING};
 
 /// The file of 4, 4, 3 with these values, T = 0, and then these bytes.
-fn file(values: &[i16], rest: &[u8]) -> Vec<u8> {
+fn file(values: &[i32], rest: &[u8]) -> Vec<u8> {
     let mut file = vec![0; 112];
     assert_eq!(write(&Sides { a: 4, b: 4, c: 3 }, 0, values, &mut file), Ok(112));
     file.extend(rest);
@@ -16,7 +16,7 @@ fn patch(index: u32, value: i16) -> Vec<u8> {
 }
 
 /// Document 01's case D.
-fn case_d() -> Vec<i16> {
+fn case_d() -> Vec<i32> {
     (0..48).map(|i| if i == 21 || i == 26 { -6 } else { 6 }).collect()
 }
 
@@ -34,7 +34,7 @@ fn the_later_patch_stands() {
     let mut lent = vec![77; 48];
     assert_eq!(read(&file(&[6; 48], &patches), &mut lent, 64), Ok((Sides { a: 4, b: 4, c: 3 }, 0)));
     let mut wanted = [6; 48];
-    (wanted[5], wanted[47], wanted[0]) = (-2, i16::MIN, -32767);
+    (wanted[5], wanted[47], wanted[0]) = (-2, MISSING, -32767);
     assert_eq!(lent, wanted);
 }
 
@@ -51,7 +51,7 @@ fn each_patch_is_checked_before_the_next() {
 
 #[test]
 fn the_program_carves_the_patched_grid() {
-    let line = |values: &[i16], patches: &[u8]| program_line(&file(values, patches));
+    let line = |values: &[i32], patches: &[u8]| program_line(&file(values, patches));
     assert_eq!(line(&[6; 48], &[]), "refused 4");
     assert_eq!(line(&[6; 48], &[patch(21, -6), patch(26, -6)].concat()), "kept 2 removed 2 opened 0 examined 2 euler 1");
     assert_eq!(line(&case_d(), &patch(0, -1)), "refused 3");

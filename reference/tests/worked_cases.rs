@@ -55,7 +55,7 @@ fn case_d() {
 
 #[test]
 fn case_d_is_written_as_the_paper_has_it() {
-    let values: Vec<i16> = (0..48).map(|i| if i == 21 || i == 26 { -6 } else { 6 }).collect();
+    let values: Vec<i32> = (0..48).map(|i| if i == 21 || i == 26 { -6 } else { 6 }).collect();
     let file = file_d();
     let mut lent = vec![0xA5; file.len() + 2];
     assert_eq!(write(&Sides { a: 4, b: 4, c: 3 }, 0, &values, &mut lent), Ok(file.len()));

@@ -1,7 +1,7 @@
 //! The writer of grid files (document 02, CR 1): what it writes is read again, its three checks, and what stays as it was.
 
 use reference::file::{read, write};
-use reference::grid::Sides;
+use reference::grid::{Sides, MISSING};
 
 /// Of a grid of 4, 4, 3: 7 + 3 (3 + 2 x 16).
 const LENGTH: usize = 112;
@@ -9,7 +9,7 @@ const LENGTH: usize = 112;
 #[test]
 fn what_is_written_is_read_again() {
     let sides = Sides { a: 3, b: 5, c: 4 };
-    let values: Vec<i16> = (0..60).map(|i| [i16::MIN, -32767, -257, -1, 0, 1, 258, 32767][i % 8]).collect();
+    let values: Vec<i32> = (0..60).map(|i| [MISSING, -32767, -257, -1, 0, 1, 258, 32767][i % 8]).collect();
     let mut lent = vec![0; 7 + 4 * (3 + 2 * 15)];
     assert_eq!(write(&sides, 0xFEDC, &values, &mut lent), Ok(lent.len()));
     let mut again = vec![77; 60];
