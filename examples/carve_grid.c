@@ -24,7 +24,7 @@ enum { MOST_PATCHES = MOST };
 
 /* One byte more than there is room for shows whether a file is longer. */
 static uint8_t file[WATTLERUGBY_LONGEST_FILE + 8 * MOST_PATCHES + 1];
-static int16_t values[MOST];
+static int32_t values[MOST];
 static int32_t dist[MOST];
 static uint8_t status[MOST];
 static double points[3 * MOST_POINTS];

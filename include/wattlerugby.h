@@ -15,7 +15,7 @@
  *     wattlerugby_crossing  a point of the body's surface between two voxels
  *     wattlerugby_points    all points of the surface, as many at a time as you have room for
  *     wattlerugby_read, wattlerugby_read_layer   a grid file, whole or a layer at a time
- *     wattlerugby_write     values out as a grid file; wattlerugby_written_length says how long it is
+ *     wattlerugby_write     values out as a grid file; wattlerugby_written_width and wattlerugby_written_length say how long it is
  *     wattlerugby_local_test   the test by which a voxel may go, on its own
  *     wattlerugby_reason    a refusal number as text
  *
@@ -94,9 +94,9 @@
 /* ---- version */
 
 #define WATTLERUGBY_VERSION_MAJOR 0
-#define WATTLERUGBY_VERSION_MINOR 5
+#define WATTLERUGBY_VERSION_MINOR 6
 #define WATTLERUGBY_VERSION_PATCH 0
-#define WATTLERUGBY_VERSION "0.5.0"
+#define WATTLERUGBY_VERSION "0.6.0"
 
 #ifdef __cplusplus
 extern "C" {
@@ -140,7 +140,10 @@ enum {
     WATTLERUGBY_LAYER_TWICE = 24,      /* a layer's z came before */
     WATTLERUGBY_BYTES_LEFT = 25,       /* no call answers it any more: the program carve alone prints it, for input over 65,536 bytes */
     WATTLERUGBY_ROOM = 26,             /* write: the buffer is shorter than the written file */
-    WATTLERUGBY_LAYER_ORDER = 27       /* a layer's z did not come before, and is not the next: layers go from 0 up, none skipped */
+    WATTLERUGBY_LAYER_ORDER = 27,      /* a layer's z did not come before, and is not the next: layers go from 0 up, none skipped */
+
+    /* the values, lent or in a file */
+    WATTLERUGBY_VALUE = 28             /* begin, write, read: a value is neither in the range of measured values nor the missing mark */
 };
 
 /* What a refusal number says, in English, without a full stop. Any number gets a text. */
@@ -170,6 +173,7 @@ static inline const char *wattlerugby_reason(uint8_t refusal)
     case WATTLERUGBY_BYTES_LEFT: return "the input is over 65,536 bytes";
     case WATTLERUGBY_ROOM: return "the lent buffer is shorter than the file";
     case WATTLERUGBY_LAYER_ORDER: return "a layer's z is not the next";
+    case WATTLERUGBY_VALUE: return "a value is neither in range nor the missing mark";
     default: return "no number of this library";
     }
 }
@@ -181,8 +185,27 @@ enum {
     WATTLERUGBY_PENDING = 3   /* kept, and to be examined */
 };
 
-/* A value that stands for a missing range point. Measured values are -32767 to 32767; negative is inside the body. */
-#define WATTLERUGBY_MISSING (-32768)
+/* ---- values
+ *
+ * A value is measured, WATTLERUGBY_LEAST_VALUE to WATTLERUGBY_GREATEST_VALUE, or the mark of a missing range point. Negative is inside the
+ * body. Any other number is refused with 28. All three are constants of type int32_t, in C and in C++, and may stand in an #if. */
+#define WATTLERUGBY_LEAST_VALUE (-1000000000)
+#define WATTLERUGBY_GREATEST_VALUE 1000000000
+#define WATTLERUGBY_MISSING (-2147483647 - 1)
+
+/* The bits of a value in the buffers of begin, read and write. Before version 0.6 this macro was not there, and they had 16: the missing
+ * mark was then -32768, which is a measured value now. So a program for both says
+ *
+ *     #ifdef WATTLERUGBY_VALUE_BITS
+ *     typedef int32_t value;
+ *     #else
+ *     typedef int16_t value;
+ *     #endif
+ */
+#define WATTLERUGBY_VALUE_BITS 32
+
+/* The missing mark where a value has two bytes: in narrow layers and in patches. */
+#define WATTLERUGBY_NARROW_MISSING (-32768)
 
 /* A limit that no carve reaches. */
 #define WATTLERUGBY_NO_LIMIT UINT32_MAX
@@ -233,10 +256,10 @@ typedef struct wattlerugby_begin_answer {
  *
  * `allowed` is how many openings you allow: 0 for a body without handles. Any number is taken.
  *
- * Checks: 1, 2 (any of the three buffers), 3, 4. */
+ * Checks: 1, 2 (any of the three buffers), 28, 3, 4. */
 wattlerugby_begin_answer wattlerugby_begin(
     wattlerugby_sides sides, uint16_t allowed,
-    const int16_t *values, size_t values_len,
+    const int32_t *values, size_t values_len,
     int32_t *dist, size_t dist_len,
     uint8_t *status, size_t status_len);
 
@@ -382,15 +405,29 @@ wattlerugby_points_answer wattlerugby_points(
 
 /* ---- the grid file
  *
- * Low byte first. A header of 7 bytes: hex 56 48, a, b, c in a byte each, T in two bytes. Then c layer records, each of 3 + 2 a b bytes:
- * hex 56 4C, z in a byte, and a * b values of 16 bits, in index order. Then any number of patch records, none at all included, each of 8
- * bytes: hex 56 50, a voxel's index in four bytes, and its value of 16 bits.
+ * Low byte first, and two's complement. A header of 7 bytes: hex 56 48, a, b, c in a byte each, T in two bytes. Then c layer records:
+ *
+ *     narrow   hex 56 4C, z in a byte, and a * b values of two bytes, in index order: 3 + 2 a b bytes
+ *     wide     hex 56 57, z in a byte, and a * b values of four bytes: 3 + 4 a b bytes
+ *
+ * A file may have both. Then any number of patch records, none at all included, each of 8 bytes: hex 56 50, a voxel's index in four bytes,
+ * and its value of two bytes.
+ *
+ * A value of two bytes stands for the same number of 32 bits; but -32768 is the old missing mark there, and stands for
+ * WATTLERUGBY_MISSING. Of four bytes, -32768 is a measured value.
  *
  * Layers come from the bottom up: z is 0 in the first record and one more in each that follows. So a display that is sent a file has layer
- * z before layer z + 1, and layer z begins at byte 7 + z (3 + 2 a b).
+ * z before layer z + 1. Where all layers have the same width, 2 or 4, layer z begins at byte 7 + z (3 + width a b). Otherwise each begins
+ * where the one before it ends, as wattlerugby_read_layer tells, and patches begin where the last one ends.
  *
  * A patch is a single voxel measured again. Its value stands in place of the layer's, and of two patches to a voxel the later one stands.
- * So to correct a file, append to it. */
+ * So to correct a file, append to it. A value that two bytes do not hold cannot be patched in: write the file anew. */
+
+/* Bytes a value of a layer. */
+enum {
+    WATTLERUGBY_NARROW = 2,
+    WATTLERUGBY_WIDE = 4
+};
 
 typedef struct wattlerugby_read_answer {
     uint8_t refusal;
@@ -403,45 +440,69 @@ typedef struct wattlerugby_read_answer {
  * its last patch.
  *
  * All bytes after the last layer are taken as patch records. There is no limit to their number, so none to the file's length, and the time
- * is in proportion to that length. Any 16-bit value may be patched in, WATTLERUGBY_MISSING too.
+ * is in proportion to that length. Any value of two bytes may be patched in, WATTLERUGBY_NARROW_MISSING too.
+ *
+ * Only a wide record can have a value that is refused with 28. It is refused in its turn, before the next record is looked at, so no patch
+ * mends it.
  *
  * A file with its layers in another order is refused, with 24 for a z that came before and with 27 for one that skips the next. To put an
  * old file right, find its records by wattlerugby_read_layer and write them in rising z; `wattle rewrite --sort` does so.
  *
- * Checks: of the header 21 (fewer than 7 bytes), 22, 1, 2; of each layer record in turn 21, 22, 23, 24, 27; of each patch record in turn
- * 21 (fewer than 8 bytes are left), 22, 5 (the index is n or more). */
+ * Checks: of the header 21 (fewer than 7 bytes), 22, 1, 2; of each layer record in turn 21 (fewer bytes are left than a wide record has,
+ * where the first two are 56 57, otherwise than a narrow one has), 22, 23, 24, 27, 28; of each patch record in turn 21 (fewer than 8 bytes
+ * are left), 22, 5 (the index is n or more). */
 wattlerugby_read_answer wattlerugby_read(
     const uint8_t *file, size_t file_len,
-    int16_t *values, size_t values_len);
+    int32_t *values, size_t values_len);
 
 typedef struct wattlerugby_read_layer_answer {
     uint8_t refusal;
     uint8_t z;
-    size_t from;   /* the layer's values are the bytes file[from] up to, and without, file[to] */
+    uint8_t width;   /* bytes a value: WATTLERUGBY_NARROW or WATTLERUGBY_WIDE */
+    size_t from;     /* the layer's values are the bytes file[from] up to, and without, file[to] */
     size_t to;
 } wattlerugby_read_layer_answer;
 
 /* Finds the values of the layer record that begins at byte `start`, without copying: they stay where they are in your file. The first
- * record begins at byte 7, and the next one where the one before it ends. `start` may be any number. What the other records are is not
- * looked at, so a layer is found whatever the order of the file. Nor are patches: who reads by layers applies them, from byte
- * wattlerugby_written_length on.
+ * record begins at byte 7, and the next one at the byte `to` of the one before it. `start` may be any number. What the other records are is
+ * not looked at, so a layer is found whatever the order of the file. Nor are patches: who reads by layers applies them, from the byte `to`
+ * of the last layer on. Nor are the values themselves, so there is no 28: who reads a wide layer looks whether they are in range.
  *
- * Checks: 1, 21, 22, 23. */
+ * Checks: 1, 21 (measured as in read), 22, 23. */
 wattlerugby_read_layer_answer wattlerugby_read_layer(
     wattlerugby_sides sides,
     const uint8_t *file, size_t file_len,
     size_t start);
 
-/* The bytes of the longest file that write makes, that of 64 x 64 x 64 voxels: room for any of them. A file with patches may be longer. */
-#define WATTLERUGBY_LONGEST_FILE 524487
+/* The bytes of the longest file that write makes, that of 64 x 64 x 64 voxels with wide layers: room for any of them. A file with patches
+ * may be longer. */
+#define WATTLERUGBY_LONGEST_FILE 1048775
 
-/* How many bytes header and layers of a grid with these sides have: that is the whole file that write makes, and in any file the byte where
- * patches begin. 0 where a side is outside 3 to 64: there is no such file, and write refuses with 1. */
-static inline size_t wattlerugby_written_length(wattlerugby_sides sides)
+/* The width of the layers that write makes of these values: WATTLERUGBY_NARROW where each measured one is -32767 to 32767, a grid of missing
+ * points alone included, otherwise WATTLERUGBY_WIDE. */
+static inline uint8_t wattlerugby_written_width(const int32_t *values, size_t values_len)
+{
+    size_t i;
+    for (i = 0; i < values_len; i++)
+        if (values[i] != WATTLERUGBY_MISSING && (values[i] < -32767 || values[i] > 32767))
+            return WATTLERUGBY_WIDE;
+    return WATTLERUGBY_NARROW;
+}
+
+/* How many bytes header and layers of a grid with these sides have where all layers are of this width: that is the whole file that write
+ * makes of values that need it. Its room is known beforehand, by
+ *
+ *     wattlerugby_written_length(sides, wattlerugby_written_width(values, n))
+ *
+ * or, where the values are not looked at, with WATTLERUGBY_WIDE, which is room for either. 0 where a side is outside 3 to 64, which write
+ * refuses with 1, or where the width is neither 2 nor 4: there is no such file. */
+static inline size_t wattlerugby_written_length(wattlerugby_sides sides, uint8_t width)
 {
     if (sides.a < 3 || sides.a > 64 || sides.b < 3 || sides.b > 64 || sides.c < 3 || sides.c > 64)
         return 0;
-    return 7 + sides.c * (3 + 2 * sides.a * sides.b);
+    if (width != WATTLERUGBY_NARROW && width != WATTLERUGBY_WIDE)
+        return 0;
+    return 7 + sides.c * (3 + width * sides.a * sides.b);
 }
 
 typedef struct wattlerugby_write_answer {
@@ -453,13 +514,14 @@ typedef struct wattlerugby_write_answer {
  * sides, T and values. Nothing in them is left to choice: a grid has one written form, the same on every instrument. What was read from a
  * file with patches is written with their values in the layers.
  *
- * Any 16-bit value is written as it is, WATTLERUGBY_MISSING too, and so is a grid that begin would refuse. `file` may be longer than
- * wattlerugby_written_length; its bytes past that stay as they were.
+ * The layers are narrow where every measured value lies in -32767 to 32767, otherwise all of them are wide, whatever the width was in a file
+ * that the values were read from. A missing point is written as the mark of that width, and a grid that begin would refuse with 3 or 4 is
+ * written like any other. `file` may be longer than wattlerugby_written_length; its bytes past that stay as they were.
  *
- * Checks: 1, 2 (`values`), 26. */
+ * Checks: 1, 2 (`values`), 28, 26. */
 wattlerugby_write_answer wattlerugby_write(
     wattlerugby_sides sides, uint16_t allowed,
-    const int16_t *values, size_t values_len,
+    const int32_t *values, size_t values_len,
     uint8_t *file, size_t file_len);
 
 /* ---- the local test */

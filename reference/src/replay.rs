@@ -20,7 +20,7 @@ pub struct Replay {
 }
 
 /// The longest buffer that `len` makes, and that `points` and `write` lend.
-const LONGEST: usize = 1 << 20;
+const LONGEST: usize = 1 << 21;
 
 fn length(words: &mut Words) -> Result<usize, Mistake> {
     match words.number()? {

@@ -8,7 +8,7 @@ pub struct Sample {
     sides: Sides,
     allowed: u16,
     /// The values in the layers.
-    values: Vec<i16>,
+    values: Vec<i32>,
     /// Index and value of each patch, in the order of the file.
     patches: Vec<(usize, i16)>,
 }
@@ -39,16 +39,16 @@ pub fn samples() -> Vec<Sample> {
     ]
 }
 
-fn tenths(distance: f64) -> i16 {
-    (10.0 * distance).round() as i16
+fn tenths(distance: f64) -> i32 {
+    (10.0 * distance).round() as i32
 }
 
 /// A distance with noise of at most so many tenths either way, the same on every run.
-fn noisy(most: u32, distance: impl Fn(f64, f64, f64) -> f64) -> impl FnMut(f64, f64, f64) -> i16 {
+fn noisy(most: u32, distance: impl Fn(f64, f64, f64) -> f64) -> impl FnMut(f64, f64, f64) -> i32 {
     let mut seed = 1u32;
     move |x, y, z| {
         seed = seed.wrapping_mul(1_664_525).wrapping_add(1_013_904_223);
-        tenths(distance(x, y, z)) + ((seed >> 16) % (2 * most + 1)) as i16 - most as i16
+        tenths(distance(x, y, z)) + ((seed >> 16) % (2 * most + 1)) as i32 - most as i32
     }
 }
 
@@ -67,7 +67,7 @@ fn torus(x: f64, y: f64, z: f64) -> f64 {
 
 /// A pane of 10 x 10 x 5 voxels. Range points are missing through its whole thickness, in its middle, and from one of its faces up to the
 /// end of the grid.
-fn pane_with_gaps(x: f64, y: f64, z: f64) -> i16 {
+fn pane_with_gaps(x: f64, y: f64, z: f64) -> i32 {
     let within = |p: f64, low: f64, high: f64| low <= p && p <= high;
     let through = within(x, 3.0, 5.0) && within(y, 3.0, 5.0);
     let middle = within(x, 8.0, 9.0) && within(y, 8.0, 9.0) && z == 4.0;
@@ -78,7 +78,7 @@ fn pane_with_gaps(x: f64, y: f64, z: f64) -> i16 {
     pane(x, y, z)
 }
 
-fn pane(x: f64, y: f64, z: f64) -> i16 {
+fn pane(x: f64, y: f64, z: f64) -> i32 {
     let beyond = |p: f64, centre: f64, half: f64| (p - centre).abs() - half;
     tenths(beyond(x, 6.5, 5.0).max(beyond(y, 6.5, 5.0)).max(beyond(z, 4.0, 2.5)))
 }
@@ -86,7 +86,7 @@ fn pane(x: f64, y: f64, z: f64) -> i16 {
 /// The gap through the pane's whole thickness, shot again. Its first shot, on the pane's face, went through, and was made once more: of two
 /// patches to a voxel the later one stands.
 fn shot_again() -> Vec<(usize, i16)> {
-    let place = |x: usize, y: usize, z: usize| (x + 14 * (y + 14 * z), pane(x as f64, y as f64, z as f64));
+    let place = |x: usize, y: usize, z: usize| (x + 14 * (y + 14 * z), pane(x as f64, y as f64, z as f64) as i16);
     let (first, _) = place(4, 4, 6);
     let gap = (2..7).flat_map(|z| (3..6).flat_map(move |y| (3..6).map(move |x| (x, y, z))));
     std::iter::once((first, 40)).chain(gap.map(|(x, y, z)| place(x, y, z))).collect()
@@ -102,7 +102,7 @@ struct Carved {
 }
 
 impl Sample {
-    fn new(name: &'static str, [a, b, c]: [usize; 3], allowed: u16, mut value: impl FnMut(f64, f64, f64) -> i16) -> Sample {
+    fn new(name: &'static str, [a, b, c]: [usize; 3], allowed: u16, mut value: impl FnMut(f64, f64, f64) -> i32) -> Sample {
         let mut values = Vec::new();
         for z in 0..c {
             for y in 0..b {
@@ -120,7 +120,7 @@ impl Sample {
     }
 
     /// The values that the file reads as.
-    fn corrected(&self) -> Vec<i16> {
+    fn corrected(&self) -> Vec<i32> {
         let mut values = vec![0; self.values.len()];
         read(&self.file(), &mut values).expect("a sample is a good file");
         values
@@ -155,7 +155,7 @@ impl Sample {
     pub fn told(&self) -> String {
         let (Sides { a, b, c }, values) = (self.sides, self.corrected());
         let told = format!("{}: {a} x {b} x {c}, T = {}\n{}\n\n", self.name, self.allowed, self.line());
-        let measured = |v: i16| match v {
+        let measured = |v: i32| match v {
             MISSING => '?',
             v if v < 0 => '#',
             _ => '.',
@@ -193,7 +193,7 @@ impl Sample {
 }
 
 impl Carved {
-    fn mark(&self, i: usize, value: i16) -> char {
+    fn mark(&self, i: usize, value: i32) -> char {
         match (self.grid.status()[i], self.inside[i], value) {
             (GONE, ..) if self.opened.contains(&i) => '+',
             (GONE, ..) => '.',

@@ -38,7 +38,7 @@ pub struct Grid {
 
 impl Grid {
     /// Starts a grid from n measured values. See [`crate::begin`].
-    pub fn begin(sides: Sides, allowed: u16, values: &[i16]) -> Result<Grid, Refusal> {
+    pub fn begin(sides: Sides, allowed: u16, values: &[i32]) -> Result<Grid, Refusal> {
         let n = sides.voxels().unwrap_or(0);
         let (mut dist, mut status) = (vec![0; n], vec![0; n]);
         let record = begin(sides, allowed, values, &mut dist, &mut status)?;

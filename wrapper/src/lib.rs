@@ -49,12 +49,24 @@ pub use grid::Grid;
 pub use refusal::Refusal;
 pub use surface::Points;
 
-/// The value of a missing range point. Measured values are -32,767 to 32,767; negative is inside the body.
-pub const MISSING: i16 = -32768;
+/// The value of a missing range point. Measured values are [`LEAST_VALUE`] to [`GREATEST_VALUE`]; negative is inside the body. Any other value
+/// is refused with 28.
+pub const MISSING: i32 = i32::MIN;
+/// The least measured value.
+pub const LEAST_VALUE: i32 = -1_000_000_000;
+/// The greatest measured value.
+pub const GREATEST_VALUE: i32 = 1_000_000_000;
+/// The value of a missing range point where a value has two bytes: in narrow layers and in patches. As a value of four bytes -32,768 is
+/// measured.
+pub const NARROW_MISSING: i16 = i16::MIN;
+/// The width of a layer whose values have two bytes each.
+pub const NARROW: u8 = 2;
+/// The width of a layer whose values have four bytes each.
+pub const WIDE: u8 = 4;
 /// A limit that no carve reaches.
 pub const NO_LIMIT: u32 = u32::MAX;
-/// The bytes of the longest file that [`write()`] makes, that of 64 x 64 x 64 voxels. A file with patches may be longer.
-pub const LONGEST_FILE: usize = 524_487;
+/// The bytes of the longest file that [`write()`] makes, that of 64 x 64 x 64 voxels with wide layers. A file with patches may be longer.
+pub const LONGEST_FILE: usize = 1_048_775;
 /// A status byte of a voxel that is not kept.
 pub const GONE: u8 = 0;
 /// A status byte of a voxel that is kept.
@@ -191,10 +203,50 @@ pub struct LocalTest {
 pub struct Layer<'a> {
     /// Which layer it is.
     pub z: u8,
+    /// Bytes a value, [`NARROW`] or [`WIDE`].
+    pub width: u8,
     /// Where in the file the values begin.
     pub from: usize,
-    /// The values, two bytes each.
+    /// The values, `width` bytes each.
     pub bytes: &'a [u8],
+}
+
+impl<'a> Layer<'a> {
+    /// The layer's values in index order, as [`read`] gives them: narrow ones are widened, [`NARROW_MISSING`] to [`MISSING`]. A wide layer may
+    /// have values that [`read`] refuses with 28.
+    ///
+    /// ```
+    /// use wattlerugby::{read_layer, written, Sides, MISSING, WIDE};
+    ///
+    /// let sides = Sides { a: 3, b: 3, c: 3 };
+    /// let mut values = [40_000; 27];
+    /// values[10] = MISSING;
+    /// let file = written(sides, 0, &values)?;
+    /// let first = read_layer(sides, &file, 7)?;
+    /// let second = read_layer(sides, &file, first.end())?;
+    /// assert_eq!((second.z, second.width), (1, WIDE));
+    /// assert_eq!(second.values().collect::<Vec<_>>(), values[9..18]);
+    /// # Ok::<(), wattlerugby::Refusal>(())
+    /// ```
+    pub fn values(&self) -> impl Iterator<Item = i32> + 'a {
+        self.bytes.chunks_exact(usize::from(self.width.max(NARROW))).map(|bytes| match *bytes {
+            [low, high] => widened(i16::from_le_bytes([low, high])),
+            _ => bytes.iter().rev().fold(0, |value, &byte| value << 8 | i32::from(byte)),
+        })
+    }
+
+    /// The byte of the file after the layer's last: where the next record begins, and patches behind the last layer.
+    pub fn end(&self) -> usize {
+        self.from + self.bytes.len()
+    }
+}
+
+/// The value that two bytes of a narrow layer or of a patch stand for: the same number, or [`MISSING`] for [`NARROW_MISSING`].
+pub fn widened(value: i16) -> i32 {
+    match value {
+        NARROW_MISSING => MISSING,
+        _ => i32::from(value),
+    }
 }
 
 fn done<T>(refusal: u8, answer: T) -> Result<T, Refusal> {
@@ -207,8 +259,8 @@ fn done<T>(refusal: u8, answer: T) -> Result<T, Refusal> {
 
 /// Starts a grid from n measured values, and fills both other buffers with worked distances and status bytes.
 ///
-/// Checks: 1, 2 (any of the three buffers), 3, 4.
-pub fn begin(sides: Sides, allowed: u16, values: &[i16], dist: &mut [i32], status: &mut [u8]) -> Result<Record, Refusal> {
+/// Checks: 1, 2 (any of the three buffers), 28, 3, 4.
+pub fn begin(sides: Sides, allowed: u16, values: &[i32], dist: &mut [i32], status: &mut [u8]) -> Result<Record, Refusal> {
     // SAFETY: each pointer and length is one live slice's, the two mutable ones overlap nothing, and none is kept. So it is below.
     let r = unsafe {
         raw::wattlerugby_begin(
@@ -313,11 +365,14 @@ pub fn points(given: impl Into<raw::Record>, dist: &[i32], status: &[u8], positi
 /// Layers come from the bottom up: z is 0 in the first record and one more in each that follows. In a file with another order the first record
 /// that is not so is refused, with 24 where its z came before and with 27 where not. [`read_layer`] finds the records of such a file.
 ///
+/// A layer record has two bytes a value, or four where it begins with hex 56 57; a file may have both. A value of two bytes is [`widened`], and
+/// one of four that is neither in range nor [`MISSING`] is refused with 28, also where a patch follows to that voxel.
+///
 /// All bytes after the last layer are taken as patch records, which [`patch`] makes. There is no limit to their number, and the time is in
 /// proportion to the file's length. Every check is made before the first value is written.
 ///
-/// Checks: of the header 21 (fewer than 7 bytes), 22, 1, 2; of each layer record in turn 21, 22, 23, 24, 27; of each patch record in turn 21
-/// (fewer than 8 bytes are left), 22, 5 (the index is n or more).
+/// Checks: of the header 21 (fewer than 7 bytes), 22, 1, 2; of each layer record in turn 21, 22, 23, 24, 27, 28; of each patch record in turn
+/// 21 (fewer than 8 bytes are left), 22, 5 (the index is n or more).
 ///
 /// ```
 /// use wattlerugby::{read, Refusal, Sides};
@@ -334,23 +389,24 @@ pub fn points(given: impl Into<raw::Record>, dist: &[i32], status: &[u8], positi
 /// assert_eq!(read(&file([0, 1, 1]), &mut values), Err(Refusal::LAYER_TWICE));
 /// # Ok::<(), Refusal>(())
 /// ```
-pub fn read(file: &[u8], values: &mut [i16]) -> Result<(Sides, u16), Refusal> {
+pub fn read(file: &[u8], values: &mut [i32]) -> Result<(Sides, u16), Refusal> {
     // SAFETY: as in `begin`.
     let r = unsafe { raw::wattlerugby_read(file.as_ptr(), file.len(), values.as_mut_ptr(), values.len()) };
     done(r.refusal, (r.sides, r.allowed))
 }
 
 /// The layer whose record begins at byte `start`, any number, as a part of the file. Neither patches nor the other layers are looked at, so it
-/// is found whatever the file's order.
+/// is found whatever the file's order; nor are its values, so there is no 28.
 ///
 /// Checks: 1, 21, 22, 23.
 pub fn read_layer(sides: Sides, file: &[u8], start: usize) -> Result<Layer<'_>, Refusal> {
     // SAFETY: as in `begin`.
     let r = unsafe { raw::wattlerugby_read_layer(sides, file.as_ptr(), file.len(), start) };
-    done(r.refusal, Layer { z: r.z, from: r.from, bytes: &file[r.from..r.to] })
+    done(r.refusal, Layer { z: r.z, width: r.width, from: r.from, bytes: &file[r.from..r.to] })
 }
 
-/// The patch record that gives the voxel of that index a new value: append it to a grid file. Of two patches to a voxel the later stands.
+/// The patch record that gives the voxel of that index a new value: append it to a grid file. Of two patches to a voxel the later stands. A
+/// patch has two bytes for its value, which is [`widened`]: what they do not hold goes out by [`write()`] alone.
 ///
 /// ```
 /// use wattlerugby::{patch, read, written, Refusal, Sides};
@@ -371,27 +427,49 @@ pub fn patch(index: u32, value: i16) -> [u8; 8] {
     [0x56, 0x50, i, j, k, l, low, high]
 }
 
-/// How many bytes header and layers of a grid with these sides have: that is the file that [`write()`] makes, and in any file the byte where
-/// patches begin. Nothing where a side is outside 3 to 64, which [`write()`] refuses with 1.
+/// The width of the layers that [`write()`] makes of these values: [`NARROW`] where each measured one is -32,767 to 32,767, a grid of missing
+/// points alone included, otherwise [`WIDE`].
 ///
 /// ```
-/// use wattlerugby::{written_length, Sides, LONGEST_FILE};
+/// use wattlerugby::{written_width, MISSING, NARROW, WIDE};
 ///
-/// assert_eq!(written_length(Sides { a: 4, b: 4, c: 3 }), Some(112));
-/// assert_eq!(written_length(Sides { a: 64, b: 64, c: 64 }), Some(LONGEST_FILE));
-/// assert_eq!(written_length(Sides { a: usize::MAX, b: 4, c: 3 }), None);
+/// assert_eq!(written_width(&[MISSING, -32_767, 32_767]), NARROW);
+/// assert_eq!(written_width(&[MISSING, -32_768, 32_767]), WIDE);
 /// ```
-pub fn written_length(sides: Sides) -> Option<usize> {
-    sides.voxels().map(|n| 7 + 3 * sides.c + 2 * n)
+pub fn written_width(values: &[i32]) -> u8 {
+    let narrow = |&value: &i32| value == MISSING || (-32_767..=32_767).contains(&value);
+    match values.iter().all(narrow) {
+        true => NARROW,
+        false => WIDE,
+    }
+}
+
+/// How many bytes header and layers of a grid with these sides have where all layers are of this width: that is the file that [`write()`] makes
+/// of values whose [`written_width`] it is, and [`WIDE`] is room for either. Nothing where a side is outside 3 to 64, which [`write()`] refuses
+/// with 1, or where the width is neither 2 nor 4.
+///
+/// ```
+/// use wattlerugby::{written_length, Sides, LONGEST_FILE, NARROW, WIDE};
+///
+/// assert_eq!(written_length(Sides { a: 4, b: 4, c: 3 }, NARROW), Some(112));
+/// assert_eq!(written_length(Sides { a: 4, b: 4, c: 3 }, WIDE), Some(208));
+/// assert_eq!(written_length(Sides { a: 64, b: 64, c: 64 }, WIDE), Some(LONGEST_FILE));
+/// assert_eq!(written_length(Sides { a: usize::MAX, b: 4, c: 3 }, NARROW), None);
+/// assert_eq!(written_length(Sides { a: 4, b: 4, c: 3 }, 3), None);
+/// ```
+pub fn written_length(sides: Sides, width: u8) -> Option<usize> {
+    let n = sides.voxels().filter(|_| [NARROW, WIDE].contains(&width))?;
+    Some(7 + 3 * sides.c + usize::from(width) * n)
 }
 
 /// Writes n values with their sides and T as a grid file, layers in rising z and no patches, and answers its length. [`read`] takes these
 /// bytes and gives the same sides, T and values. Nothing in them is left to choice: a grid has one written form.
 ///
-/// Any value is written as it is, [`MISSING`] too, and so is a grid that [`begin`] would refuse. `file` may be longer than
+/// The layers are all of [`written_width`], whatever the width was in a file that the values were read from. A missing point is written as the
+/// mark of that width, and a grid that [`begin`] would refuse with 3 or 4 is written like any other. `file` may be longer than
 /// [`written_length`]; its bytes past that stay as they were.
 ///
-/// Checks: 1, 2 (`values`), 26.
+/// Checks: 1, 2 (`values`), 28, 26.
 ///
 /// ```
 /// use wattlerugby::{write, Refusal, Sides};
@@ -402,9 +480,14 @@ pub fn written_length(sides: Sides) -> Option<usize> {
 /// assert_eq!(file[..12], [0x56, 0x48, 3, 3, 3, 2, 0, 0x56, 0x4C, 0, 0xFA, 0xFF]);
 /// assert_eq!(file[70..], [0xEE; 10]);
 /// assert_eq!(write(sides, 2, &[-6; 27], &mut file[..69]), Err(Refusal::ROOM));
+///
+/// let mut file = [0xEE; 124];
+/// assert_eq!(write(sides, 2, &[-60_000; 27], &mut file)?, 124);
+/// assert_eq!(file[7..14], [0x56, 0x57, 0, 0xA0, 0x15, 0xFF, 0xFF]);
+/// assert_eq!(write(sides, 2, &[2_000_000_000; 27], &mut file), Err(Refusal::VALUE));
 /// # Ok::<(), Refusal>(())
 /// ```
-pub fn write(sides: Sides, allowed: u16, values: &[i16], file: &mut [u8]) -> Result<usize, Refusal> {
+pub fn write(sides: Sides, allowed: u16, values: &[i32], file: &mut [u8]) -> Result<usize, Refusal> {
     // SAFETY: as in `begin`.
     let r = unsafe { raw::wattlerugby_write(sides, allowed, values.as_ptr(), values.len(), file.as_mut_ptr(), file.len()) };
     done(r.refusal, r.length)
@@ -412,7 +495,7 @@ pub fn write(sides: Sides, allowed: u16, values: &[i16], file: &mut [u8]) -> Res
 
 /// The file that [`write()`] writes, in a vector of its length.
 ///
-/// Checks: 1, 2.
+/// Checks: 1, 2, 28.
 ///
 /// ```
 /// use wattlerugby::{read, written, Sides, MISSING};
@@ -424,8 +507,8 @@ pub fn write(sides: Sides, allowed: u16, values: &[i16], file: &mut [u8]) -> Res
 /// assert_eq!(again, values);
 /// # Ok::<(), wattlerugby::Refusal>(())
 /// ```
-pub fn written(sides: Sides, allowed: u16, values: &[i16]) -> Result<Vec<u8>, Refusal> {
-    let mut file = vec![0; written_length(sides).unwrap_or(0)];
+pub fn written(sides: Sides, allowed: u16, values: &[i32]) -> Result<Vec<u8>, Refusal> {
+    let mut file = vec![0; written_length(sides, written_width(values)).unwrap_or(0)];
     write(sides, allowed, values, &mut file)?;
     Ok(file)
 }

@@ -95,6 +95,7 @@ pub struct ReadAnswer {
 pub struct ReadLayerAnswer {
     pub refusal: u8,
     pub z: u8,
+    pub width: u8,
     pub from: usize,
     pub to: usize,
 }
@@ -109,7 +110,7 @@ extern "C" {
     pub fn wattlerugby_begin(
         sides: Sides,
         allowed: u16,
-        values: *const i16,
+        values: *const i32,
         values_len: usize,
         dist: *mut i32,
         dist_len: usize,
@@ -160,14 +161,14 @@ extern "C" {
         out_len: usize,
     ) -> PointsAnswer;
 
-    pub fn wattlerugby_read(file: *const u8, file_len: usize, values: *mut i16, values_len: usize) -> ReadAnswer;
+    pub fn wattlerugby_read(file: *const u8, file_len: usize, values: *mut i32, values_len: usize) -> ReadAnswer;
 
     pub fn wattlerugby_read_layer(sides: Sides, file: *const u8, file_len: usize, start: usize) -> ReadLayerAnswer;
 
     pub fn wattlerugby_write(
         sides: Sides,
         allowed: u16,
-        values: *const i16,
+        values: *const i32,
         values_len: usize,
         file: *mut u8,
         file_len: usize,

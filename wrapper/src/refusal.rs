@@ -68,6 +68,7 @@ numbers! {
     25 BYTES_LEFT "the input is over 65,536 bytes"
     26 ROOM "the lent buffer is shorter than the file"
     27 LAYER_ORDER "a layer's z is not the next"
+    28 VALUE "a value is neither in range nor the missing mark"
 }
 
 impl std::fmt::Debug for Refusal {

@@ -1,6 +1,6 @@
 /* Every call on a state from C, on document 01's case C, with each answer printed: a ring of eight voxels around an empty one, and one
- * opening allowed. Then a file out and in, patches to it, and what the header says of null pointers, padding and numbers. The status is 0
- * where all of that holds. */
+ * opening allowed. Then a file out and in, patches to it, layers of both widths, and what the header says of null pointers, padding and
+ * numbers. The status is 0 where all of that holds. */
 #include <stdio.h>
 #include <string.h>
 
@@ -86,7 +86,7 @@ static void points(wattlerugby_record record, const int32_t *dist, const uint8_t
 
 static int ring(void)
 {
-    int16_t values[N];
+    int32_t values[N];
     int32_t dist[N];
     uint8_t status[N];
     wattlerugby_sides sides = {A, B, C};
@@ -137,7 +137,7 @@ static int ring(void)
 
 /* ---- a file out, and in again */
 
-static wattlerugby_write_answer write_file(wattlerugby_sides sides, const int16_t *values, size_t count, uint8_t *file, size_t room)
+static wattlerugby_write_answer write_file(wattlerugby_sides sides, const int32_t *values, size_t count, uint8_t *file, size_t room)
 {
     wattlerugby_write_answer r = wattlerugby_write(sides, 0xABCD, values, count, file, room);
     printf("write %u values, room for %u bytes: ", (unsigned)count, (unsigned)room);
@@ -152,19 +152,19 @@ static int files(void)
 {
     enum { VALUES = 60, LENGTH = 142, ROOM = LENGTH + 3 };
     const wattlerugby_sides sides = {3, 4, 5}, unfit = {2, 4, 5};
-    int16_t values[VALUES], again[VALUES];
+    int32_t values[VALUES], again[VALUES];
     uint8_t file[ROOM], untouched[ROOM];
     wattlerugby_read_answer back;
     int i, wrong = 0;
     for (i = 0; i < VALUES; i++)
-        values[i] = (int16_t)(i == 0 ? WATTLERUGBY_MISSING : 1000 * (i - 30));
+        values[i] = i == 0 ? WATTLERUGBY_MISSING : 1000 * (i - 30);
     memset(file, 0xEE, ROOM);
     memset(untouched, 0xEE, ROOM);
     wrong += write_file(unfit, values, VALUES, file, ROOM).refusal != WATTLERUGBY_SIDE;
     wrong += write_file(sides, values, VALUES - 1, file, ROOM).refusal != WATTLERUGBY_LENGTH;
     wrong += write_file(sides, values, VALUES, file, LENGTH - 1).refusal != WATTLERUGBY_ROOM;
     wrong += memcmp(file, untouched, ROOM) != 0;
-    wrong += write_file(sides, values, VALUES, file, ROOM).length != wattlerugby_written_length(sides);
+    wrong += write_file(sides, values, VALUES, file, ROOM).length != wattlerugby_written_length(sides, WATTLERUGBY_NARROW);
     wrong += memcmp(file + LENGTH, untouched, ROOM - LENGTH) != 0;
     for (i = 0; i < 14; i++)
         printf("%s%02X", i == 0 ? "  " : " ", file[i]);
@@ -179,9 +179,9 @@ static int files(void)
 
 enum { LAYERS = 142, VOXELS = 60 };
 
-static int16_t read_patched(const uint8_t *file, size_t length, uint8_t due)
+static int32_t read_patched(const uint8_t *file, size_t length, uint8_t due)
 {
-    int16_t values[VOXELS];
+    int32_t values[VOXELS];
     wattlerugby_read_answer r;
     int i, wrong = 0;
     for (i = 0; i < VOXELS; i++)
@@ -194,8 +194,8 @@ static int16_t read_patched(const uint8_t *file, size_t length, uint8_t due)
     if (r.refusal != 0)
         printf("refused %u, %s\n", r.refusal, wattlerugby_reason(r.refusal));
     else
-        printf("voxel 21 is %d\n", values[21]);
-    return (int16_t)(wrong ? 0 : values[21]);
+        printf("voxel 21 is %d\n", (int)values[21]);
+    return wrong ? 0 : values[21];
 }
 
 static int patches(void)
@@ -206,11 +206,11 @@ static int patches(void)
         0x56, 0x50, 60, 0, 0, 0, 0x01, 0x00  /* there is no voxel 60 */
     };
     const wattlerugby_sides sides = {3, 4, 5};
-    int16_t values[VOXELS];
+    int32_t values[VOXELS];
     uint8_t file[LAYERS + sizeof behind], again[LAYERS];
     int i, wrong = 0;
     for (i = 0; i < VOXELS; i++)
-        values[i] = (int16_t)i;
+        values[i] = i;
     wrong += wattlerugby_write(sides, 0, values, VOXELS, file, LAYERS).length != LAYERS;
     memcpy(file + LAYERS, behind, sizeof behind);
     wrong += read_patched(file, LAYERS, 0) != 21;
@@ -234,18 +234,18 @@ static int patches(void)
 static int order(void)
 {
     const wattlerugby_sides sides = {3, 4, 5};
-    int16_t values[VOXELS];
+    int32_t values[VOXELS];
     uint8_t file[LAYERS];
     size_t record = 3 + 2 * 3 * 4;
     int z, wrong = 0;
     for (z = 0; z < VOXELS; z++)
-        values[z] = (int16_t)z;
+        values[z] = z;
     wrong += wattlerugby_write(sides, 0, values, VOXELS, file, LAYERS).length != LAYERS;
     for (z = 0; z < 5; z++) {
         wattlerugby_read_layer_answer r;
         file[7 + (size_t)z * record + 2] = (uint8_t)(4 - z);
         r = wattlerugby_read_layer(sides, file, LAYERS, 7 + (size_t)z * record);
-        wrong += r.refusal != 0 || r.z != 4 - z || r.to - r.from != 2 * 3 * 4;
+        wrong += r.refusal != 0 || r.z != 4 - z || r.width != WATTLERUGBY_NARROW || r.to - r.from != 2 * 3 * 4;
     }
     wrong += read_patched(file, LAYERS, WATTLERUGBY_LAYER_ORDER) != 77;
     file[7 + 2] = 0;
@@ -255,13 +255,82 @@ static int order(void)
     return wrong;
 }
 
+/* ---- both widths: a grid that needs four bytes a value goes out wide and comes in again; a narrow layer may stand among them */
+
+#if WATTLERUGBY_MISSING >= WATTLERUGBY_LEAST_VALUE || WATTLERUGBY_VALUE_BITS != 32
+#error "the missing mark lies below the measured values"
+#endif
+
+enum { WIDE_LAYERS = 262 };
+
+static void print_layers(wattlerugby_sides sides, const uint8_t *file, size_t length)
+{
+    size_t start = 7;
+    wattlerugby_read_layer_answer r;
+    for (r = wattlerugby_read_layer(sides, file, length, start); r.refusal == 0; r = wattlerugby_read_layer(sides, file, length, start)) {
+        printf("  layer %u: %u bytes a value, from %u to %u\n", r.z, r.width, (unsigned)r.from, (unsigned)r.to);
+        start = r.to;
+    }
+    printf("  then refused %u, of width %u\n", r.refusal, r.width);
+}
+
+/* Takes the place of the first layer, which is wide, by a narrow one of the same values: two bytes each are left out. */
+static size_t narrow_first_layer(uint8_t *file, const int32_t *values)
+{
+    size_t i;
+    file[8] = 0x4C;
+    for (i = 0; i < 12; i++) {
+        int32_t v = values[i] == WATTLERUGBY_MISSING ? WATTLERUGBY_NARROW_MISSING : values[i];
+        file[10 + 2 * i] = (uint8_t)((uint32_t)v & 255);
+        file[11 + 2 * i] = (uint8_t)((uint32_t)v >> 8 & 255);
+    }
+    memmove(file + 10 + 2 * 12, file + 10 + 4 * 12, WIDE_LAYERS - 10 - 4 * 12);
+    return WIDE_LAYERS - 2 * 12;
+}
+
+static int widths(void)
+{
+    const wattlerugby_sides sides = {3, 4, 5};
+    int32_t values[VOXELS], again[VOXELS], dist[VOXELS];
+    uint8_t file[WIDE_LAYERS], status[VOXELS];
+    size_t length;
+    int i, wrong = 0;
+    for (i = 0; i < VOXELS; i++)
+        values[i] = i < 12 ? 100 * (i - 6) : 20000000 * (i - 12);
+    values[0] = WATTLERUGBY_MISSING;
+    values[13] = WATTLERUGBY_GREATEST_VALUE;
+    values[14] = WATTLERUGBY_LEAST_VALUE;
+    values[15] = WATTLERUGBY_MISSING;
+    values[16] = WATTLERUGBY_NARROW_MISSING;
+    wrong += wattlerugby_written_length(sides, wattlerugby_written_width(values, VOXELS)) != WIDE_LAYERS;
+    wrong += wattlerugby_written_length(sides, 3) != 0;
+    wrong += write_file(sides, values, VOXELS, file, WIDE_LAYERS - 1).refusal != WATTLERUGBY_ROOM;
+    wrong += write_file(sides, values, VOXELS, file, WIDE_LAYERS).length != WIDE_LAYERS;
+    print_layers(sides, file, WIDE_LAYERS);
+    wrong += wattlerugby_read(file, WIDE_LAYERS, again, VOXELS).refusal != 0 || memcmp(values, again, sizeof values) != 0;
+    length = narrow_first_layer(file, values);
+    memset(again, 0, sizeof again);
+    print_layers(sides, file, length);
+    wrong += wattlerugby_read(file, length, again, VOXELS).refusal != 0 || memcmp(values, again, sizeof values) != 0;
+    /* a value out of range: in a file, lent to write, and lent to begin */
+    memset(file + 10 + 2 * 12 + 3, 0x7F, 4);
+    wrong += wattlerugby_read(file, length, again, VOXELS).refusal != WATTLERUGBY_VALUE || memcmp(values, again, sizeof values) != 0;
+    values[59] = WATTLERUGBY_GREATEST_VALUE + 1;
+    wrong += write_file(sides, values, VOXELS, file, 0).refusal != WATTLERUGBY_VALUE;
+    wrong += wattlerugby_begin(sides, 0, values, VOXELS, dist, VOXELS, status, VOXELS).refusal != WATTLERUGBY_VALUE;
+    values[59] = WATTLERUGBY_LEAST_VALUE - 1;
+    wrong += wattlerugby_begin(sides, 0, values, VOXELS, dist, VOXELS, status, VOXELS).refusal != WATTLERUGBY_VALUE;
+    printf("widths: %s\n", wrong ? "WRONG" : "both read as what was written, and a value out of range is refused");
+    return wrong;
+}
+
 /* ---- null pointers with length 0 */
 
 static int nulls(void)
 {
     const wattlerugby_sides fit = {3, 3, 3}, unfit = {3, 3, 65};
     const uint8_t header[7] = {0x56, 0x48, 3, 3, 3, 0, 0};
-    const int16_t values[27] = {0};
+    const int32_t values[27] = {0};
     const int32_t dist[27] = {0};
     const uint8_t status[27] = {0};
     wattlerugby_points_answer filled;
@@ -310,7 +379,7 @@ static wattlerugby_record padded(wattlerugby_record r, int byte)
 
 static int padding(void)
 {
-    int16_t values[27];
+    int32_t values[27];
     int32_t dist[27];
     uint8_t status[27];
     double out[18];
@@ -393,17 +462,22 @@ static void numbers(void)
     NUMBER(BYTES_LEFT);
     NUMBER(ROOM);
     NUMBER(LAYER_ORDER);
+    NUMBER(VALUE);
     printf("255 %s\n", wattlerugby_reason(255));
     printf("longest file %u\n", (unsigned)WATTLERUGBY_LONGEST_FILE);
+    printf("values of %d bits, %d to %d, missing %d\n", WATTLERUGBY_VALUE_BITS, WATTLERUGBY_LEAST_VALUE, WATTLERUGBY_GREATEST_VALUE,
+           WATTLERUGBY_MISSING);
+    printf("layers of %d bytes a value, missing %d, and of %d\n", WATTLERUGBY_NARROW, WATTLERUGBY_NARROW_MISSING, WATTLERUGBY_WIDE);
 }
 
-/* ---- lengths: a line `A B C LENGTH` for each side from 2 to 65 along each axis, beside some along the others; then for sides whose
- * product is too large for a size_t */
+/* ---- lengths: a line `A B C NARROW WIDE`, with the length of either width, for each side from 2 to 65 along each axis, beside some along
+ * the others; then for sides whose product is too large for a size_t */
 
 static void length(size_t a, size_t b, size_t c)
 {
     const wattlerugby_sides sides = {a, b, c};
-    printf("%zu %zu %zu %zu\n", a, b, c, wattlerugby_written_length(sides));
+    printf("%zu %zu %zu %zu %zu\n", a, b, c, wattlerugby_written_length(sides, WATTLERUGBY_NARROW),
+           wattlerugby_written_length(sides, WATTLERUGBY_WIDE));
 }
 
 static void lengths(void)
@@ -422,8 +496,33 @@ static void lengths(void)
         }
 }
 
+/* ---- widths: a line `WIDTH V V V` for some values, each at an end of its range */
+
+static void print_widths(void)
+{
+    static const int32_t some[][3] = {
+        {0, 0, 0},
+        {-32767, 0, 32767},
+        {WATTLERUGBY_MISSING, 1, 2},
+        {WATTLERUGBY_MISSING, WATTLERUGBY_MISSING, WATTLERUGBY_MISSING},
+        {32768, 0, 0},
+        {0, -32768, 0},
+        {0, WATTLERUGBY_MISSING, 65536},
+        {WATTLERUGBY_LEAST_VALUE, 0, 0},
+        {0, 0, WATTLERUGBY_GREATEST_VALUE},
+        {WATTLERUGBY_NARROW_MISSING, WATTLERUGBY_NARROW_MISSING, WATTLERUGBY_NARROW_MISSING}
+    };
+    size_t i;
+    for (i = 0; i < sizeof some / sizeof some[0]; i++)
+        printf("%d %d %d %d\n", (int)wattlerugby_written_width(some[i], 3), (int)some[i][0], (int)some[i][1], (int)some[i][2]);
+}
+
 int main(int argc, char **argv)
 {
+    if (argc > 1 && strcmp(argv[1], "widths") == 0) {
+        print_widths();
+        return 0;
+    }
     if (argc > 1 && strcmp(argv[1], "numbers") == 0) {
         numbers();
         return 0;
@@ -432,5 +531,5 @@ int main(int argc, char **argv)
         lengths();
         return 0;
     }
-    return ring() + files() + patches() + order() + nulls() + padding() + finished_bytes();
+    return ring() + files() + patches() + order() + widths() + nulls() + padding() + finished_bytes();
 }

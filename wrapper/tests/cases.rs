@@ -2,7 +2,7 @@
 
 use wattlerugby::{local_test, written, Grid, Point, Refusal, Sides};
 
-fn grid(sides: [usize; 3], value: i16, negative: &[usize]) -> (Sides, Vec<i16>) {
+fn grid(sides: [usize; 3], value: i32, negative: &[usize]) -> (Sides, Vec<i32>) {
     let [a, b, c] = sides;
     let mut values = vec![value; a * b * c];
     for &i in negative {

@@ -70,7 +70,7 @@ fn each_count_is_read_from_its_place() {
 
 #[test]
 fn begin_and_its_buffers() {
-    let mut values = [7i16; N];
+    let mut values = [7i32; N];
     values[16] = -5;
     let (mut dist, mut status) = ([0i32; N], [9u8; N]);
     // SAFETY: the pointers are those of three live arrays of N elements.
@@ -89,7 +89,7 @@ fn begin_and_its_buffers() {
 
 #[test]
 fn a_point_has_three_coordinates() {
-    let (mut values, mut dist, mut status) = ([7i16; N], [0i32; N], [0u8; N]);
+    let (mut values, mut dist, mut status) = ([7i32; N], [0i32; N], [0u8; N]);
     values[1 + 3 * (2 + 4 * 3)] = -7;
     let begun = wattlerugby::begin(SIDES, 0, &values, &mut dist, &mut status).unwrap();
     let closed = wattlerugby::finish(begun, &mut dist, &status).unwrap();
@@ -108,27 +108,31 @@ fn a_point_has_three_coordinates() {
 fn files_and_layers() {
     let mut file = vec![0x56, 0x48, 3, 4, 5, 0xCD, 0xAB];
     for z in 0..5u8 {
-        file.extend([0x56, 0x4C, z]);
-        file.extend((0..12u8).flat_map(|i| [i, z]));
+        // the fourth layer is wide
+        file.extend([0x56, if z == 3 { 0x57 } else { 0x4C }, z]);
+        file.extend((0..12u8).flat_map(|i| if z == 3 { vec![i, z, 5, 6] } else { vec![i, z] }));
     }
-    let mut values = [0i16; N];
+    let mut values = [0i32; N];
     // SAFETY: pointers and lengths are those of a live vector and a live array.
     let read = unsafe { wattlerugby_read(file.as_ptr(), file.len(), values.as_mut_ptr(), N) };
     assert_eq!((read.refusal, read.sides, read.allowed), (0, SIDES, 0xABCD));
     assert_eq!((values[0], values[11], values[12], values[59]), (0, 11, 256, 4 * 256 + 11));
-    let fourth = 7 + 3 * 27;
-    // SAFETY: as above.
-    let layer = unsafe { wattlerugby_read_layer(SIDES, file.as_ptr(), file.len(), fourth) };
-    assert_eq!((layer.refusal, layer.z, layer.from, layer.to), (0, 3, fourth + 3, fourth + 27));
+    assert_eq!((values[36], values[47]), (0x0605_0300, 0x0605_030B));
+    let (third, fourth, fifth) = (7 + 2 * 27, 7 + 3 * 27, 7 + 3 * 27 + 51);
+    for (start, z, width, end) in [(third, 2, 2, fourth), (fourth, 3, 4, fifth), (fifth, 4, 2, file.len())] {
+        // SAFETY: as above.
+        let layer = unsafe { wattlerugby_read_layer(SIDES, file.as_ptr(), file.len(), start) };
+        assert_eq!((layer.refusal, layer.z, layer.width, layer.from, layer.to), (0, z, width, start + 3, end));
+    }
     // SAFETY: as above.
     let beyond = unsafe { wattlerugby_read_layer(SIDES, file.as_ptr(), file.len(), usize::MAX) };
-    assert_eq!((beyond.refusal, beyond.z, beyond.from, beyond.to), (21, 0, 0, 0));
+    assert_eq!((beyond.refusal, beyond.z, beyond.width, beyond.from, beyond.to), (21, 0, 0, 0, 0));
 }
 
 #[test]
 fn a_written_file() {
     const LENGTH: usize = 7 + 5 * 27;
-    let values: [i16; N] = std::array::from_fn(|i| 256 * (i / 12) as i16 + (i % 12) as i16);
+    let values: [i32; N] = std::array::from_fn(|i| 256 * (i / 12) as i32 + (i % 12) as i32);
     let mut file = [9; LENGTH + 1];
     // SAFETY: the pointers are those of two live arrays, of which no more is lent than there is.
     let mut write = |room| unsafe { wattlerugby_write(SIDES, 0xABCD, values.as_ptr(), N, file.as_mut_ptr(), room) };

@@ -4,7 +4,8 @@ use std::mem::{offset_of, size_of};
 use std::path::{Path, PathBuf};
 use std::process::Command;
 use wattlerugby::raw::*;
-use wattlerugby::{write, written_length, Grid, LocalTest, Point, Refusal, Sides, LONGEST_FILE};
+use wattlerugby::{write, written_length, written_width, Grid, LocalTest, Point, Refusal, Sides};
+use wattlerugby::{GREATEST_VALUE, LEAST_VALUE, LONGEST_FILE, MISSING, NARROW, NARROW_MISSING, WIDE};
 
 fn root() -> PathBuf {
     Path::new(env!("CARGO_MANIFEST_DIR")).join("..")
@@ -75,7 +76,7 @@ fn sizes_and_offsets() {
     lay_out!(ours, "crossing_answer", CrossingAnswer, refusal crosses point);
     lay_out!(ours, "points_answer", PointsAnswer, refusal count next);
     lay_out!(ours, "read_answer", ReadAnswer, refusal sides allowed);
-    lay_out!(ours, "read_layer_answer", ReadLayerAnswer, refusal z from to);
+    lay_out!(ours, "read_layer_answer", ReadLayerAnswer, refusal z width from to);
     lay_out!(ours, "write_answer", WriteAnswer, refusal length);
     lay_out!(ours, "local_answer", LocalTest, k m corners edges faces);
     for header in printed_by_each(&root().join("wrapper/tests/layout.c"), "layout", &[]) {
@@ -83,7 +84,7 @@ fn sizes_and_offsets() {
     }
 }
 
-/// Each call's answers, a file out and in, patches, layers out of order, null pointers, padding.
+/// Each call's answers, a file out and in, patches, layers out of order, both widths, null pointers, padding.
 #[test]
 fn calls() {
     let source = root().join("wrapper/tests/calls.c");
@@ -99,6 +100,8 @@ fn version_and_numbers() {
     ours.extend(Refusal::ALL.iter().map(|r| format!("{} {} {}", r.name().expect("it has a name"), r.0, r.reason())));
     ours.push(format!("255 {}", Refusal(255).reason()));
     ours.push(format!("longest file {LONGEST_FILE}"));
+    ours.push(format!("values of {} bits, {LEAST_VALUE} to {GREATEST_VALUE}, missing {MISSING}", i32::BITS));
+    ours.push(format!("layers of {NARROW} bytes a value, missing {NARROW_MISSING}, and of {WIDE}"));
     let source = root().join("wrapper/tests/calls.c");
     for header in printed_by_each(&source, "numbers", &["numbers"]) {
         assert_eq!(header.lines().collect::<Vec<_>>(), ours);
@@ -108,25 +111,44 @@ fn version_and_numbers() {
     assert_eq!([number("MAJOR"), number("MINOR"), number("PATCH")].join("."), env!("CARGO_PKG_VERSION"));
 }
 
-/// The header's length, the wrapper's and the one that write answers: lent so many bytes it writes, and one less is refused.
+/// The header's lengths, the wrapper's and those that write answers: lent so many bytes it writes, and one less is refused.
 #[test]
 fn lengths() {
     let said = printed_by_each(&root().join("wrapper/tests/calls.c"), "lengths", &["lengths"]);
     assert!(said.iter().all(|other| *other == said[0]), "the same in C++ as in C");
-    let (values, mut file, mut fit) = (vec![0; 64 * 64 * 64], vec![0; LONGEST_FILE], 0);
+    let n = 64 * 64 * 64;
+    let (values, mut file, mut fit) = ([(NARROW, vec![32_767; n]), (WIDE, vec![32_768; n])], vec![0; LONGEST_FILE], 0);
     for line in said[0].lines() {
         let numbers: Vec<usize> = line.split(' ').map(|word| word.parse().expect("a number")).collect();
-        let (sides, length) = (Sides { a: numbers[0], b: numbers[1], c: numbers[2] }, numbers[3]);
-        assert_eq!(written_length(sides).unwrap_or(0), length, "{line}");
-        let Some(n) = sides.voxels() else {
-            assert_eq!((write(sides, 0, &values, &mut file), length), (Err(Refusal::SIDE), 0), "{line}");
-            continue;
-        };
-        assert_eq!(write(sides, 0, &values[..n], &mut file[..length]), Ok(length), "{line}");
-        assert_eq!(write(sides, 0, &values[..n], &mut file[..length - 1]), Err(Refusal::ROOM), "{line}");
-        fit += 1;
+        let sides = Sides { a: numbers[0], b: numbers[1], c: numbers[2] };
+        for ((width, values), length) in values.iter().zip([numbers[3], numbers[4]]) {
+            assert_eq!(written_length(sides, *width).unwrap_or(0), length, "{line}");
+            let Some(n) = sides.voxels() else {
+                assert_eq!((write(sides, 0, values, &mut file), length), (Err(Refusal::SIDE), 0), "{line}");
+                continue;
+            };
+            assert_eq!(write(sides, 0, &values[..n], &mut file[..length]), Ok(length), "{line}");
+            assert_eq!(write(sides, 0, &values[..n], &mut file[..length - 1]), Err(Refusal::ROOM), "{line}");
+            fit += 1;
+        }
     }
-    assert_eq!((said[0].lines().count(), fit), (25 * (3 * 64 + 5), 9 * 3 * 62 + 1));
+    assert_eq!((said[0].lines().count(), fit), (25 * (3 * 64 + 5), 2 * (9 * 3 * 62 + 1)));
+}
+
+/// The header's width, the wrapper's and the one that write chooses, of values at the ends of both.
+#[test]
+fn widths() {
+    for said in printed_by_each(&root().join("wrapper/tests/calls.c"), "widths", &["widths"]) {
+        for line in said.lines() {
+            let numbers: Vec<i32> = line.split(' ').map(|word| word.parse().expect("a number")).collect();
+            let values: Vec<i32> = numbers[1..].iter().copied().cycle().take(27).collect();
+            let width = written_width(&values);
+            assert_eq!(i32::from(width), numbers[0], "{line}");
+            let sides = Sides { a: 3, b: 3, c: 3 };
+            assert_eq!(write(sides, 0, &values, &mut [0; 200]).ok(), written_length(sides, width), "{line}");
+        }
+        assert_eq!(said.lines().count(), 10);
+    }
 }
 
 /// Every crossing of a file's body, in rising order of 3 index + axis.

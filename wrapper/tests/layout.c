@@ -62,6 +62,7 @@ int main(void)
     STRUCT(read_layer_answer);
     FIELD(read_layer_answer, refusal);
     FIELD(read_layer_answer, z);
+    FIELD(read_layer_answer, width);
     FIELD(read_layer_answer, from);
     FIELD(read_layer_answer, to);
     STRUCT(write_answer);

@@ -12,7 +12,7 @@ fn start(record: usize) -> usize {
 
 /// The file of a grid with a body, whose records say these z.
 fn file(z: [u8; 4]) -> Vec<u8> {
-    let values: Vec<i16> = (0..N as i16).map(|i| if i == 16 { -6 } else { 6 + i }).collect();
+    let values: Vec<i32> = (0..N as i32).map(|i| if i == 16 { -6 } else { 6 + i }).collect();
     let mut file = written(SIDES, 0xABCD, &values).expect("fit sides");
     (0..4).for_each(|record| file[start(record) + 2] = z[record]);
     file
@@ -20,7 +20,7 @@ fn file(z: [u8; 4]) -> Vec<u8> {
 
 /// What read says of a file; where it refuses, no value changed, and a grid from that file is refused likewise.
 fn taken(file: &[u8]) -> Result<(Sides, u16), Refusal> {
-    const BEFORE: i16 = 0x5A5A;
+    const BEFORE: i32 = 0x5A5A_5A5A;
     let mut values = [BEFORE; N];
     let answer = read(file, &mut values);
     assert_eq!(answer.is_err(), values == [BEFORE; N]);

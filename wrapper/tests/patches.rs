@@ -1,11 +1,11 @@
 //! Patch records: what they correct, what is refused, and that a refusal has written nothing.
 
-use wattlerugby::{patch, read, written, Grid, Refusal, Sides, MISSING};
+use wattlerugby::{patch, read, widened, written, Grid, Refusal, Sides, MISSING, NARROW_MISSING};
 
 const SIDES: Sides = Sides { a: 3, b: 4, c: 5 };
 const N: usize = 60;
 
-fn layers() -> Vec<i16> {
+fn layers() -> Vec<i32> {
     (100..160).collect()
 }
 
@@ -16,8 +16,8 @@ fn with(rest: &[&[u8]]) -> Vec<u8> {
 }
 
 /// What a file reads as in a buffer of n values; where it is refused, none of them changed.
-fn taken(file: &[u8]) -> Result<Vec<i16>, Refusal> {
-    const BEFORE: i16 = 0x5A5A;
+fn taken(file: &[u8]) -> Result<Vec<i32>, Refusal> {
+    const BEFORE: i32 = 0x5A5A_5A5A;
     let mut values = [BEFORE; N];
     match read(file, &mut values) {
         Ok(answer) => {
@@ -55,7 +55,8 @@ fn every_value_is_taken() {
     (0..=u16::MAX).for_each(|word| file.extend(patch(u32::from(word), word as i16)));
     let mut values = vec![0; 1 << 16];
     assert_eq!(read(&file, &mut values), Ok((sides, 0)));
-    assert!((0..=u16::MAX).all(|word| values[usize::from(word)] == word as i16));
+    assert!((0..=u16::MAX).all(|word| values[usize::from(word)] == widened(word as i16)));
+    assert_eq!((values[0x7FFF], values[0x8000], values[0x8001]), (32_767, MISSING, -32_767));
 }
 
 #[test]
@@ -63,10 +64,10 @@ fn the_later_patch_stands() {
     let mut wanted = layers();
     (wanted[17], wanted[18]) = (3, MISSING);
     let [first, second, third] = [patch(17, 1), patch(17, 2), patch(17, 3)];
-    assert_eq!(taken(&with(&[&first, &patch(18, MISSING), &second, &third])), Ok(wanted.clone()));
-    assert_eq!(taken(&with(&[&third, &patch(18, 5), &patch(18, MISSING)])), Ok(wanted.clone()));
+    assert_eq!(taken(&with(&[&first, &patch(18, NARROW_MISSING), &second, &third])), Ok(wanted.clone()));
+    assert_eq!(taken(&with(&[&third, &patch(18, 5), &patch(18, NARROW_MISSING)])), Ok(wanted.clone()));
     wanted[17] = 1;
-    assert_eq!(taken(&with(&[&third, &second, &first, &patch(18, MISSING)])), Ok(wanted));
+    assert_eq!(taken(&with(&[&third, &second, &first, &patch(18, NARROW_MISSING)])), Ok(wanted));
 }
 
 /// A patch can bring about what begin refuses, and can mend it.
@@ -76,7 +77,7 @@ fn begin_sees_what_was_patched() {
     assert_eq!(Grid::from_file(&with(&[])), Err(Refusal::NO_NEGATIVE));
     assert_eq!(Grid::from_file(&body).map(|grid| grid.distances()[16]), Ok(-5));
     assert_eq!(Grid::from_file(&[&body[..], &patch(0, -1)].concat()), Err(Refusal::BORDER_NEGATIVE));
-    assert!(Grid::from_file(&[&body[..], &patch(0, -1), &patch(0, MISSING)].concat()).is_ok());
+    assert!(Grid::from_file(&[&body[..], &patch(0, -1), &patch(0, NARROW_MISSING)].concat()).is_ok());
 }
 
 // ---- what is refused
@@ -179,7 +180,7 @@ fn patches_by_the_hundred_thousand() {
     for _ in 0..PATCHES {
         let (index, value) = (random(&mut seed) as usize % n, random(&mut seed) as i16);
         file.extend(patch(index as u32, value));
-        wanted[index] = value;
+        wanted[index] = widened(value);
     }
     let mut values = vec![0; n];
     assert_eq!(read(&file, &mut values), Ok((sides, 0)));

@@ -71,6 +71,22 @@ fn layers_out_of_order() {
     assert_eq!(program(&file), "refused 25");
 }
 
+/// Both widths in one file, and a value out of range: 28, before what follows it and after the input's length.
+#[test]
+fn wide_layers() {
+    let narrow = longest();
+    let wide = |z: u8, value: i32| [&[0x56, 0x57, z][..], &value.to_le_bytes().repeat(16)].concat();
+    let file = |value: i32| [&narrow[..77], &wide(2, value)[..]].concat();
+    assert_eq!(program(&file(1_000_000_000)), "kept 2 removed 2 opened 0 examined 2 euler 1");
+    assert_eq!([program(&file(-32_768)), program(&file(i32::MIN))], ["refused 3", "kept 2 removed 2 opened 0 examined 2 euler 1"]);
+    let bad = file(1_000_000_001);
+    for rest in [&[][..], &[0], &patch(32, 6), &patch(48, 6)] {
+        assert_eq!(program(&[&bad[..], rest].concat()), "refused 28", "{rest:02X?}");
+    }
+    assert_eq!(program(&[&bad[..], &vec![0; 65_537 - bad.len()]].concat()), "refused 25");
+    assert_eq!(program(&bad[..bad.len() - 1]), "refused 21");
+}
+
 /// A side over 24 is 1 in its place, whatever the patches are.
 #[test]
 fn a_side_over_24() {

@@ -12,7 +12,7 @@ struct Carved {
 }
 
 /// Noise off the border: of 100 voxels so many negative and 5 missing.
-fn noise(sides: Sides, negative: u32, seed: &mut u32) -> Vec<i16> {
+fn noise(sides: Sides, negative: u32, seed: &mut u32) -> Vec<i32> {
     let n = sides.voxels().unwrap();
     let mut next = |below: u32| {
         *seed = seed.wrapping_mul(1_664_525).wrapping_add(1_013_904_223);
@@ -22,7 +22,7 @@ fn noise(sides: Sides, negative: u32, seed: &mut u32) -> Vec<i16> {
     (0..n)
         .map(|i| {
             let [x, y, z] = place(sides, i);
-            let (chance, size) = (next(100), next(50) as i16 + 1);
+            let (chance, size) = (next(100), next(50) as i32 + 1);
             match chance {
                 _ if end(x, sides.a) || end(y, sides.b) || end(z, sides.c) => size,
                 c if c < negative => -size,
@@ -37,7 +37,7 @@ fn place(sides: Sides, i: usize) -> [usize; 3] {
     [i % sides.a, i / sides.a % sides.b, i / (sides.a * sides.b)]
 }
 
-fn carved(sides: Sides, allowed: u16, values: &[i16]) -> Option<Carved> {
+fn carved(sides: Sides, allowed: u16, values: &[i32]) -> Option<Carved> {
     let mut grid = match Grid::begin(sides, allowed, values) {
         Err(Refusal::NO_NEGATIVE) => return None,
         begun => begun.unwrap(),

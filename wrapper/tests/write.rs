@@ -3,7 +3,7 @@
 
 use std::collections::BTreeSet;
 use std::path::{Path, PathBuf};
-use wattlerugby::{read, write, written, written_length, Refusal, Sides, MISSING};
+use wattlerugby::{read, read_layer, widened, write, written, written_length, Refusal, Sides, MISSING, NARROW, WIDE};
 
 const SIDES: Sides = Sides { a: 3, b: 4, c: 5 };
 const N: usize = 60;
@@ -13,8 +13,8 @@ const LENGTH: usize = 7 + 5 * (3 + 2 * 12);
 
 #[test]
 fn every_byte_of_unequal_sides() {
-    let mut values: Vec<i16> = (0..60).collect();
-    (values[0], values[1], values[2], values[12], values[59]) = (MISSING, -1, 258, i16::MAX, -2);
+    let mut values: Vec<i32> = (0..60).collect();
+    (values[0], values[1], values[2], values[12], values[59]) = (MISSING, -1, 258, 32_767, -2);
     let bytes = |i: usize| match i {
         0 => [0x00, 0x80],
         1 => [0xFF, 0xFF],
@@ -34,7 +34,7 @@ fn every_byte_of_unequal_sides() {
 #[test]
 fn every_value_and_every_t() {
     let low_and_high = |word: u16| [(word % 256) as u8, (word / 256) as u8];
-    let values: Vec<i16> = (0..=u16::MAX).map(|word| word as i16).collect();
+    let values: Vec<i32> = (0..=u16::MAX).map(|word| widened(word as i16)).collect();
     let file = written(Sides { a: 64, b: 64, c: 16 }, 0, &values).expect("fit sides");
     let stored: Vec<u8> = file[7..].chunks(3 + 2 * 64 * 64).flat_map(|record| record[3..].to_vec()).collect();
     assert!(stored == (0..=u16::MAX).flat_map(low_and_high).collect::<Vec<u8>>());
@@ -87,7 +87,8 @@ fn bytes_past_the_length_stay() {
 #[test]
 fn a_vector_is_as_long_as_its_file() {
     assert_eq!(written(SIDES, 0, &[0; N]).map(|file| file.len()), Ok(LENGTH));
-    assert_eq!(written_length(SIDES), Some(LENGTH));
+    assert_eq!((written_length(SIDES, NARROW), written_length(SIDES, WIDE)), (Some(LENGTH), Some(LENGTH + 2 * N)));
+    assert_eq!(written(SIDES, 0, &[32_768; N]).map(|file| file.len()), Ok(LENGTH + 2 * N));
     assert_eq!(written(SIDES, 0, &[0; N + 1]), Err(Refusal::LENGTH));
     assert_eq!(written(Sides { c: usize::MAX, ..SIDES }, 0, &[0; N]), Err(Refusal::SIDE));
 }
@@ -101,7 +102,7 @@ fn listed(folder: &str, ending: &str) -> Vec<PathBuf> {
 }
 
 /// A grid: sides, T and values.
-type Taken = (Sides, u16, Vec<i16>);
+type Taken = (Sides, u16, Vec<i32>);
 
 fn taken(file: &[u8]) -> Result<Taken, Refusal> {
     let side = |i: usize| file.get(i).map_or(0, |&s| usize::from(s));
@@ -109,15 +110,35 @@ fn taken(file: &[u8]) -> Result<Taken, Refusal> {
     read(file, &mut values).map(|(sides, allowed)| (sides, allowed, values))
 }
 
-/// The file's layer records, with each patch's value written over the one that it corrects.
-fn by_its_bytes(sides: Sides, file: &[u8]) -> Vec<u8> {
-    let area = sides.a * sides.b;
-    let (layers, patches) = file.split_at(7 + sides.c * (3 + 2 * area));
-    let mut form = layers.to_vec();
-    for patch in patches.chunks(8) {
+/// The values of a good file's layers, with each patch's written over the one that it corrects.
+fn values_of(sides: Sides, file: &[u8]) -> Vec<i32> {
+    let (mut values, mut at) = (Vec::new(), 7);
+    for _ in 0..sides.c {
+        let layer = read_layer(sides, file, at).expect("a layer of a good file");
+        values.extend(layer.values());
+        at = layer.end();
+    }
+    for patch in file[at..].chunks(8) {
         let index = u32::from_le_bytes([patch[2], patch[3], patch[4], patch[5]]) as usize;
-        let at = 7 + index / area * (3 + 2 * area) + 3 + 2 * (index % area);
-        form[at..at + 2].copy_from_slice(&patch[6..]);
+        values[index] = widened(i16::from_le_bytes([patch[6], patch[7]]));
+    }
+    values
+}
+
+/// The written form of a good file: its header, and its values in layers of two bytes each, or of four where one needs them.
+fn by_its_bytes(sides: Sides, file: &[u8]) -> Vec<u8> {
+    let values = values_of(sides, file);
+    let wide = values.iter().any(|&v| v != MISSING && !(-32_767..=32_767).contains(&v));
+    let low_first = |v: i32| [v as u8, (v >> 8) as u8, (v >> 16) as u8, (v >> 24) as u8];
+    let bytes = |&v: &i32| match (wide, v) {
+        (true, _) => low_first(v).to_vec(),
+        (false, MISSING) => vec![0x00, 0x80],
+        (false, _) => low_first(v)[..2].to_vec(),
+    };
+    let mut form = file[..7].to_vec();
+    for (z, layer) in values.chunks(sides.a * sides.b).enumerate() {
+        form.extend([0x56, if wide { 0x57 } else { 0x4C }, z as u8]);
+        form.extend(layer.iter().flat_map(bytes));
     }
     form
 }
@@ -128,7 +149,7 @@ fn rewritten(file: &[u8]) -> Option<Vec<u8>> {
     let (sides, allowed, values) = &grid;
     let again = written(*sides, *allowed, values).expect("a grid that was read");
     assert_eq!(taken(&again).as_ref(), Ok(&grid));
-    assert!(again == by_its_bytes(*sides, file), "other bytes than the file's own records");
+    assert!(again == by_its_bytes(*sides, file), "other bytes than the file's own values");
     Some(again)
 }
 

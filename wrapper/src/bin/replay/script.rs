@@ -7,7 +7,7 @@ use wattlerugby::{begin, carve, crossing, finish, local_test, open, points, read
 pub struct State {
     sides: Sides,
     allowed: u16,
-    values: Vec<i16>,
+    values: Vec<i32>,
     dist: Vec<i32>,
     status: Vec<u8>,
     file: Vec<u8>,
@@ -106,7 +106,7 @@ impl State {
 
     fn buffers(&self) -> String {
         let dist = hash(self.dist.iter().flat_map(|d| d.to_le_bytes()));
-        let values = hash(self.values.iter().flat_map(|&v| i32::from(v).to_le_bytes()));
+        let values = hash(self.values.iter().flat_map(|v| v.to_le_bytes()));
         format!("dist {dist} status {} values {values}", hash(self.status.iter().copied()))
     }
 
@@ -170,10 +170,8 @@ impl State {
                 let t = local_test(words.hexadecimal()?);
                 Ok(format!("k {} m {} corners {} edges {} faces {}", t.k, t.m, t.corners, t.edges, t.faces))
             }
-            "readlayer" => read_layer(self.sides, &self.file, words.number()?).map(|l| {
-                let to = l.from + l.bytes.len();
-                format!("z {} from {} to {to} bytes {}", l.z, l.from, hash(l.bytes.iter().copied()))
-            }),
+            "readlayer" => read_layer(self.sides, &self.file, words.number()?)
+                .map(|l| format!("z {} width {} from {} to {} bytes {}", l.z, l.width, l.from, l.end(), hash(l.bytes.iter().copied()))),
             "read" => read(&self.file, &mut self.values).map(|(sides, allowed)| {
                 (self.sides, self.allowed) = (sides, allowed);
                 format!("sides {} {} {} T {allowed}", sides.a, sides.b, sides.c)
@@ -183,8 +181,8 @@ impl State {
     }
 }
 
-/// The longest buffer that `len` makes, and `points` and `write` lend: longer than any grid's, and short enough to be made.
-const LONGEST: usize = 1 << 20;
+/// The longest buffer that `len` makes, and `points` and `write` lend: longer than any grid's file, and short enough to be made.
+const LONGEST: usize = 1 << 21;
 
 fn length(words: &mut Words) -> Result<usize, String> {
     match words.number()? {
