@@ -95,8 +95,9 @@ impl Made {
 #[cfg(test)]
 mod tests {
     use super::*;
-    use crate::files::{file_of, hex, patch};
+    use crate::files::{file_of, file_of_widths, hex, patch};
     use crate::grids::Grid;
+    use crate::records::{GREATEST, MISSING, NARROW, WIDE};
 
     #[test]
     fn what_is_missing_is_told_and_nothing_is_written() {
@@ -153,6 +154,41 @@ mod tests {
             for other in others.into_iter().filter(|other| !other.ends_with(number)) {
                 assert!(entries(other).is_err(), "{order:?}: {other}");
             }
+        }
+    }
+    #[test]
+    fn an_answer_for_a_value_out_of_range_is_told() {
+        let mut g = Grid { sides: [3, 3, 3], allowed: 0, values: vec![6; 27] };
+        g.values[13] = GREATEST + 1;
+        let file = file_of_widths(&g, [(0, NARROW), (1, WIDE), (2, WIDE)]);
+        let second = 7 + 21;
+        let all = [
+            (file.clone(), "28", "read refused: 28, one over the range alone"),
+            (file[..second + 39].to_vec(), "28", "read: 28 before a later record's 21"),
+            (file[..second + 38].to_vec(), "21", "read: 21 before 28"),
+            ([&file[..], &patch(13, 6)].concat(), "28", "read refused: 28, a patch to that voxel behind"),
+        ];
+        for (file, number, met) in all {
+            let mut state = Replay::new();
+            state.line(&format!("file {}", hex(&file))).expect("a line of the language");
+            let entries = |answer: &str| Before::of(&state, "read").entries(answer);
+            assert!(entries(&format!("read refused {number}")).is_ok_and(|all| all.contains(&met.to_string())), "{met}");
+            let others = ["read refused 21", "read refused 22", "read refused 28", "read ok sides 3 3 3 T 0"];
+            for other in others.into_iter().filter(|other| !other.ends_with(number)) {
+                assert!(entries(other).is_err(), "{met}: {other}");
+            }
+        }
+    }
+
+    /// A wide grid is given the length of wide layers to write, and a narrow one that of narrow ones.
+    #[test]
+    fn the_length_for_the_width_is_told() {
+        for (value, length) in [(32_767, 70), (32_768, 124), (-32_768, 124), (MISSING, 70)] {
+            let mut state = Replay::new();
+            state.line(&format!("values set 3 {value}")).expect("a line of the language");
+            let met = |lent: usize, answer: &str| Before::of(&state, &format!("write {lent}")).entries(answer).is_ok();
+            assert!(met(length, "write ok length") && !met(length, "write refused 26"), "{value}");
+            assert!(!met(length - 1, "write ok length") && met(length - 1, "write refused 26"), "{value}");
         }
     }
 }

@@ -1,7 +1,9 @@
 //! Every fault that a call has, each by itself and whether or not another one is answered first. From document 01's numbers, document 02's for
-//! `write`, for patch records and for the order of layers, and docs/RULES.md for `points`, which is ours, with the order of checks beside them, and
-//! not from the reference's code: so the kit can be asked for every pair of faults, and the reference is held to the order.
+//! `write`, for patch records, for the order of layers and for values of 32 bits, and docs/RULES.md for `points`, which is ours, with the order of
+//! checks beside them, and not from the reference's code: so the kit can be asked for every pair of faults, and the reference is held to the order.
 
+use crate::records::{contents, is_measured, negative, parts, patch_index, second_byte, written_length, written_width, LayerRecord};
+use crate::records::{GREATEST, LEAST, LONGEST_INPUT, MISSING, NARROW, PATCH_LENGTH, WIDE};
 use reference::grid::Sides;
 use reference::local::local_test;
 use reference::replay::Replay;
@@ -34,17 +36,11 @@ impl Fault {
 /// The checks of a patch record.
 pub const PATCH: [Check; 3] = ["patch 21", "patch 22", "5"];
 
-/// The length of a patch record.
-pub const PATCH_LENGTH: usize = 8;
-
-/// The most bytes that the program takes.
-pub const LONGEST_INPUT: usize = 65_536;
-
 /// A call's checks in their order (document 01, the last two sentences of "Numbers that come from the state"; document 02, CR 1 for `write`, CR 2
-/// for what follows the layers of a file and for the program's 25, and CR 4 for 27).
+/// for what follows the layers of a file and for the program's 25, CR 4 for 27 and CR 5 for 28).
 pub fn order(call: &str) -> Option<&'static [Check]> {
     Some(match call {
-        "begin" => &["1", "2", "3", "4"],
+        "begin" => &["1", "2", "28", "3", "4"],
         "carve" => &["1", "2", "7", "8"],
         "take" => &["1", "2", "7", "8", "5", "10", "11", "12"],
         "open" => &["1", "2", "7", "8", "13", "14", "15"],
@@ -52,9 +48,9 @@ pub fn order(call: &str) -> Option<&'static [Check]> {
         "crossing" => &["1", "2", "7", "9", "5", "6"],
         "points" => &["1", "2", "7", "9", "5"],
         "readlayer" => &["1", "21", "22", "23"],
-        "read" => &["header 21", "header 22", "1", "2", "21", "22", "23", "24", "27", "patch 21", "patch 22", "5"],
-        "program" => &["25", "header 21", "header 22", "1", "21", "22", "23", "24", "27", "patch 21", "patch 22", "5", "3", "4"],
-        "write" => &["1", "2", "26"],
+        "read" => &["header 21", "header 22", "1", "2", "21", "22", "23", "24", "27", "28", "patch 21", "patch 22", "5"],
+        "program" => &["25", "header 21", "header 22", "1", "21", "22", "23", "24", "27", "28", "patch 21", "patch 22", "5", "3", "4"],
+        "write" => &["1", "2", "28", "26"],
         _ => return None,
     })
 }
@@ -69,6 +65,7 @@ pub fn faults(state: &Replay, command: &str) -> Option<Vec<Fault>> {
         "begin" => {
             found.sides(&state.sides, 64);
             found.lengths(&state.sides, &[("values", state.values.len()), ("dist", state.dist.len()), ("status", state.status.len())]);
+            found.range(&state.values);
             found.values(&state.sides, &state.values);
         }
         "readlayer" => found.layer(&state.sides, &state.file, argument(1)),
@@ -81,13 +78,14 @@ pub fn faults(state: &Replay, command: &str) -> Option<Vec<Fault>> {
             found.input(state.file.len());
             found.header(&state.file, 24);
             found.records(&state.file);
-            let (sides, values) = contents(&state.file);
-            found.values(&sides, &values);
+            let sides = file_sides(&state.file).unwrap_or(Sides { a: 0, b: 0, c: 0 });
+            found.values(&sides, &contents(&state.file, &sides));
         }
         "write" => {
             found.sides(&state.sides, 64);
             found.lengths(&state.sides, &[("values", state.values.len())]);
-            found.room(&state.sides, argument(1));
+            found.range(&state.values);
+            found.room(&state.sides, written_width(&state.values), argument(1));
         }
         "points" => {
             found.record(state);
@@ -105,12 +103,6 @@ pub fn faults(state: &Replay, command: &str) -> Option<Vec<Fault>> {
 /// n, whatever the sides are.
 fn size(sides: &Sides) -> u128 {
     u128::from(sides.a).saturating_mul(sides.b.into()).saturating_mul(sides.c.into())
-}
-
-/// The length of a written file, whatever the sides are.
-pub fn written_length(sides: &Sides) -> u128 {
-    let layer = (2 * u128::from(sides.a)).saturating_mul(sides.b.into()).saturating_add(3);
-    layer.saturating_mul(sides.c.into()).saturating_add(7)
 }
 
 fn place(sides: &Sides, i: usize) -> [u128; 3] {
@@ -147,8 +139,17 @@ fn bare(sides: &Sides, status: &[u8], i: usize) -> bool {
     steps.into_iter().any(|step| !kept(sides, status, i, step))
 }
 
-fn negative(value: i16) -> bool {
-    value < 0 && value != i16::MIN
+/// Which clause of 28 a value fails, if any: the range has two ends, the missing mark lies beside it, and 32 bits end.
+pub fn out_of_range(value: i32) -> Option<&'static str> {
+    Some(match value {
+        _ if value == MISSING || is_measured(value) => return None,
+        _ if value == LEAST - 1 => "one under the range",
+        _ if value == GREATEST + 1 => "one over the range",
+        _ if value == MISSING + 1 => "one over the missing mark",
+        i32::MAX => "the greatest of 32 bits",
+        _ if value < 0 => "under the range",
+        _ => "over the range",
+    })
 }
 
 /// The three side bytes of a file, as far as it has them.
@@ -161,46 +162,6 @@ fn file_sides(file: &[u8]) -> Option<Sides> {
         [a, b, c] => Some(Sides { a, b, c }),
         _ => None,
     }
-}
-
-/// What follows the header of a file: its layer records, the last of them perhaps cut off, and the bytes after them.
-fn parts<'a>(file: &'a [u8], sides: &Sides) -> (&'a [u8], &'a [u8]) {
-    let records = file.get(7..).unwrap_or(&[]);
-    let layers = (sides.c * (3 + 2 * sides.a * sides.b)) as usize;
-    records.split_at(layers.min(records.len()))
-}
-
-/// The index of a patch record, as far as it has one.
-fn patch_index(record: &[u8]) -> Option<u32> {
-    record.get(2..6).map(|bytes| bytes.iter().rev().fold(0, |index, &byte| index << 8 | u32::from(byte)))
-}
-
-/// The index and the value of each whole patch record of a file.
-pub fn patches<'a>(file: &'a [u8], sides: &Sides) -> impl Iterator<Item = (u32, i16)> + 'a {
-    let (_, patches) = parts(file, sides);
-    let value = |record: &[u8]| i16::from_le_bytes([record[6], record[7]]);
-    patches.chunks_exact(PATCH_LENGTH).filter_map(move |record| Some((patch_index(record)?, value(record))))
-}
-
-/// What the whole records of a file hold.
-fn contents(file: &[u8]) -> (Sides, Vec<i16>) {
-    let sides = file_sides(file).unwrap_or(Sides { a: 0, b: 0, c: 0 });
-    let layer = (sides.a * sides.b) as usize;
-    let mut values = vec![0; sides.n()];
-    let (layers, _) = parts(file, &sides);
-    for record in layers.chunks_exact(3 + 2 * layer) {
-        let z = usize::from(record[2]);
-        if (z as u64) < sides.c {
-            let words = record[3..].chunks(2).map(|pair| i16::from_le_bytes([pair[0], pair[1]]));
-            values.splice(z * layer..(z + 1) * layer, words);
-        }
-    }
-    for (index, value) in patches(file, &sides) {
-        if let Some(voxel) = values.get_mut(index as usize) {
-            *voxel = value;
-        }
-    }
-    (sides, values)
 }
 
 /// Faults as they are found, of any number: those that the call does not check are dropped.
@@ -269,8 +230,13 @@ impl Found {
         }
     }
 
+    /// 28 of values that are lent.
+    fn range(&mut self, values: &[i32]) {
+        wrong_values(values.iter().copied()).into_iter().for_each(|cause| self.add("28", cause));
+    }
+
     /// 3 and 4.
-    fn values(&mut self, sides: &Sides, values: &[i16]) {
+    fn values(&mut self, sides: &Sides, values: &[i32]) {
         let n = size(sides).min(values.len() as u128) as usize;
         let mut causes: Vec<&str> = Vec::new();
         for i in (0..n).filter(|&i| negative(values[i])) {
@@ -280,7 +246,7 @@ impl Found {
         causes.dedup();
         causes.into_iter().for_each(|cause| self.add_last("3", cause));
         if !values.iter().any(|&v| negative(v)) {
-            let missing = values.contains(&i16::MIN);
+            let missing = values.contains(&MISSING);
             self.add_last("4", if missing { "missing ones alone" } else { "none below 0" });
         }
     }
@@ -341,8 +307,8 @@ impl Found {
     }
 
     /// 26.
-    fn room(&mut self, sides: &Sides, lent: u64) {
-        let (lent, length) = (u128::from(lent), written_length(sides));
+    fn room(&mut self, sides: &Sides, width: usize, lent: u64) {
+        let (lent, length) = (u128::from(lent), written_length(sides, width));
         self.if_so(lent == 0, "26", "nothing lent");
         self.if_so(lent > 0 && lent + 1 == length, "26", "a byte short");
         self.if_so(lent > 0 && lent + 1 < length, "26", "more than a byte short");
@@ -374,27 +340,26 @@ impl Found {
     /// The records of a file up to the first that is not whole.
     fn records(&mut self, file: &[u8]) {
         let Some(sides) = file_sides(file).filter(|_| file.len() >= 7) else { return };
-        self.layers(file, &sides);
-        let (_, patches) = parts(file, &sides);
+        let (layers, patches) = parts(file, &sides);
+        self.layers(&layers, &sides);
         for (k, record) in patches.chunks(PATCH_LENGTH).enumerate() {
             self.patch(sides.c as usize + k, record, size(&sides));
         }
     }
 
-    fn layers(&mut self, file: &[u8], sides: &Sides) {
-        let length = 3 + 2 * (sides.a * sides.b) as usize;
+    /// Only a wide record can have 28: what two bytes say is a value.
+    fn layers(&mut self, layers: &[LayerRecord], sides: &Sides) {
         let mut seen: Vec<u8> = Vec::new();
-        for (record, start) in (0..sides.c as usize).map(|i| (i, 7 + i * length)) {
-            let left = &file[start..];
-            self.mark_and_z(left, sides.c, |found, check, cause| found.add_record(record, check, cause));
-            if let Some(&z) = left.get(2) {
-                self.layer_due(record, z, &seen);
+        for (number, record) in layers.iter().enumerate() {
+            self.mark_and_z(record.left, sides.c, |found, check, cause| found.add_record(number, check, cause));
+            if let Some(&z) = record.left.get(2) {
+                self.layer_due(number, z, &seen);
+                seen.push(z);
             }
-            if left.len() < length {
-                let cause = if left.is_empty() { "nothing left" } else { "cut off" };
-                return self.add_record(record, "21", cause);
+            wrong_values(record.values()).into_iter().for_each(|cause| self.add_record(number, "28", cause));
+            if !record.is_whole() {
+                self.add_record(number, "21", cut_off(record));
             }
-            seen.push(left[2]);
         }
     }
 
@@ -421,24 +386,24 @@ impl Found {
         if let Some(left) = LEFT.get(record.len()) {
             self.add_record(number, "patch 21", left);
         }
-        self.mark(record, 0x50, |found, cause| found.add_record(number, "patch 22", cause));
+        self.mark(record, &[0x50], |found, cause| found.add_record(number, "patch 22", cause));
         let Some(index) = patch_index(record).map(u128::from).filter(|&index| index >= n) else { return };
         let within = index % (1 << 16) < n;
         let over = if within { "index over n, its low two bytes under n" } else { "index over n" };
         self.add_record(number, "5", if index == n { "index n" } else { over });
     }
 
-    fn mark(&mut self, left: &[u8], second: u8, mut add: impl FnMut(&mut Self, &'static str)) {
+    fn mark(&mut self, left: &[u8], second: &[u8], mut add: impl FnMut(&mut Self, &'static str)) {
         if left.first().is_some_and(|&b| b != 0x56) {
             add(self, "first byte");
         }
-        if left.get(1).is_some_and(|&b| b != second) {
+        if left.get(1).is_some_and(|b| !second.contains(b)) {
             add(self, "second byte");
         }
     }
 
     fn mark_and_z(&mut self, left: &[u8], c: u64, mut add: impl FnMut(&mut Self, &str, &'static str)) {
-        self.mark(left, 0x4C, |found, cause| add(found, "22", cause));
+        self.mark(left, &[NARROW, WIDE].map(second_byte), |found, cause| add(found, "22", cause));
         if let Some(&z) = left.get(2).filter(|&&z| u64::from(z) >= c) {
             add(self, "23", if u64::from(z) == c { "z is c" } else { "z over c" });
         }
@@ -446,13 +411,35 @@ impl Found {
 
     fn layer(&mut self, sides: &Sides, file: &[u8], start: u64) {
         self.sides(sides, 64);
-        let length = (2 * u128::from(sides.a)).saturating_mul(sides.b.into()).saturating_add(3);
-        let len = file.len() as u128;
-        let begins = u128::from(start);
+        let record = LayerRecord::at(file, usize::try_from(start).unwrap_or(usize::MAX), area(sides));
+        let (len, begins) = (file.len() as u128, u128::from(start));
         self.if_so(begins > len, "21", "start past the end");
         self.if_so(begins == len, "21", "start at the end");
-        self.if_so(begins < len && length > len - begins, "21", "cut off");
-        let left = usize::try_from(start).ok().and_then(|start| file.get(start..)).unwrap_or(&[]);
-        self.mark_and_z(left, sides.c, |found, check, cause| found.add(check, cause));
+        self.if_so(begins < len && !record.is_whole(), "21", cut_off(&record));
+        self.mark_and_z(record.left, sides.c, |found, check, cause| found.add(check, cause));
     }
+}
+
+/// a b, or more than any file has, which is enough to tell that one is cut off.
+fn area(sides: &Sides) -> usize {
+    usize::try_from(sides.a.saturating_mul(sides.b)).unwrap_or(usize::MAX).min(1 << 40)
+}
+
+/// How a record that is not whole ends: a wide one may have as many bytes as a narrow one has.
+fn cut_off(record: &LayerRecord) -> &'static str {
+    let narrow = 3 + (record.length - 3) / record.width * NARROW;
+    match record.left.len() {
+        0 => "nothing left",
+        left if record.width == WIDE && left >= narrow => "cut off, wide with the bytes of a narrow one",
+        _ if record.width == WIDE => "cut off, wide",
+        _ => "cut off",
+    }
+}
+
+/// The clauses of 28 that some values fail, each once.
+fn wrong_values(values: impl Iterator<Item = i32>) -> Vec<&'static str> {
+    let mut causes: Vec<&str> = values.filter_map(out_of_range).collect();
+    causes.sort_unstable();
+    causes.dedup();
+    causes
 }

@@ -1,22 +1,32 @@
-//! Grid files: whole ones, with patch records or without, and every kind of broken one; some with their layers in another order than rising.
+//! Grid files: whole ones, with patch records or without, and every kind of broken one; some with their layers in another order than rising, and some
+//! with layers of both widths.
 
-use crate::faults::{LONGEST_INPUT, PATCH_LENGTH};
-use crate::grids::{grid, Grid, MISSING};
+use crate::grids::{grid, stretched, Grid};
 use crate::random::Random;
+use crate::records::{bytes, narrowed, parts, second_byte, written_width};
+use crate::records::{LONGEST_INPUT, MISSING, NARROW, NARROW_MISSING, OUT_OF_RANGE, PATCH_LENGTH, WIDE};
 use reference::grid::Sides;
 
-/// The file of a grid, its layers in the given order.
-pub fn file_of(g: &Grid, order: &[usize]) -> Vec<u8> {
+/// A layer record of some width.
+pub fn layer(z: usize, values: &[i32], width: usize) -> Vec<u8> {
+    let values = values.iter().flat_map(|&value| bytes(value, width));
+    [0x56, second_byte(width), z as u8].into_iter().chain(values).collect()
+}
+
+/// The file of a grid with a record for each z, of some width.
+pub fn file_of_widths(g: &Grid, layers: impl IntoIterator<Item = (usize, usize)>) -> Vec<u8> {
     let [a, b, c] = g.sides;
     let mut file = vec![0x56, 0x48, a as u8, b as u8, c as u8];
     file.extend(g.allowed.to_le_bytes());
-    for &z in order {
-        file.extend([0x56, 0x4C, z as u8]);
-        for v in &g.values[z * a * b..(z + 1) * a * b] {
-            file.extend(v.to_le_bytes());
-        }
+    for (z, width) in layers {
+        file.extend(layer(z, &g.values[z * a * b..(z + 1) * a * b], width));
     }
     file
+}
+
+/// The file of a grid, its layers narrow and in the given order.
+pub fn file_of(g: &Grid, order: &[usize]) -> Vec<u8> {
+    file_of_widths(g, order.iter().map(|&z| (z, NARROW)))
 }
 
 /// A patch record.
@@ -83,8 +93,8 @@ pub fn file(seed: u64, greatest_side: i64) -> Vec<u8> {
 
 /// What a patch brings: the ends of the values too, and on the border seldom a negative one.
 fn patched_value(r: &mut Random, border: bool) -> i16 {
-    let value = r.pick(&[MISSING, -32767, -300, -6, -1, 0, 1, 6, 255, 256, 32767]);
-    if border && value != MISSING && !r.chance(1) {
+    let value = r.pick(&[NARROW_MISSING, -32767, -300, -6, -1, 0, 1, 6, 255, 256, 32767]);
+    if border && value != NARROW_MISSING && !r.chance(1) {
         value.abs()
     } else {
         value
@@ -99,7 +109,7 @@ fn patches(r: &mut Random, g: &Grid, count: usize, same: u64) -> Vec<u8> {
     let mut records = Vec::new();
     for _ in 0..count {
         let index = (if r.chance(30) { r.pick(&few) } else { r.below(n) }) as usize;
-        let value = if r.chance(same) { g.values[index] } else { patched_value(r, sides.border(index)) };
+        let value = if r.chance(same) { narrowed(g.values[index]) } else { patched_value(r, sides.border(index)) };
         records.extend(patch(index as u32, value));
     }
     records
@@ -172,4 +182,54 @@ pub fn long_file(seed: u64) -> Vec<u8> {
         file.resize(LONGEST_INPUT - 9 + r.below(19) as usize, 0x56);
     }
     file
+}
+
+// ---- files with layers of both widths
+
+/// Layers of either width, wide where two bytes do not hold them; seldom with a value out of range.
+fn layers_of_both_widths(r: &mut Random, g: &mut Grid) -> Vec<u8> {
+    let area = g.sides[0] * g.sides[1];
+    let wide = r.pick(&[0, 30, 50, 100]);
+    let mut widths: Vec<usize> = g.values.chunks(area).map(written_width).collect();
+    widths.iter_mut().for_each(|width| *width = if r.chance(wide) { WIDE } else { *width });
+    if r.chance(12) {
+        let z = r.below(g.sides[2] as u64) as usize;
+        g.values[z * area + r.below(area as u64) as usize] = r.pick(&OUT_OF_RANGE);
+        widths[z] = WIDE;
+    }
+    file_of_widths(g, widths.into_iter().enumerate())
+}
+
+/// A record with the mark of the other width or with a wrong one, with another z, or cut off; mostly none of these.
+fn damaged_record(r: &mut Random, mut file: Vec<u8>, sides: &Sides) -> Vec<u8> {
+    let starts: Vec<usize> = parts(&file, sides).0.iter().map(|record| record.start).collect();
+    let at = r.pick(&starts);
+    match r.below(20) {
+        0 => file[at + 1] ^= second_byte(WIDE) ^ second_byte(NARROW),
+        1 => file[at + r.below(2) as usize] ^= 1 << r.below(8),
+        2 => file[at + 2] = r.pick(&[0, 1, 255]),
+        3 => file.truncate(at + r.below(4) as usize),
+        4 => file.truncate(r.below(file.len() as u64) as usize),
+        _ => {}
+    }
+    file
+}
+
+/// A file with layers of both widths, whole or damaged, some with patches behind.
+pub fn file_of_both_widths(r: &mut Random, greatest_side: i64) -> Vec<u8> {
+    let mut g = stretched(r, greatest_side);
+    let [a, b, c] = g.sides.map(|side| side as u64);
+    let layers = layers_of_both_widths(r, &mut g);
+    let mut file = damaged_record(r, layers, &Sides { a, b, c });
+    while r.chance(35) {
+        let value = r.pick(&[6, -6, NARROW_MISSING, 32_767, -32_767, 0]);
+        let beyond = u64::from(r.chance(5));
+        file.extend(patch(r.below(a * b * c + beyond) as u32, value));
+    }
+    file
+}
+
+/// The file of both widths that a seed names.
+pub fn wide_file(seed: u64, greatest_side: i64) -> Vec<u8> {
+    file_of_both_widths(&mut Random::new(seed.rotate_left(16)), greatest_side)
 }

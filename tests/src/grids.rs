@@ -1,13 +1,13 @@
 //! Grids of the kinds that carving meets: bodies with noise, thin walls, islands, pockets, ties, missing points.
 
 use crate::random::Random;
-
-pub const MISSING: i16 = -32768;
+use crate::records::{GREATEST, LEAST, MISSING};
+use reference::grid::Sides;
 
 pub struct Grid {
     pub sides: [usize; 3],
     pub allowed: u16,
-    pub values: Vec<i16>,
+    pub values: Vec<i32>,
 }
 
 type Place = [f64; 3];
@@ -64,9 +64,28 @@ pub fn grid(r: &mut Random, greatest: i64) -> Grid {
         if border && !r.rarely() {
             d = d.abs();
         }
-        let value = (d * scale).round().clamp(-32767.0, 32767.0) as i16;
+        let value = (d * scale).round().clamp(-32767.0, 32767.0) as i32;
         values.push(if r.chance(gaps) { MISSING } else { value });
     }
     let allowed = r.pick(&[0, 0, 1, 2, 3, 10, 1000, 65535]);
     Grid { sides, allowed, values }
+}
+
+/// Such a grid with its values stretched, mostly beyond 16 bits, and some of them at the ends of both ranges.
+pub fn stretched(r: &mut Random, greatest: i64) -> Grid {
+    let mut g = grid(r, greatest);
+    let factor = r.pick(&[1, 40, 1000, 33_333, 1_000_000]);
+    let some = r.pick(&[0, 0, 2, 10]);
+    let [a, b, c] = g.sides.map(|side| side as u64);
+    let sides = Sides { a, b, c };
+    for (i, value) in g.values.iter_mut().enumerate().filter(|(_, value)| **value != MISSING) {
+        *value = (i64::from(*value) * factor).clamp(LEAST.into(), GREATEST.into()) as i32;
+        if r.chance(some) {
+            *value = r.pick(&[LEAST, GREATEST, -32_768, 32_768, 32_767, -32_767, 65_536, -65_536]);
+        }
+        if sides.border(i) {
+            *value = value.abs();
+        }
+    }
+    g
 }

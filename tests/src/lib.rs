@@ -8,5 +8,6 @@ pub mod files;
 pub mod grids;
 pub mod mutants;
 pub mod random;
+pub mod records;
 pub mod round_trip;
 pub mod scripts;

@@ -1,17 +1,17 @@
 //! Every good file at hand is read, written and read again: sides, T and values are the same both times, and what is written is the file with its
-//! patches in the layers, so the same bytes where there is no patch.
+//! patches in the layers, all of them of the width that their values need: so the same bytes where there is no patch and no wider layer than needed.
 
 use crate::compare::{bears_on_the_file, read_kind, reference_lines, Script};
 use crate::conformance::kinds;
-use crate::faults::{patches, written_length};
-use crate::files::{file, hex, long_file, patched_file};
+use crate::files::{file, hex, layer, long_file, patched_file, wide_file};
+use crate::records::{contents, written_width};
 use reference::file::read;
 use reference::grid::Sides;
 use reference::replay::Replay;
 use std::collections::BTreeSet;
 use std::path::Path;
 
-/// How many seeds name a file each, without patches and with them; and how many a long one.
+/// How many seeds name a file each, without patches, with them, and with layers of both widths; and how many a long one.
 const SEEDS: u64 = 1000;
 const LONG: u64 = 20;
 
@@ -50,7 +50,8 @@ fn of_seeds() -> impl Iterator<Item = Named> {
     let greatest = |seed: u64| if seed.is_multiple_of(8) { 24 } else { 10 };
     let plain = (1..=SEEDS).map(move |seed| (format!("seed {seed}"), file(seed, greatest(seed))));
     let patched = (1..=SEEDS).map(move |seed| (format!("patched seed {seed}"), patched_file(seed, greatest(seed))));
-    plain.chain(patched).chain((1..=LONG).map(|seed| (format!("long seed {seed}"), long_file(seed))))
+    let wide = (1..=SEEDS).map(move |seed| (format!("wide seed {seed}"), wide_file(seed, greatest(seed))));
+    plain.chain(patched).chain(wide).chain((1..=LONG).map(|seed| (format!("long seed {seed}"), long_file(seed))))
 }
 
 /// How many values a file has; nothing where it is refused.
@@ -59,23 +60,20 @@ fn values_in(file: &[u8]) -> Option<usize> {
     read(file, &mut vec![0; n], 64).ok().map(|_| n)
 }
 
-/// A good file with its patches among the layers' values.
+/// A good file with its patches among the layers' values, and these in layers of one width.
 fn written_form(file: &[u8]) -> Vec<u8> {
     let [a, b, c] = [file[2], file[3], file[4]].map(u64::from);
-    let (sides, layer) = (Sides { a, b, c }, (a * b) as usize);
-    let mut written = file[..written_length(&sides) as usize].to_vec();
-    for (index, value) in patches(file, &sides) {
-        let (z, place) = (index as usize / layer, index as usize % layer);
-        let at = 7 + z * (3 + 2 * layer) + 3 + 2 * place;
-        written[at..at + 2].copy_from_slice(&value.to_le_bytes());
-    }
-    written
+    let values = contents(file, &Sides { a, b, c });
+    let width = written_width(&values);
+    let layers = values.chunks((a * b) as usize).enumerate().flat_map(|(z, values)| layer(z, values, width));
+    file[..7].iter().copied().chain(layers).collect()
 }
 
 /// Reads the file, writes what was read, and reads that where nothing is as the file has it.
 fn commands(file: &[u8], n: usize) -> String {
     let other_t = u16::from_le_bytes([file[5], file[6]]) ^ 1;
-    let written = format!("write {}\nshowfile\nrawsides 65 65 65\nT {other_t}\nvalues list\nvalues len {n}", file.len());
+    let room = file.len().max(written_form(file).len());
+    let written = format!("write {room}\nshowfile\nrawsides 65 65 65\nT {other_t}\nvalues list\nvalues len {n}");
     format!("autohash 0\nfile {}\nvalues len {n}\nread\ndump values\n{written}\nread\ndump values\n", hex(file))
 }
 
@@ -87,7 +85,7 @@ fn held(file: &[u8], lines: &[String]) -> Result<(), String> {
         return Err(format!("it is not written: {written}"));
     }
     if shown.to_lowercase() != hex(&form) {
-        return Err("what is written is not the file with its patches in its layers".to_string());
+        return Err("what is written is not the file's values in layers of one width".to_string());
     }
     if (sides, values) != (sides_again, values_again) {
         return Err(format!("{sides} at first, then {sides_again}, and the values are the same: {}", values == values_again));
@@ -121,7 +119,8 @@ mod tests {
         let from = |what: &str| scripts.iter().filter(|script| script.text.lines().next().is_some_and(|line| line.contains(what))).count();
         assert_eq!(from(".grid"), std::fs::read_dir(root.join("samples")).expect("samples").filter(is_grid).count());
         let kinds = [("files", 20), ("damage", 20), ("orders", 20), ("writes", 40), ("writing", 30), ("patches", 40), ("patching", 40)];
-        for (kind, least) in kinds.into_iter().chain([("seed", 600), ("patched", 400), ("long", 5)]) {
+        let kinds = kinds.into_iter().chain([("widths", 40), ("widening", 40)]);
+        for (kind, least) in kinds.chain([("seed", 600), ("patched", 400), ("wide", 500), ("long", 5)]) {
             assert!(from(&format!(": {kind} ")) >= least, "{kind}: {}", from(&format!(": {kind} ")));
         }
     }

@@ -1,5 +1,5 @@
 //! Call scripts (docs/CALL-SCRIPTS.md). Those from seeds: lists of calls from begin, crafted records, unfit ones, finished grids, files read, patched,
-//! written and out of order, blocks; each is made along with a run of the reference, so that it can choose voxels by what they are at that moment. And those
+//! written, out of order and of both widths, blocks; each is made along with a run of the reference, so that it can choose voxels by what they are at that moment. And those
 //! written out, in the modules below: every fault, every worked case, and what chance leaves out.
 
 pub mod cases;
@@ -12,21 +12,24 @@ mod patching;
 mod points;
 mod refusals;
 mod shapes;
+mod widening;
 mod writing;
 
 use crate::files::{file, hex};
 use crate::grids::{grid, Grid};
 use crate::random::Random;
+use crate::records::NARROW;
 use reference::grid::{begin, Record, Sides};
 use reference::machine::{carve, finish, open, take};
 use std::fmt::{Display, Write};
 
 /// The kinds of scripts from seeds.
-pub const SEEDED: [&str; 11] =
-    ["lists", "takes", "openings", "crafted", "unfit", "crossings", "files", "orders", "patches", "writes", "blocks"];
+pub const SEEDED: [&str; 12] =
+    ["lists", "takes", "openings", "crafted", "unfit", "crossings", "files", "orders", "patches", "writes", "widths", "blocks"];
 
 /// The kinds of scripts that are written out. What takes longest stands last.
-pub const WRITTEN: [&str; 10] = ["cases", "language", "refusals", "damage", "ordering", "patching", "writing", "long", "points", "shapes"];
+pub const WRITTEN: [&str; 11] =
+    ["cases", "language", "refusals", "damage", "ordering", "patching", "writing", "widening", "long", "points", "shapes"];
 
 /// How many scripts of each seeded kind a second supplier is given.
 const GIVEN: u64 = 40;
@@ -45,6 +48,7 @@ pub fn conformance(kind: &str) -> Vec<String> {
         "damage" => damage::scripts(),
         "ordering" => ordering::scripts(),
         "writing" => writing::scripts(),
+        "widening" => widening::scripts(),
         "patching" => patching::scripts(),
         "long" => long::scripts(),
         "points" => points::scripts(),
@@ -70,6 +74,7 @@ pub fn script(kind: &str, seed: u64, greatest: i64) -> String {
         "orders" => m.orders(greatest),
         "patches" => m.patches(seed, greatest),
         "writes" => m.writes(seed, greatest),
+        "widths" => m.widths(greatest),
         "large" => m.large(),
         _ => m.blocks(),
     }
@@ -239,7 +244,7 @@ impl Maker {
         let s = Sides { a: sides[0] as u64, b: sides[1] as u64, c: sides[2] as u64 };
         let (dense, range) = (self.r.pick(&[30, 50, 65, 80]), self.r.pick(&[1, 3, 1000]));
         let value = |i: usize| {
-            let size = self.r.between(1, range) as i16;
+            let size = self.r.between(1, range) as i32;
             if !s.border(i) && self.r.chance(dense) {
                 -size
             } else {
@@ -281,14 +286,14 @@ impl Maker {
     fn large(&mut self) {
         let sides = Sides { a: self.r.pick(&[31, 33, 64]), b: self.r.pick(&[33, 40, 64]), c: self.r.pick(&[3, 32, 64]) };
         self.set(sides, 65535);
-        let outer = self.r.between(1, 900) as i16;
+        let outer = self.r.between(1, 900) as i32;
         let mut values = vec![outer; sides.n()];
         self.say(format!("values fill {outer}"));
         for _ in 0..self.r.between(1, 3) {
             let mut v = [sides.a, sides.b, sides.c].map(|side| self.r.between(1, side as i64 - 2));
             for _ in 0..self.r.between(50, 400) {
                 let i = sides.index(v).expect("a walk stays within the grid");
-                values[i] = self.r.between(-90, -1) as i16;
+                values[i] = self.r.between(-90, -1) as i32;
                 self.say(format!("values set {i} {}", values[i]));
                 let axis = self.r.below(3) as usize;
                 let side = [sides.a, sides.b, sides.c][axis] as i64;
@@ -300,7 +305,7 @@ impl Maker {
         let count = self.r.between(3, 12);
         self.calls(count, [50, 20, 28, 0]);
         self.and_finish();
-        self.write(&sides);
+        self.write(&sides, NARROW);
     }
 
     // ---- files

@@ -2,23 +2,24 @@
 //! out of its place.
 
 use super::sights::chosen;
-use crate::faults::{written_length, LONGEST_INPUT, PATCH_LENGTH};
+use crate::records::{parts, LayerRecord, LONGEST_INPUT, PATCH_LENGTH};
 use reference::grid::Sides;
 
-/// The z that the records of a file say, as many as are whole.
-fn layers(sides: &Sides, bytes: &[u8]) -> Vec<usize> {
-    let length = 3 + 2 * (sides.a * sides.b) as usize;
-    let records = bytes.get(7..).unwrap_or(&[]).chunks_exact(length);
-    records.take(sides.c as usize).map(|record| usize::from(record[2])).collect()
+/// The z that the whole records of a file say, and where each of them begins.
+fn layers(sides: &Sides, bytes: &[u8]) -> Vec<(usize, usize)> {
+    let (records, _) = parts(bytes, sides);
+    let z = |record: &LayerRecord| (usize::from(record.left[2]), record.start);
+    records.iter().filter(|record| record.is_whole()).map(z).collect()
 }
 
 /// What is seen in a file before it is read; nothing where it has not so many whole records as layers.
 pub fn of(call: &str, sides: &Sides, bytes: &[u8]) -> Vec<String> {
-    let z = layers(sides, bytes);
+    let z: Vec<usize> = if sides.fit() { layers(sides, bytes).into_iter().map(|(z, _)| z).collect() } else { Vec::new() };
     let c = sides.c as usize;
     if !sides.fit() || z.len() < c {
         return Vec::new();
     }
+    let (_, behind) = parts(bytes, sides);
     let Some(first) = (0..c).find(|&k| z[k] != k) else { return Vec::new() };
     let mut seen = shapes(&z);
     seen.extend(chosen(&[
@@ -27,7 +28,7 @@ pub fn of(call: &str, sides: &Sides, bytes: &[u8]) -> Vec<String> {
         (first > 7, "past layer 7"),
         (first > 15, "past layer 15"),
         (first > 31, "past layer 31"),
-        ((bytes.len() as u128) >= written_length(sides) + PATCH_LENGTH as u128, "patches behind"),
+        (behind.len() >= PATCH_LENGTH, "patches behind"),
         (bytes.len() == LONGEST_INPUT, "65536 bytes"),
     ]));
     let again = chosen(&[
@@ -73,12 +74,11 @@ fn is_rising(z: &[usize]) -> bool {
 
 /// What is seen of a layer that is read by itself, in a file of these sides: whether it is the next, or a repeat.
 pub fn of_layer(sides: &Sides, bytes: &[u8], start: u64) -> Vec<String> {
-    let length = 3 + 2 * sides.a.saturating_mul(sides.b).min(1 << 20);
-    let Some(record) = start.checked_sub(7).filter(|at| at % length == 0).map(|at| (at / length) as usize) else { return Vec::new() };
-    let z = if sides.fit() { layers(sides, bytes) } else { Vec::new() };
-    let Some(&own) = z.get(record) else { return Vec::new() };
+    let all = if sides.fit() { layers(sides, bytes) } else { Vec::new() };
+    let Some(record) = all.iter().position(|&(_, from)| from as u64 == start) else { return Vec::new() };
+    let (own, _) = all[record];
     chosen(&[
         (own != record, "readlayer: a layer that is not the next"),
-        (z[..record].contains(&own), "readlayer: a layer that came before"),
+        (all[..record].iter().any(|&(z, _)| z == own), "readlayer: a layer that came before"),
     ])
 }

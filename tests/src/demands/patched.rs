@@ -1,7 +1,8 @@
 //! What a file with patch records is about: the entries of `ALSO` that read and the program meet on it.
 
 use super::sights::chosen;
-use crate::faults::{patches, written_length, LONGEST_INPUT, PATCH, PATCH_LENGTH};
+use crate::faults::PATCH;
+use crate::records::{parts, patches, LONGEST_INPUT, MISSING, NARROW_MISSING, PATCH_LENGTH};
 use reference::file::{program_line, read};
 use reference::grid::Sides;
 use std::collections::BTreeMap;
@@ -11,11 +12,15 @@ type Patch = (usize, i16);
 
 /// What is seen in a file before it is read; nothing where it has no whole patch.
 pub fn of(call: &str, sides: &Sides, bytes: &[u8]) -> Vec<String> {
-    let all: Vec<Patch> = patches(bytes, sides).map(|(index, value)| (index as usize, value)).collect();
-    if !sides.fit() || all.is_empty() {
+    if !sides.fit() {
         return Vec::new();
     }
-    let (layers, rest) = bytes.split_at(written_length(sides) as usize);
+    let all: Vec<Patch> = patches(bytes, sides).map(|(index, value)| (index as usize, value)).collect();
+    if all.is_empty() {
+        return Vec::new();
+    }
+    let (_, rest) = parts(bytes, sides);
+    let layers = &bytes[..bytes.len() - rest.len()];
     let mut seen = places(sides, &all);
     seen.extend(values(sides, &all, layers));
     seen.extend(chosen(&[(bytes.len() >= LONGEST_INPUT + PATCH_LENGTH, "a patch after byte 65536")]));
@@ -53,14 +58,14 @@ fn values(sides: &Sides, all: &[Patch], layers: &[u8]) -> Vec<String> {
     let mut before = vec![0; sides.n()];
     let whole = read(layers, &mut before, 64).is_ok();
     let of = |value: i16| all.iter().any(|&(_, v)| v == value);
-    let from = |wanted: &dyn Fn(i16, i16) -> bool| whole && all.iter().any(|&(i, v)| before.get(i).is_some_and(|&was| wanted(was, v)));
+    let from = |wanted: &dyn Fn(i32, i16) -> bool| whole && all.iter().any(|&(i, v)| before.get(i).is_some_and(|&was| wanted(was, v)));
     let apart = apart(all);
     chosen(&[
-        (of(i16::MIN), "a patch of -32768"),
+        (of(NARROW_MISSING), "a patch of -32768"),
         (of(-32767), "a patch of -32767"),
         (of(32767), "a patch of 32767"),
-        (from(&|was, is| was != i16::MIN && is == i16::MIN), "a patch of -32768 to a measured voxel"),
-        (from(&|was, is| was == i16::MIN && is != i16::MIN), "a measured patch to a missing voxel"),
+        (from(&|was, is| was != MISSING && is == NARROW_MISSING), "a patch of -32768 to a measured voxel"),
+        (from(&|was, is| was == MISSING && is != NARROW_MISSING), "a measured patch to a missing voxel"),
         (apart >= 1, "two patches to a voxel, of different values"),
         (apart >= 2, "two patches to a voxel, with another's between them"),
     ])

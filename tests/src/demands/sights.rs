@@ -1,7 +1,7 @@
 //! What a call is about, besides its faults: the entries of `ALSO` that it meets if it is done.
 
-use super::{ordered, patched};
-use crate::faults::{written_length, LONGEST_INPUT};
+use super::{ordered, patched, wide};
+use crate::records::{negative, written_length, written_width, GREATEST, LONGEST_INPUT, MISSING};
 use reference::file::read;
 use reference::grid::Sides;
 use reference::replay::Replay;
@@ -68,12 +68,8 @@ fn different(s: &Sides) -> bool {
     s.a != s.b && s.b != s.c && s.a != s.c
 }
 
-fn negative(value: i16) -> bool {
-    value < 0 && value != i16::MIN
-}
-
 /// Groups of measured negative voxels joined by touching, in the order of their smallest index.
-fn groups(sides: &Sides, values: &[i16]) -> Vec<Vec<usize>> {
+fn groups(sides: &Sides, values: &[i32]) -> Vec<Vec<usize>> {
     let mut free: Vec<bool> = values.iter().map(|&v| negative(v)).collect();
     let mut groups = Vec::new();
     for seed in 0..values.len() {
@@ -97,21 +93,25 @@ fn begin(state: &Replay) -> Vec<String> {
     if !sides.fit() || values.len() != sides.n() {
         return Vec::new();
     }
+    let mut seen = wide::of_begin(state);
     let groups = groups(sides, values);
-    let Some(largest) = groups.iter().map(Vec::len).max() else { return Vec::new() };
+    let Some(largest) = groups.iter().map(Vec::len).max() else { return seen };
     let inside = groups.iter().find(|group| group.len() == largest).expect("the largest is one of them");
     let facing = |&i: &usize| sides.face_neighbours(i).into_iter().flatten();
-    let beside: Vec<i16> = inside.iter().flat_map(facing).map(|j| values[j]).filter(|&v| !negative(v)).collect();
+    let beside: Vec<i32> = inside.iter().flat_map(facing).map(|j| values[j]).filter(|&v| !negative(v)).collect();
     let m = beside.iter().copied().filter(|&v| v >= 0).max();
-    chosen(&[
+    seen.extend(chosen(&[
         (m == Some(0), "begin: M raised to 1, a 0 beside S"),
         (m.is_none() && !beside.is_empty(), "begin: M raised to 1, only missing points beside S"),
+        (m > Some(32_767), "begin: M over 16 bits"),
+        (m == Some(GREATEST), "begin: M of 1000000000"),
         (groups.len() > 1, "begin: a discarded group"),
         (groups.iter().filter(|group| group.len() == largest).count() > 1, "begin: two largest groups of one size"),
         (values.contains(&-32767), "begin: a value of -32767"),
-        ((0..values.len()).any(|i| values[i] == i16::MIN && sides.border(i)), "begin: a missing border voxel"),
+        ((0..values.len()).any(|i| values[i] == MISSING && sides.border(i)), "begin: a missing border voxel"),
         (state.t == u16::MAX, "begin: T of 65535"),
-    ])
+    ]));
+    seen
 }
 
 fn carve(state: &Replay, limit: u64) -> Vec<String> {
@@ -204,6 +204,7 @@ fn readlayer(state: &Replay, start: u64) -> Vec<String> {
         (mark == Some(&[0x56, 0x50]), "if refused 22: readlayer refused: 22, a patch record"),
     ]);
     seen.extend(ordered::of_layer(&state.sides, bytes, start));
+    seen.extend(wide::of_layer(&state.sides, bytes, start));
     seen
 }
 
@@ -221,6 +222,7 @@ fn file(call: &str, bytes: &[u8]) -> Vec<String> {
     ]);
     seen.extend(ordered::of(call, &sides, bytes));
     seen.extend(patched::of(call, &sides, bytes));
+    seen.extend(wide::of_file(call, &sides, bytes));
     seen
 }
 
@@ -235,10 +237,11 @@ fn write(state: &Replay, lent: u64) -> Vec<String> {
     if !sides.fit() || values.len() != sides.n() {
         return Vec::new();
     }
-    let length = written_length(sides) as u64;
+    let length = written_length(sides, written_width(values)) as u64;
     let own = is_of_the_state(state);
     let negatives = values.iter().filter(|&&v| negative(v)).count();
-    chosen(&[
+    let mut seen = wide::of_write(state, lent, own);
+    seen.extend(chosen(&[
         (lent == length, "write: lent exactly the length"),
         (lent == length + 1, "write: lent a byte more"),
         (lent > 2 * length, "write: lent more than twice the length"),
@@ -246,7 +249,7 @@ fn write(state: &Replay, lent: u64) -> Vec<String> {
         (sides.b == 64, "write: b is 64"),
         (sides.c == 64, "write: c is 64"),
         (true, &format!("write: T of {}", state.t)[..]),
-        (values.contains(&i16::MIN), "write: a value of -32768"),
+        (values.contains(&MISSING), "write: a missing point"),
         (values.contains(&-32767), "write: a value of -32767"),
         (values.contains(&32767), "write: a value of 32767"),
         (negatives > 0 && values.iter().any(|&v| v > 0), "write: values of both signs"),
@@ -258,7 +261,8 @@ fn write(state: &Replay, lent: u64) -> Vec<String> {
         (state.file.len() as u64 > length, "write: a longer file before"),
         (own && state.file.len() as u64 == length, "write: the file's own grid, without patches"),
         (own && state.file.len() as u64 > length, "write: the file's own grid, its patches among the layers"),
-    ])
+    ]));
+    seen
 }
 
 fn local(words: &[&str]) -> Vec<String> {

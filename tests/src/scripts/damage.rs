@@ -2,7 +2,8 @@
 //! Each file goes through read, the program and, record by record, readlayer. What follows the layers has its own scripts (patching.rs).
 
 use crate::files::{file_of, hex};
-use crate::grids::{Grid, MISSING};
+use crate::grids::Grid;
+use crate::records::MISSING;
 
 #[derive(Clone, Copy)]
 pub(super) enum Damage {
@@ -267,11 +268,11 @@ const PAIRS: &[(&str, &[[Damage; 2]])] = &[
 /// A body of two voxels that touch at an edge, with a voxel of 0 between, in a grid of these sides.
 fn ends(sides: [usize; 3]) -> Vec<u8> {
     let [a, b, c] = sides;
-    let mut values: Vec<i16> = (0..a * b * c).map(|i| 3 + (i % 7) as i16).collect();
+    let mut values: Vec<i32> = (0..a * b * c).map(|i| 3 + (i % 7) as i32).collect();
     let at = |x: usize, y: usize, z: usize| x + a * (y + b * z);
     for k in 0..a.max(b).max(c) - 2 {
         let voxel = at(1 + k.min(a - 3), 1 + k.min(b - 3), 1 + k.min(c - 3));
-        values[voxel] = if k % 4 == 2 { 0 } else { -2 - (k % 3) as i16 };
+        values[voxel] = if k % 4 == 2 { 0 } else { -2 - (k % 3) as i32 };
     }
     file_of(&Grid { sides, allowed: 65535, values }, &(0..c).collect::<Vec<_>>())
 }
@@ -282,7 +283,7 @@ fn largest() -> Vec<u8> {
     let value = |i: usize| {
         let v = [i % side, i / side % side, i / (side * side)].map(|v| v as f64 - 11.5);
         let ring = (v[0].hypot(v[1]) - 7.0).hypot(v[2]) - 3.0;
-        (20.0 * ring).round() as i16
+        (20.0 * ring).round() as i32
     };
     let values = (0..side * side * side).map(value).collect();
     file_of(&Grid { sides: [side; 3], allowed: 1, values }, &(0..side).collect::<Vec<_>>())

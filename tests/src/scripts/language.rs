@@ -5,7 +5,7 @@ const SCRIPTS: &[&str] = &[
     "# blanks, comments, leading zeros and both cases of hexadecimal digits\n\n   \t \n  # a comment after blanks\n#another\nsides 003 3 3\n\
      values   fill\t-0\nvalues set 013 -05\nbegin\nlocal 7FfDfFf\nlocal 0000000000000010\nlocal ffffffff\nlocal f8000000\nfile 5648\nappend\n\
      append 03\nappend 0303fFfF\nread\nfile\nread\nprogram\n",
-    "# the ends of the buffers' ranges, and len and fill and list\nvalues list -32768 -32767 -1 0 1 32767\nhash\ndump values\nvalues len 8\n\
+    "# the ends of the buffers' ranges, and len and fill and list\nvalues list -2147483648 -2147483647 -32768 -1 0 1 32767 2147483647\nhash\ndump values\nvalues len 10\n\
      dump values\nvalues len 2\ndump values\nvalues fill 7\ndump values\nvalues list\ndump values\ndist list -2147483648 -1 0 2147483647\n\
      dist len 5\ndump dist\nstatus list 0 1 3 255\nstatus set 3 2\ndump status\nhash\n",
     "# sides make buffers; rawsides do not\nsides 4 3 5\nhash\ndump dist\ndump status\nrawsides 5 5 5\nhash\nbegin\nsides 65 3 3\nhash\nsides 0 3 3\n\
@@ -13,16 +13,16 @@ const SCRIPTS: &[&str] = &[
     "# the ends of the record's ranges\nrec a 18446744073709551615\nrec b 0\nrec c 64\nrec T 65535\nrec openings 4294967295\n\
      rec removals 18446744073709551615\nrec examinations 18446744073709551615\nrec euler -2147483648\nrec finished 255\nrec show 0\n\
      rec euler 2147483647\nrec finished 0\nrec show 0\ncarve 4294967295\ntake 18446744073709551615\nopen\nfinish\n\
-     crossing 18446744073709551615 4294967295\nreadlayer 18446744073709551615\npoints 18446744073709551615 1048576\nrec show 0\n",
+     crossing 18446744073709551615 4294967295\nreadlayer 18446744073709551615\npoints 18446744073709551615 2097152\nrec show 0\n",
     "# after a refused begin the record is what it was; after a refused read so are sides and T\nvalues fill 5\nvalues set 13 -5\nT 65535\nbegin\n\
      rec examinations 3\nvalues fill 5\nbegin\nrec show 0\ncarve 0\nfile 5648030303\nread\nvalues set 13 -1\nbegin\nfinish\nbegin\nrec show 0\n\
      values fill 5\nbegin\nrec show 0\ncarve 1\n",
     "# autohash is for calls alone\nautohash 0\nvalues set 13 -5\nbegin\nlocal 0\nautohash 1\ncarve 1\nlocal 0\nread\nreadlayer 0\nrec show 0\nhash\n\
      dump status\nprogram\nautohash 0\ncarve 1\nautohash 1\n",
-    "# write at the ends of its range, and showfile in upper case, of no file too, and without a hash\nshowfile\nwrite 0\nwrite 1048576\nshowfile\n\
+    "# write at the ends of its range, and showfile in upper case, of no file too, and without a hash\nshowfile\nwrite 0\nwrite 2097152\nshowfile\n\
      write 0070\nwrite 69\nautohash 0\nwrite 70\nwrite 69\nshowfile\nautohash 1\nfile aBcDeF0123456789\nshowfile\nappend 00fe\nshowfile\n\
-     write 2\nshowfile\nsides 65 3 3\nwrite 1048576\nrawsides 18446744073709551615 18446744073709551615 18446744073709551615\nT 65535\nwrite 0\n\
-     write 1048576\nshowfile\nfile\nshowfile\nrec show 0\n",
+     write 2\nshowfile\nsides 65 3 3\nwrite 2097152\nrawsides 18446744073709551615 18446744073709551615 18446744073709551615\nT 65535\nwrite 0\n\
+     write 2097152\nshowfile\nfile\nshowfile\nrec show 0\n",
 ];
 
 /// Lines that a tool must refuse, each a script by itself: it prints nothing, and its status is 2.
@@ -60,7 +60,7 @@ pub const MISTAKES: &[&str] = &[
     "points -1 3",
     "points 18446744073709551616 3",
     "points 0 -1",
-    "points 0 1048577",
+    "points 0 2097153",
     "points all 3",
     "readlayer",
     "readlayer -1",
@@ -68,7 +68,7 @@ pub const MISTAKES: &[&str] = &[
     "readlayer 7 7",
     "write",
     "write -1",
-    "write 1048577",
+    "write 2097153",
     "write 4294967366",
     "write 18446744073709551616",
     "write 70 70",
@@ -94,19 +94,19 @@ pub const MISTAKES: &[&str] = &[
     "T 1 1",
     "values",
     "values fill",
-    "values fill 32768",
-    "values fill -32769",
+    "values fill 2147483648",
+    "values fill -2147483649",
     "values fill 1 1",
     "values set 27 0",
     "values set -1 0",
     "values set 0",
-    "values set 0 32768",
+    "values set 0 2147483648",
     "values set 0 0 0",
     "values list 1 x",
-    "values list 32768",
+    "values list 2147483648",
     "values len",
     "values len -1",
-    "values len 1048577",
+    "values len 2097153",
     "values len 1 1",
     "values add 1",
     "dist fill 2147483648",

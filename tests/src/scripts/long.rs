@@ -1,10 +1,10 @@
 //! Files with thousands of patches, with indices that two bytes do not hold, and of as many bytes as the program takes, or more (document 02, CR 2),
-//! and such as have their layers out of order (CR 4).
+//! such as have their layers out of order (CR 4), and such as have wide layers (CR 5).
 
 use super::patching::{appended, many, marked};
-use crate::faults::{written_length, LONGEST_INPUT, PATCH_LENGTH};
-use crate::files::{file_of, hex, patch};
-use crate::grids::{Grid, MISSING};
+use crate::files::{file_of, file_of_widths, hex, layer, patch};
+use crate::grids::Grid;
+use crate::records::{written_length, GREATEST, LONGEST_INPUT, NARROW, NARROW_MISSING, PATCH_LENGTH, WIDE};
 use reference::grid::Sides;
 
 /// Asked for after 254 to 257 patches, and after 2,000; the last one is another value each time.
@@ -24,8 +24,9 @@ fn two_thousand() -> String {
 fn over_16_bits() -> String {
     let file = |[a, b, c]: [u64; 3]| {
         let n = (a * b * c) as u32;
-        let length = written_length(&Sides { a, b, c });
-        let patches = [patch(65536, -2), patch(0, 5), patch(n - 1, 7), patch(65535, 9), patch(65536 + 17, MISSING), patch(17, 11)].concat();
+        let length = written_length(&Sides { a, b, c }, NARROW);
+        let patches =
+            [patch(65536, -2), patch(0, 5), patch(n - 1, 7), patch(65535, 9), patch(65536 + 17, NARROW_MISSING), patch(17, 11)].concat();
         let set = format!("sides {a} {b} {c}\nT 513\nvalues fill 1027\nwrite {length}\nvalues fill 77\n");
         let more = format!("{}values fill 77\nread\n{}read\nprogram\n", appended(&patch(n, 3)), appended(&patch(0, 1)));
         format!("{set}{}read\nprogram\nreadlayer {length}\n{more}", appended(&patches))
@@ -100,7 +101,7 @@ fn whatever_it_is() -> String {
 
 /// Layers out of order in a file of 65,536 bytes, and a byte more: 27, and then 25 for the program alone.
 fn out_of_order() -> String {
-    let values = (0..48).map(|i| if i == 21 { -6 } else { 6 + i as i16 }).collect();
+    let values = (0..48).map(|i| if i == 21 { -6 } else { 6 + i }).collect();
     let g = Grid { sides: [4, 4, 3], allowed: 0, values };
     let each = [[2, 1, 0], [0, 2, 1], [1, 2, 0]].map(|order| {
         let layers = file_of(&g, &order);
@@ -110,6 +111,28 @@ fn out_of_order() -> String {
     format!("# 27, and 25 before it\nvalues len 48\nvalues fill 77\n{}", each.concat())
 }
 
+/// A ring of 24 voxels a side in four bytes a value: 55,375 bytes. With patches up to 65,536, and a byte more; with a narrow layer among the wide
+/// ones; and with a value out of range at its end: 28, and 25 before it.
+fn wide() -> String {
+    let side = 24;
+    let value = |i: usize| {
+        let v = [i % side, i / side % side, i / (side * side)].map(|v| v as f64 - 11.5);
+        let ring = (v[0].hypot(v[1]) - 7.0).hypot(v[2]) - 3.0;
+        (50_000.0 * ring).round() as i32
+    };
+    let g = Grid { sides: [side; 3], allowed: 1, values: (0..side * side * side).map(value).collect() };
+    let mut layers = file_of_widths(&g, (0..side).map(|z| (z, WIDE)));
+    let ask = "program\nvalues fill 77\nread\n";
+    let filled = |layers: &[u8]| appended(&patch(0, 9).repeat((LONGEST_INPUT - layers.len()) / PATCH_LENGTH));
+    let full = format!("file {}\nvalues len 13824\n{ask}{}{ask}append 56\n{ask}", hex(&layers), filled(&layers));
+    let first = layer(0, &[7; 576], NARROW);
+    let mixed = format!("file {}\n{ask}", hex(&[&layers[..7], &first, &layers[7 + 3 + 4 * 576..]].concat()));
+    let last = layers.len() - WIDE;
+    layers[last..].copy_from_slice(&(GREATEST + 1).to_le_bytes());
+    let spoilt = format!("file {}\n{ask}{}{ask}append 5650\n{ask}append 00\n{ask}", hex(&layers), filled(&layers));
+    format!("# 24 voxels a side with wide layers\n{full}{mixed}{spoilt}")
+}
+
 pub fn scripts() -> Vec<String> {
-    vec![two_thousand(), over_16_bits(), full(), a_byte_over(), whatever_it_is(), over_65_535_patches(), out_of_order()]
+    vec![two_thousand(), over_16_bits(), full(), a_byte_over(), whatever_it_is(), over_65_535_patches(), out_of_order(), wide()]
 }

@@ -6,7 +6,8 @@ use super::damage::calls;
 use super::patching::marked;
 use super::Maker;
 use crate::files::{file_of, hex, patch, shuffled};
-use crate::grids::{grid, Grid, MISSING};
+use crate::grids::{grid, Grid};
+use crate::records::{MISSING, NARROW_MISSING};
 
 /// The values of a layer, 4 by 3.
 const AREA: usize = 12;
@@ -18,7 +19,7 @@ fn start(record: usize) -> usize {
 
 /// 4, 3, c with T = 258. No two layers are the same, and voxel (1, 1, 1) is inside.
 fn whole(c: usize) -> Grid {
-    let values = (0..AREA * c).map(|i| if i == 17 { -6 } else { 6 + i as i16 % 50 }).collect();
+    let values = (0..AREA * c).map(|i| if i == 17 { -6 } else { 6 + i as i32 % 50 }).collect();
     Grid { sides: [4, 3, c], allowed: 258, values }
 }
 
@@ -231,7 +232,7 @@ fn before_patches() -> String {
     let layer = |z: usize| file(5, &[z])[7..].to_vec();
     let behind = [
         whole.clone(),
-        [patch(17, 6), patch(59, MISSING), patch(0, -1)].concat(),
+        [patch(17, 6), patch(59, NARROW_MISSING), patch(0, -1)].concat(),
         whole[..1].to_vec(),
         whole[..7].to_vec(),
         marked([0x57, 0x50]),
@@ -254,7 +255,7 @@ fn before_patches() -> String {
 /// Grids that begin refuses, and one that patches spoil.
 fn before_begin() -> String {
     let border: [&dyn Fn(usize) -> bool; 3] = [&|i| i == 0, &|i| i == 59, &|i| i == 16];
-    let with = |wanted: &dyn Fn(usize) -> bool, value: i16| {
+    let with = |wanted: &dyn Fn(usize) -> bool, value: i32| {
         let mut g = whole(5);
         (0..60).filter(|&i| wanted(i)).for_each(|i| g.values[i] = value);
         g

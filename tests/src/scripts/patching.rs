@@ -3,9 +3,9 @@
 
 use super::damage::{calls, damaged, Damage, Damage::*, VOXELS};
 use super::Maker;
-use crate::faults::LONGEST_INPUT;
 use crate::files::{file_of, hex, patch, patched_file};
-use crate::grids::{Grid, MISSING};
+use crate::grids::Grid;
+use crate::records::{LONGEST_INPUT, NARROW, NARROW_MISSING};
 use reference::grid::Sides;
 
 /// n of the file that `damaged` makes: 4, 3, 3, all 6, voxel (1, 1, 1), which is 17, -6.
@@ -63,7 +63,7 @@ fn beyond() -> String {
 
 fn within() -> String {
     let places = [0, 1, 3, 4, 11, 12, 17, 18, 23, 24, N - 2, N - 1];
-    let values = [MISSING, -32767, -257, -256, -255, -1, 0, 1, 255, 256, 32767, 0x4856, 0x4C56, 0x5056];
+    let values = [NARROW_MISSING, -32767, -257, -256, -255, -1, 0, 1, 255, 256, 32767, 0x4856, 0x4C56, 0x5056];
     let at = places.map(|index| alone_and_after_two(&patch(index, 515))).concat();
     let of = values.map(|value| alone_and_after_two(&patch(14, value)) + "dump values\n").concat();
     format!("# indices under n, and values of every kind\n{at}{of}")
@@ -135,19 +135,19 @@ fn before_begin() -> String {
 fn body_and_border() -> String {
     let mut text = "# 3 and 4 brought about by patches, and mended by them\n".to_string();
     for voxel in [16, 19, 13, 21, 5, 29] {
-        for rest in [vec![-1], vec![-32767], vec![MISSING], vec![0], vec![-1, 6], vec![6, -1], vec![-1, MISSING]] {
+        for rest in [vec![-1], vec![-32767], vec![NARROW_MISSING], vec![0], vec![-1, 6], vec![6, -1], vec![-1, NARROW_MISSING]] {
             text += &given(&[], &rest.iter().flat_map(|&value| patch(voxel, value)).collect::<Vec<_>>());
         }
         text += &given(&[BorderNegative(voxel as usize)], &patch(voxel, 6));
-        text += &given(&[BorderNegative(voxel as usize)], &patch(voxel, MISSING));
+        text += &given(&[BorderNegative(voxel as usize)], &patch(voxel, NARROW_MISSING));
     }
-    for values in [vec![6], vec![0], vec![MISSING], vec![6, -6], vec![-6, 6], vec![MISSING, -1], vec![-32767]] {
+    for values in [vec![6], vec![0], vec![NARROW_MISSING], vec![6, -6], vec![-6, 6], vec![NARROW_MISSING, -1], vec![-32767]] {
         let rest: Vec<u8> = values.iter().flat_map(|&value| patch(17, value)).collect();
         text += &given(&[], &rest);
         text += &given(&[NoneNegative], &rest);
         text += &given(&[OnlyMissing], &rest);
     }
-    let none: Vec<u8> = (0..N).flat_map(|index| patch(index, MISSING)).collect();
+    let none: Vec<u8> = (0..N).flat_map(|index| patch(index, NARROW_MISSING)).collect();
     text + &given(&[], &none) + &given(&[], &[patch(17, 6), patch(18, -6)].concat()) + &given(&[NoneNegative], &patch(18, -1))
 }
 
@@ -159,7 +159,7 @@ fn bodies() -> String {
         calls(&[&file_of(&Grid { sides: [5, 5, 3], allowed, values }, &[0, 1, 2])[..], rest].concat(), 75)
     };
     let closed = patch(37, -4);
-    let broken = [patch(31, 4), patch(43, MISSING)].concat();
+    let broken = [patch(31, 4), patch(43, NARROW_MISSING)].concat();
     let fewer: Vec<u8> = [32, 33, 36, 38, 41].into_iter().flat_map(|voxel| patch(voxel, 7)).collect();
     let again = [&closed[..], &patch(37, 4)].concat();
     let far = patch(37, 32767);
@@ -180,8 +180,8 @@ fn in_file_order() -> String {
         to(&[14], &[4, 3]),
         to(&[14], &[3, 4, 3]),
         to(&[14], &[7, 6]),
-        to(&[14], &[MISSING, 5]),
-        to(&[14], &[5, MISSING]),
+        to(&[14], &[NARROW_MISSING, 5]),
+        to(&[14], &[5, NARROW_MISSING]),
         to(&[14], &rising),
         to(&[14], &falling),
         to(&[14, 15], &rising),
@@ -194,10 +194,10 @@ fn in_file_order() -> String {
 /// Three different sides, and a patch for every voxel, the last first; then a second round over some of them.
 fn every_voxel() -> String {
     let sides = [5, 7, 6];
-    let values = (0..210).map(|i| if i == 87 { -3 } else { 3 + (i % 7) as i16 }).collect();
+    let values = (0..210).map(|i| if i == 87 { -3 } else { 3 + i % 7 }).collect();
     let layers = file_of(&Grid { sides, allowed: 1, values }, &[0, 1, 2, 3, 4, 5]);
     let round: Vec<u8> = (0..210).rev().flat_map(|i| patch(i, 301 * (i as i16 % 100))).collect();
-    let again: Vec<u8> = (0..210).step_by(4).flat_map(|i| patch(i, [MISSING, 1, 2][i as usize % 3])).collect();
+    let again: Vec<u8> = (0..210).step_by(4).flat_map(|i| patch(i, [NARROW_MISSING, 1, 2][i as usize % 3])).collect();
     let one_each = [patch(17, 9), patch(52, -5), patch(87, -5), patch(122, -5), patch(157, -5), patch(192, 9)].concat();
     let all = [&round[..], &again, &one_each].concat();
     let rests = [&one_each, &round, &[&round[..], &again].concat(), &all, &patch(210, 1), &patch(209, 1)];
@@ -231,7 +231,7 @@ fn read_then_begin() -> String {
     let go_on =
         format!("dist len {VOXELS}\nstatus len {VOXELS}\nbegin\ncarve 4294967295\nfinish\ncrossing 17 0\ncrossing 18 0\npoints 0 60\n");
     let steps = [
-        [patch(18, -9), patch(17, 2), patch(14, MISSING)].concat(),
+        [patch(18, -9), patch(17, 2), patch(14, NARROW_MISSING)].concat(),
         vec![0x56, 0x50, 17],
         vec![0, 0, 0, 0xFE, 0xFF],
         patch(N, 1),
@@ -245,7 +245,7 @@ fn read_then_begin() -> String {
 fn written() -> String {
     let values = (0..48).map(|i| 100 * i - 2400).collect();
     let layers = file_of(&Grid { sides: [4, 3, 4], allowed: 770, values }, &[0, 1, 2, 3]);
-    let all = [patch(0, 1), patch(47, MISSING), [patch(17, 5), patch(30, -32767), patch(17, -5)].concat(), many(60, 48)];
+    let all = [patch(0, 1), patch(47, NARROW_MISSING), [patch(17, 5), patch(30, -32767), patch(17, -5)].concat(), many(60, 48)];
     let length = layers.len();
     let each = all.map(|patches| {
         let more = patches.len() + length;
@@ -273,7 +273,7 @@ impl Maker {
     /// A patch for a grid of n voxels, seldom one that is refused.
     fn patch(&mut self, n: u64) -> Vec<u8> {
         let index = if self.r.chance(92) { self.r.below(n.max(1)) } else { self.r.pick(&[n, n + 1, 65536, 1 << 24, u32::MAX.into()]) };
-        let value = self.r.pick(&[6, 6, 6, 1, 0, 32767, -6, -1, -32767, MISSING]);
+        let value = self.r.pick(&[6, 6, 6, 1, 0, 32767, -6, -1, -32767, NARROW_MISSING]);
         let mut record = patch(index as u32, value);
         if self.r.chance(4) {
             record.truncate(self.r.between(1, 7) as usize);
@@ -295,7 +295,7 @@ impl Maker {
             let record = self.patch(n);
             self.say(format!("append {}\nvalues fill 77\nread\nprogram", hex(&record)));
             if sides.fit() && self.r.chance(30) {
-                self.write(&sides);
+                self.write(&sides, NARROW);
                 self.say("showfile\nread");
             }
         }

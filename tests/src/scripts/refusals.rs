@@ -128,7 +128,7 @@ fn begin() -> Subject<'static> {
         state("3", "values set 12 -1\n"),
         state("3", "values set 62 -32767\n"),
         state("4", "values fill 4\n"),
-        state("4", "values fill -32768\n"),
+        state("4", "values fill -2147483648\n"),
     ];
     Subject { call: "begin", index: "", axis: "", state: RING.to_string(), faults: faults.to_vec() }
 }

@@ -1,9 +1,10 @@
 //! Grids on which begin's steps and the carving machine's choices can go wrong one at a time; and grids of the greatest sides.
 
-/// What the grid is for, its sides, the value everywhere, and the voxels that differ.
-type Shape = (&'static str, [usize; 3], i16, &'static [([usize; 3], i16)]);
+use crate::records::{written_length, GREATEST, LEAST, MISSING, WIDE};
+use reference::grid::Sides;
 
-const MISSING: i16 = -32768;
+/// What the grid is for, its sides, the value everywhere, and the voxels that differ.
+type Shape = (&'static str, [usize; 3], i32, &'static [([usize; 3], i32)]);
 
 const SHAPES: &[Shape] = &[
     ("M is at least 1: zeros beside S", [5, 5, 5], 0, &[([2, 2, 2], -5)]),
@@ -113,8 +114,8 @@ const SHAPES: &[Shape] = &[
     ),
 ];
 
-fn listed(values: &[i16]) -> String {
-    values.iter().map(i16::to_string).collect::<Vec<_>>().join(" ")
+fn listed(values: &[i32]) -> String {
+    values.iter().map(i32::to_string).collect::<Vec<_>>().join(" ")
 }
 
 /// One examination at a time for a while, then turns of carving and opening to the end, with every byte of the buffers on the way.
@@ -135,20 +136,40 @@ fn script(shape: &Shape) -> String {
 /// whole list would be long.
 fn greatest() -> String {
     let mut text = "# 64 voxels a side\nsides 64 64 64\nT 2\nvalues fill 30000\n".to_string();
-    let mut set = |x: usize, y: usize, z: usize, value: i16| text += &format!("values set {} {value}\n", x + 64 * (y + 64 * z));
+    let mut set = |x: usize, y: usize, z: usize, value: i32| text += &format!("values set {} {value}\n", x + 64 * (y + 64 * z));
     for k in 1..=62 {
         for (x, y) in [(k, 1), (k, 62), (1, k), (62, k)] {
             set(x, y, 32, -7);
         }
     }
     for k in 2..=61 {
-        set(k, 31, 32 + (k - 1).min(62 - k).min(9), -5 - k as i16);
+        set(k, 31, 32 + (k - 1).min(62 - k).min(9), -5 - k as i32);
     }
     set(30, 30, 30, -1);
     set(62, 62, 62, MISSING);
     text + "begin\ncarve 5\ntake 168001\ncarve 65536\nopen\ntake 0\ncarve 4294967295\nopen\ncarve 4294967295\nopen\nfinish\ncrossing 131138 0\n\
             crossing 131137 0\ncrossing 127041 2\ncrossing 262143 2\ncrossing 262144 0\n\
             points 0 120000\npoints 393413 30\npoints 393420 3001\npoints 786431 3\npoints 786432 3\npoints 786433 3\n"
+}
+
+/// The greatest worked distances that begin leaves, its points, whose p + q is over 31 bits, and the longest file that is written, of 1,048,775 bytes.
+fn greatest_values() -> String {
+    let voxel = |x: usize, y: usize, z: usize| x + 64 * (y + 64 * z);
+    let mut text = format!("# 64 voxels a side, with the greatest values\nsides 64 64 64\nT 2\nvalues fill {GREATEST}\n");
+    for k in 1..=62 {
+        text += &format!("values set {} {LEAST}\nvalues set {} -{}\n", voxel(k, 1, 1), voxel(1, k, 2), 16_000_000 * k);
+    }
+    let length = written_length(&Sides { a: 64, b: 64, c: 64 }, WIDE);
+    text + &format!(
+        "values set {} {MISSING}\nbegin\ncarve 5\ncarve 4294967295\nopen\ncarve 4294967295\nfinish\ncrossing {} 0\ncrossing {} 1\ncrossing 0 0\n\
+         points 0 3000\nwrite {}\nwrite {length}\nreadlayer {}\nvalues fill 0\nread\nwrite {}\nprogram\n",
+        voxel(63, 63, 63),
+        voxel(62, 1, 1),
+        voxel(1, 62, 2),
+        length - 1,
+        length - (3 + 4 * 64 * 64),
+        length + 5,
+    )
 }
 
 /// A row along each axis of the longest grids that are not cubes.
@@ -158,7 +179,7 @@ fn long(sides: [usize; 3]) -> String {
     let length = a.max(b).max(c) - 2;
     for k in 0..length {
         let [x, y, z] = [a, b, c].map(|side| 1 + (k * (side - 2)) / length);
-        text += &format!("values set {} {}\n", x + a * (y + b * z), -1 - (k % 11) as i16);
+        text += &format!("values set {} {}\n", x + a * (y + b * z), -1 - (k % 11) as i32);
     }
     text + "begin\ncarve 1\ncarve 7\ncarve 4294967295\nopen\ncarve 4294967295\nopen\ncarve 70000\nfinish\npoints 0 3000\npoints 500 20\n"
 }
@@ -189,6 +210,6 @@ pub fn scripts() -> Vec<String> {
     let mut scripts: Vec<String> = SHAPES.iter().map(script).collect();
     scripts.extend(OPENINGS.iter().map(opening));
     scripts.extend([[64, 3, 5], [3, 64, 5], [5, 3, 64], [64, 33, 4], [4, 31, 64]].map(long));
-    scripts.push(greatest());
+    scripts.extend([greatest(), greatest_values()]);
     scripts
 }

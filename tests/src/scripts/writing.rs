@@ -3,33 +3,33 @@
 
 use super::refusals::{at, state, Subject};
 use super::Maker;
-use crate::faults::written_length;
 use crate::files::{file_of, hex, mostly_rising, shuffled};
 use crate::grids::{grid, Grid};
+use crate::records::{widened, written_length, MISSING, NARROW};
 use reference::grid::Sides;
 
 /// Values of both signs, no two of them the same.
-fn varied(n: usize) -> Vec<i16> {
-    (0..n).map(|i| (i * 2731 + 4660) as u16 as i16).collect()
+pub(super) fn varied(n: usize) -> Vec<i32> {
+    (0..n).map(|i| widened((i * 2731 + 4660) as u16 as i16)).collect()
 }
 
-fn listed(values: &[i16]) -> String {
-    let words: Vec<String> = values.iter().map(i16::to_string).collect();
+pub(super) fn listed(values: &[i32]) -> String {
+    let words: Vec<String> = values.iter().map(i32::to_string).collect();
     format!("values list {}\n", words.join(" "))
 }
 
 /// Fresh buffers of these sides, with T and values.
-fn given([a, b, c]: [usize; 3], t: u16, values: &[i16]) -> String {
+pub(super) fn given([a, b, c]: [usize; 3], t: u16, values: &[i32]) -> String {
     format!("sides {a} {b} {c}\nT {t}\n{}", listed(values))
 }
 
 fn length(sides: [usize; 3]) -> usize {
     let [a, b, c] = sides.map(|side| side as u64);
-    written_length(&Sides { a, b, c }) as usize
+    written_length(&Sides { a, b, c }, NARROW) as usize
 }
 
 /// What was written is read again, where nothing is as the file has it.
-fn read_again(sides: [usize; 3]) -> String {
+pub(super) fn read_again(sides: [usize; 3]) -> String {
     let n: usize = sides.iter().product();
     format!("rawsides 65 65 65\nT 9\nvalues list\nvalues len {n}\nread\n")
 }
@@ -131,15 +131,15 @@ fn ends_of_t() -> String {
 }
 
 /// The ends of the values and of their bytes; and the files' own marks.
-const ENDS: [i16; 27] = [
-    -32768, -32767, -32766, -257, -256, -255, -129, -128, -127, -2, -1, 0, 1, 2, 127, 128, 129, 255, 256, 257, 258, 18518, 19542, 22092,
+const ENDS: [i32; 27] = [
+    MISSING, -32767, -32766, -257, -256, -255, -129, -128, -127, -2, -1, 0, 1, 2, 127, 128, 129, 255, 256, 257, 258, 18518, 19542, 22092,
     32512, 32766, 32767,
 ];
 
 /// Any value is written, also where begin or the program refuses the grid.
 fn ends_of_values() -> String {
     let each =
-        [-32768, -32767, -1, 0, 1, 32767].map(|v| format!("values fill {v}\nwrite 70\nshowfile\nbegin\nvalues fill 5\nread\nprogram\n"));
+        [MISSING, -32767, -1, 0, 1, 32767].map(|v| format!("values fill {v}\nwrite 70\nshowfile\nbegin\nvalues fill 5\nread\nprogram\n"));
     let again = read_again([3, 3, 3]);
     format!("# values at their ends\n{}write 70\nshowfile\n{again}dump values\nbegin\n{}", given([3, 3, 3], 1, &ENDS), each.concat())
 }
@@ -186,8 +186,8 @@ pub fn scripts() -> Vec<String> {
 
 impl Maker {
     /// A write of a grid of these sides into a buffer of some length.
-    pub(super) fn write(&mut self, sides: &Sides) {
-        let length = written_length(sides) as u64;
+    pub(super) fn write(&mut self, sides: &Sides, width: usize) {
+        let length = written_length(sides, width) as u64;
         let lent = match self.r.below(10) {
             0..=4 => length,
             5 => length + 1,
@@ -213,7 +213,7 @@ impl Maker {
             let len = self.r.pick(&[0, n - 1, n + 1, 2 * n]);
             self.say(format!("values len {len}"));
         }
-        self.write(sides);
+        self.write(sides, NARROW);
         self.say(format!("rawsides {a} {b} {c}\nvalues len {n}"));
     }
 
@@ -230,7 +230,7 @@ impl Maker {
     pub(super) fn writes(&mut self, seed: u64, greatest: i64) {
         let mut g = grid(&mut self.r, greatest);
         if self.r.chance(30) {
-            g.values.iter_mut().for_each(|v| *v = self.r.word() as i16);
+            g.values.iter_mut().for_each(|v| *v = widened(self.r.word() as i16));
         }
         let [a, b, c] = g.sides.map(|s| s as u64);
         let sides = Sides { a, b, c };
@@ -246,7 +246,7 @@ impl Maker {
         self.say("begin");
         for _ in 0..self.r.between(6, 15) {
             match self.r.below(10) {
-                0..=3 => self.write(&sides),
+                0..=3 => self.write(&sides, NARROW),
                 4 | 5 => self.write_refused(&sides),
                 6 => self.read_written(&sides),
                 7 => {
@@ -260,7 +260,7 @@ impl Maker {
                 }
             }
         }
-        self.say(format!("write {}", written_length(&sides)));
+        self.say(format!("write {}", written_length(&sides, NARROW)));
         self.read_written(&sides);
     }
 }
