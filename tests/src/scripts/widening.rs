@@ -8,7 +8,9 @@ use super::writing::{given as set, read_again, varied};
 use super::Maker;
 use crate::files::{file_of_both_widths, file_of_widths, hex, layer, patch};
 use crate::grids::{stretched, Grid};
+use crate::random::Random;
 use crate::records::{parts, written_length, written_width, GREATEST, LEAST, MISSING, NARROW, NARROW_MISSING, OUT_OF_RANGE, WIDE};
+use reference::file::program_line;
 use reference::grid::Sides;
 
 /// The values of a layer, 4 by 3.
@@ -612,6 +614,20 @@ fn bodies() -> String {
     text
 }
 
+/// The first seeds whose grid gives the program another line where its values are clipped to what two bytes hold: carving goes by how far beyond they
+/// are.
+fn beyond_16_bits() -> String {
+    let line = |g: &Grid| program_line(&file(g, &vec![WIDE; g.sides[2]]));
+    let clipped = |g: &Grid| {
+        let clip = |&value: &i32| if value == MISSING { value } else { value.clamp(-32_767, 32_767) };
+        Grid { sides: g.sides, allowed: g.allowed, values: g.values.iter().map(clip).collect() }
+    };
+    let told_apart = |g: &Grid| line(g).starts_with("kept") && line(g) != line(&clipped(g));
+    let grids = (1..).map(|seed| stretched(&mut Random::new(seed), 7)).filter(told_apart).take(4);
+    let each = grids.map(|g| given(&file(&g, &vec![WIDE; g.sides[2]])) + &given(&file(&clipped(&g), &vec![NARROW; g.sides[2]])));
+    format!("# grids whose line is another one where values are clipped\n{}", each.collect::<String>())
+}
+
 /// Sides at the ends, with wide layers: read takes 64 and the program 24.
 fn ends_of_sides() -> String {
     let mut text = "# sides at their ends, with wide layers\n".to_string();
@@ -639,7 +655,7 @@ pub fn scripts() -> Vec<String> {
     scripts.extend([NO_NEGATIVE.to_string(), lent()]);
     scripts.extend(SHAPES.iter().map(shape));
     scripts.extend(writer().scripts());
-    scripts.extend([at_the_edge(), one_wide_layer(), missing_alone(), rewritten(), bodies(), ends_of_sides()]);
+    scripts.extend([at_the_edge(), one_wide_layer(), missing_alone(), rewritten(), bodies(), beyond_16_bits(), ends_of_sides()]);
     scripts
 }
 
