@@ -121,7 +121,7 @@ impl<'a> Body<'a> {
 
     /// Voxels that are measured negative and not of the inside.
     pub fn discarded(&self) -> usize {
-        let stray = |(&v, &k): (&i16, &Kind)| is_negative(v) && k != Kind::Inside;
+        let stray = |(&v, &k): (&i32, &Kind)| is_negative(v) && k != Kind::Inside;
         self.scan.values.iter().zip(&self.kinds).filter(|&pair| stray(pair)).count()
     }
 
@@ -147,7 +147,7 @@ fn kinds(scan: &Scan, grid: &Grid, inside: &[bool], openings: &[Opened]) -> Vec<
 
 /// The values of a grid that begin refuses.
 pub fn kinds_of_values(scan: &Scan) -> Vec<Kind> {
-    let kind = |(i, &value): (usize, &i16)| match value {
+    let kind = |(i, &value): (usize, &i32)| match value {
         MISSING => Kind::Missing,
         v if v >= 0 => Kind::Outside,
         _ if scan.on_border(i) => Kind::NegativeOnBorder,

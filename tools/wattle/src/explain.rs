@@ -3,10 +3,11 @@
 use crate::args::Args;
 use crate::body::{Body, Kind};
 use crate::carve::{program_limit, PROGRAM_BYTES, PROGRAM_SIDE};
-use crate::file::{index_of, is_negative, record_length, Records, Scan, Source, HEADER, LAYER_HEAD, PATCH, PATCH_HEAD};
+use crate::file::{index_of, is_negative, is_value, record_length, width_at};
+use crate::file::{LayerRecord, Records, Scan, Source, HEADER, PATCH, PATCH_HEAD};
 use crate::{Answer, Failure, Status};
 use std::collections::BTreeSet;
-use wattlerugby::{Refusal, Sides, MISSING};
+use wattlerugby::{read_layer, written_length, Refusal, Sides, GREATEST_VALUE, LEAST_VALUE, MISSING, NARROW, WIDE};
 
 pub fn explain(args: &Args) -> Result<Answer, Failure> {
     let source = Source::open(&args.files[0])?;
@@ -53,6 +54,7 @@ fn unreadable(source: &Source, records: &Records, refused: Refusal) -> (String, 
         // read_layer takes a layer in any place, so one that is out of its own is looked for among those that it took
         Refusal::LAYER_TWICE => twice(found, out_of_place(found)),
         Refusal::LAYER_ORDER => not_the_next(source.sides().c, found, out_of_place(found)),
+        Refusal::VALUE => out_of_range(source, found),
         _ if found.len() == source.sides().c => wrong_patch(source, patches.len(), next, refused),
         Refusal::SHORT => short(source, found.len(), next),
         Refusal::MARK => wrong_mark(source, found, next),
@@ -67,7 +69,16 @@ fn hex(bytes: &[u8]) -> String {
 
 fn due_length(sides: Sides) -> String {
     let Sides { a, b, c } = sides;
-    format!("with sides {a} x {b} x {c} header and layers have {} bytes", HEADER + c * record_length(sides))
+    let [narrow, wide] = [NARROW, WIDE].map(|width| written_length(sides, width).unwrap_or(0));
+    format!("with sides {a} x {b} x {c} header and layers have {narrow} bytes, {wide} where all layers are wide")
+}
+
+/// What a record's width is, in words.
+fn width_told(width: u8) -> &'static str {
+    match width {
+        WIDE => "wide, four bytes a value",
+        _ => "narrow, two bytes a value",
+    }
 }
 
 fn wrong_sides(sides: Sides) -> String {
@@ -79,24 +90,28 @@ fn wrong_sides(sides: Sides) -> String {
 
 fn short(source: &Source, found: usize, next: usize) -> (String, String) {
     let (sides, left) = (source.sides(), source.bytes.len() - next);
+    let width = width_at(&source.bytes, next);
     let place = format!(
-        "layer record {} of {} begins at byte {next} and has {} bytes, but {left} are left. The file has {} bytes; {}.",
+        "layer record {} of {} begins at byte {next} and has {} bytes ({}), but {left} are left. The file has {} bytes; {}.",
         found + 1,
         sides.c,
-        record_length(sides),
+        record_length(sides, width),
+        width_told(width),
         source.bytes.len(),
         due_length(sides)
     );
     (place, "write the file again, whole; or see whether the sides, bytes 2 to 4, are right.".to_string())
 }
 
-fn wrong_mark(source: &Source, found: &[(usize, u8)], next: usize) -> (String, String) {
+fn wrong_mark(source: &Source, found: &[LayerRecord], next: usize) -> (String, String) {
     let mark = hex(&source.bytes[next..next + 2]);
     let before = match found.last() {
-        Some((start, z)) => format!("the record before it, layer z = {z} from byte {start}, may have a wrong length"),
+        Some(LayerRecord { start, z, width, .. }) => {
+            format!("the record before it, layer z = {z} from byte {start}, {}, may have a wrong length", width_told(*width))
+        }
         None => "it is the first after the header".to_string(),
     };
-    let place = format!("layer record {} begins at byte {next} with {mark}, and 56 4C hex is due; {before}.", found.len() + 1);
+    let place = format!("layer record {} begins at byte {next} with {mark}, and 56 4C or 56 57 hex is due; {before}.", found.len() + 1);
     (place, "see that each record has its mark, its z, and as many values as the first two sides say.".to_string())
 }
 
@@ -108,27 +123,27 @@ fn wrong_layer(source: &Source, found: usize, next: usize) -> (String, String) {
 }
 
 /// The first record whose z is not its place in the file.
-fn out_of_place(found: &[(usize, u8)]) -> usize {
-    let wrong = (0..found.len()).find(|&place| usize::from(found[place].1) != place);
+fn out_of_place(found: &[LayerRecord]) -> usize {
+    let wrong = (0..found.len()).find(|&place| usize::from(found[place].z) != place);
     wrong.expect("a layer is out of its place where read refuses it for that")
 }
 
-fn twice(found: &[(usize, u8)], second: usize) -> (String, String) {
-    let (start, z) = found[second];
-    let (first, _) = found[usize::from(z)];
+fn twice(found: &[LayerRecord], second: usize) -> (String, String) {
+    let LayerRecord { start, z, .. } = found[second];
+    let first = found[usize::from(z)].start;
     let place = format!("layer z = {z} comes in the record from byte {first} and again in the one from byte {start}, byte {}.", start + 2);
     (place, "number the layers 0 to c - 1, each once, in that order.".to_string())
 }
 
 /// Only a file with every layer in it, each once, can be sorted.
-fn not_the_next(c: usize, found: &[(usize, u8)], wrong: usize) -> (String, String) {
-    let (start, z) = found[wrong];
+fn not_the_next(c: usize, found: &[LayerRecord], wrong: usize) -> (String, String) {
+    let LayerRecord { start, z, .. } = found[wrong];
     let place = format!(
         "layer record {} of {c}, from byte {start}: byte {} says z = {z}, and z = {wrong} is due, as layers come from 0 up and none is skipped.",
         wrong + 1,
         start + 2
     );
-    let different: BTreeSet<u8> = found.iter().map(|(_, z)| *z).collect();
+    let different: BTreeSet<u8> = found.iter().map(|layer| layer.z).collect();
     let advice = match different.len() == c {
         true => "each layer is there once: `wattle rewrite --sort` puts them in order.".to_string(),
         false => {
@@ -136,6 +151,34 @@ fn not_the_next(c: usize, found: &[(usize, u8)], wrong: usize) -> (String, Strin
         }
     };
     (place, advice)
+}
+
+/// The first value that is neither in range nor the missing mark: read refuses its record, and those before it are in order.
+fn out_of_range(source: &Source, found: &[LayerRecord]) -> (String, String) {
+    let Sides { a, b, c } = source.sides();
+    let values =
+        |layer: &LayerRecord| read_layer(source.sides(), &source.bytes, layer.start).map(|layer| layer.values().collect::<Vec<_>>());
+    let wrong = |layer: &LayerRecord| {
+        let values = values(layer).unwrap_or_default();
+        let places: Vec<usize> = (0..values.len()).filter(|&place| !is_value(values[place])).collect();
+        places.first().map(|&first| (first, values[first], places.len()))
+    };
+    let (number, (place, value, count)) = (0..found.len())
+        .find_map(|number| Some((number, wrong(&found[number])?)))
+        .expect("a value is out of range where read refuses it for that");
+    let LayerRecord { start, z, width, .. } = found[number];
+    let (first, index) = (found[number].byte_of(place), place + a * b * usize::from(z));
+    let others = if count == 1 { String::new() } else { format!(", the first of {count} such values there") };
+    let place = format!(
+        "layer record {} of {c}, z = {z}, from byte {start}, is {}: voxel ({}, {}, {z}), index {index}, has {value} in bytes {first} to {}{others}; \
+         a measured value is {LEAST_VALUE} to {GREATEST_VALUE}, and {MISSING} is a missing range point.",
+        number + 1,
+        width_told(width),
+        place % a,
+        place / a,
+        first + usize::from(width) - 1,
+    );
+    (place, "write that layer again with the value in range, or missing. A patch does not mend it.".to_string())
 }
 
 /// What follows the last layer is wrong after so many good patches.
@@ -184,8 +227,7 @@ fn value_at(scan: &Scan, records: &Records, index: usize) -> String {
         return format!("{told}: byte {}, in patch record {}", records.patches[last].0 + PATCH_HEAD, last + 1);
     }
     let [.., z] = scan.place(index);
-    let (record, _) = records.layers[z];
-    format!("{told}: byte {}, in layer z = {z}", record + LAYER_HEAD + 2 * (index % (scan.sides.a * scan.sides.b)))
+    format!("{told}: byte {}, in layer z = {z}", records.layers[z].byte_of(index % (scan.sides.a * scan.sides.b)))
 }
 
 fn on_the_edge(scan: &Scan, records: &Records) -> (String, String) {
@@ -223,10 +265,20 @@ fn nothing_negative(scan: &Scan, records: &Records) -> (String, String) {
 fn taken(body: &Body, records: &Records, limit: Option<Refusal>) -> String {
     let scan = body.scan;
     let mut text = format!("{} is taken: {} voxels, T = {}.\n{}\n", scan.name, scan.size(), scan.allowed, body.line());
-    for sentence in meaning(body).into_iter().chain(patched(records)).chain(limit.map(of_the_program)) {
+    for sentence in meaning(body).into_iter().chain(wide(records)).chain(patched(records)).chain(limit.map(of_the_program)) {
         text += &format!("- {sentence}\n");
     }
     text
+}
+
+/// How many layers have four bytes a value, where any has.
+fn wide(records: &Records) -> Option<String> {
+    let (all, wide) = (records.layers.len(), records.layers.iter().filter(|layer| layer.width == WIDE).count());
+    match wide {
+        0 => None,
+        _ if wide == all => Some("The layers have four bytes a value.".to_string()),
+        _ => Some(format!("{wide} of {all} layers have four bytes a value, the others two.")),
+    }
 }
 
 /// How many patches the file has, and to how many voxels.

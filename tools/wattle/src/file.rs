@@ -3,7 +3,7 @@
 use crate::{Failure, Status};
 use std::io::Read;
 use std::path::Path;
-use wattlerugby::{read, read_layer, Refusal, Sides, LONGEST_FILE, MISSING};
+use wattlerugby::{read, read_layer, Refusal, Sides, GREATEST_VALUE, LEAST_VALUE, LONGEST_FILE, MISSING, NARROW, WIDE};
 
 /// Bytes of the header, of a layer record before its values, and of a patch record: in all, and before its value.
 pub const HEADER: usize = 7;
@@ -17,10 +17,25 @@ pub struct Source {
     pub bytes: Vec<u8>,
 }
 
+/// A layer's record: its first byte, its z, the bytes a value, and the byte after its last.
+#[derive(Clone, Copy)]
+pub struct LayerRecord {
+    pub start: usize,
+    pub z: u8,
+    pub width: u8,
+    pub end: usize,
+}
+
+impl LayerRecord {
+    /// The byte where a value of the layer begins, by its place there.
+    pub fn byte_of(&self, place: usize) -> usize {
+        self.start + LAYER_HEAD + usize::from(self.width) * place
+    }
+}
+
 /// Where a file's records begin, up to the first that is refused.
 pub struct Records {
-    /// Each layer's first byte, and its z.
-    pub layers: Vec<(usize, u8)>,
+    pub layers: Vec<LayerRecord>,
     /// Each patch's first byte, and its voxel's index.
     pub patches: Vec<(usize, usize)>,
     /// The byte after the last of them.
@@ -34,7 +49,7 @@ pub struct Scan {
     pub sides: Sides,
     /// T, how many openings are allowed.
     pub allowed: u16,
-    pub values: Vec<i16>,
+    pub values: Vec<i32>,
 }
 
 impl Source {
@@ -72,7 +87,7 @@ impl Source {
 
     pub fn records(&self) -> Records {
         let (sides, layers, mut patches) = (self.sides(), layers_of(&self.bytes), Vec::new());
-        let mut next = HEADER + layers.len() * record_length(sides);
+        let mut next = layers.last().map_or(HEADER, |last| last.end);
         while let Some(index) = self.patch_at(next).filter(|_| layers.len() == sides.c) {
             patches.push((next, index));
             next += PATCH;
@@ -99,33 +114,41 @@ fn sides_of(bytes: &[u8]) -> Sides {
     Sides { a: side(2), b: side(3), c: side(4) }
 }
 
-/// How long a layer's record is.
-pub fn record_length(sides: Sides) -> usize {
-    LAYER_HEAD + 2 * sides.a * sides.b
+/// How long a layer's record of this width is.
+pub fn record_length(sides: Sides, width: u8) -> usize {
+    LAYER_HEAD + usize::from(width) * sides.a * sides.b
 }
 
-/// Each layer's first byte and its z, whatever their order, up to the first record that is none.
-fn layers_of(bytes: &[u8]) -> Vec<(usize, u8)> {
-    let sides = sides_of(bytes);
-    let starts = (0..sides.c).map(|record| HEADER + record * record_length(sides));
-    starts.map_while(|start| read_layer(sides, bytes, start).ok().map(|layer| (start, layer.z))).collect()
+/// The bytes a value of the layer record that begins at a byte, by its mark, whole or not.
+pub fn width_at(bytes: &[u8], start: usize) -> u8 {
+    match bytes.get(start..).is_some_and(|left| left.starts_with(b"VW")) {
+        true => WIDE,
+        false => NARROW,
+    }
+}
+
+/// The layers' records, whatever their order, up to the first that is none.
+fn layers_of(bytes: &[u8]) -> Vec<LayerRecord> {
+    let (sides, mut start, mut found) = (sides_of(bytes), HEADER, Vec::new());
+    while let Some(layer) = read_layer(sides, bytes, start).ok().filter(|_| found.len() < sides.c) {
+        found.push(LayerRecord { start, z: layer.z, width: layer.width, end: layer.end() });
+        start = layer.end();
+    }
+    found
 }
 
 /// The file with its layer records in rising z. Nothing where not all layers are there, or one of them is there twice.
 fn sorted(bytes: &[u8]) -> Option<Vec<u8>> {
     let (sides, mut layers) = (sides_of(bytes), layers_of(bytes));
-    layers.sort_by_key(|(_, z)| *z);
-    let each_once = layers.len() == sides.c && layers.iter().enumerate().all(|(place, (_, z))| usize::from(*z) == place);
-    if layers.is_empty() || !each_once {
-        return None;
-    }
-    let length = record_length(sides);
-    let records: Vec<&[u8]> = layers.iter().map(|&(start, _)| &bytes[start..start + length]).collect();
-    Some([&bytes[..HEADER], &records.concat(), &bytes[HEADER + sides.c * length..]].concat())
+    let end = layers.last()?.end;
+    layers.sort_by_key(|layer| layer.z);
+    let each_once = layers.len() == sides.c && layers.iter().enumerate().all(|(place, layer)| usize::from(layer.z) == place);
+    let records: Vec<&[u8]> = layers.iter().map(|layer| &bytes[layer.start..layer.end]).collect();
+    each_once.then(|| [&bytes[..HEADER], &records.concat(), &bytes[end..]].concat())
 }
 
 /// What read makes of a file: sides, T and values.
-fn values_of(bytes: &[u8]) -> Result<(Sides, u16, Vec<i16>), Refusal> {
+fn values_of(bytes: &[u8]) -> Result<(Sides, u16, Vec<i32>), Refusal> {
     let mut values = vec![0; sides_of(bytes).voxels().unwrap_or(0)];
     read(bytes, &mut values).map(|(sides, allowed)| (sides, allowed, values))
 }
@@ -185,8 +208,13 @@ impl Scan {
     }
 }
 
-pub fn is_negative(value: i16) -> bool {
+pub fn is_negative(value: i32) -> bool {
     value < 0 && value != MISSING
+}
+
+/// Whether a value is measured or the missing mark: what else it may be is refused with 28.
+pub fn is_value(value: i32) -> bool {
+    value == MISSING || (LEAST_VALUE..=GREATEST_VALUE).contains(&value)
 }
 
 /// The line for a grid that a command cannot work on.

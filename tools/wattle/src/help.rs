@@ -58,7 +58,7 @@ The carved grid as a volume, for ParaView, 3D Slicer and others, a voxel a sampl
 
   --vtk          legacy VTK, with all fields unless one is named (the default)
   --nrrd         NRRD, which holds one field: `distances` unless another is named
-  --field FIELD  values      as measured, -32768 where the range point is missing
+  --field FIELD  values      as measured, -2147483648 where the range point is missing
                  distances   worked distances, negative in the body: its surface is the level 0
                  status      0 gone, 1 kept
                  kinds       0 gone, 1 inside, 2 filled, 3 filled over a missing range point, 4 opened
@@ -93,9 +93,9 @@ One HTML page that opens in any browser without a network: layers to scroll thro
         options: &["--sort"],
         help: "wattle rewrite FILE [--sort] [-o OUT]
 
-The same grid as a file in its written form: layers in rising z and no patches; what patches correct goes into the layers. Sides, T and
-values stay as they are. A grid has one written form, so files of the same grid become the same bytes. What carving makes of the grid
-is not asked.
+The same grid as a file in its written form: layers in rising z and no patches; what patches correct goes into the layers. These have
+two bytes a value where every measured value lies in -32767 to 32767, otherwise four, all of them. Sides, T and values stay as they are.
+A grid has one written form, so files of the same grid become the same bytes. What carving makes of the grid is not asked.
 
   --sort   take a file with its layers in any order too, where each is there once: they are put in rising z before the file is read.
            Up to version 0.4 such files were read as they are
@@ -111,7 +111,8 @@ The file with single voxels corrected: its own bytes, and after them a patch rec
 to a voxel the later one stands. FILE stays as it is. `wattle rewrite` puts patches into the layers.
 
   --set VOXEL=VALUE   VOXEL is X,Y,Z or an index, x + a (y + b z) with sides a, b, c
-                      VALUE is -32767 to 32767, negative inside the body, or `missing`, which is -32768
+                      VALUE is -32767 to 32767, negative inside the body, or `missing`: a patch has two bytes for it, also behind
+                      layers with four bytes a value
 
     wattle patch scan.grid --set 5,6,7=-12 --set 5,6,8=missing -o mended.grid
 ",

@@ -3,7 +3,7 @@
 use crate::args::Args;
 use crate::file::{Scan, Source};
 use crate::{Answer, Failure};
-use wattlerugby::{Sides, MISSING};
+use wattlerugby::{Sides, NARROW_MISSING};
 
 pub fn patch(args: &Args) -> Result<Answer, Failure> {
     if !args.has("--set") {
@@ -36,9 +36,13 @@ fn index(scan: &Scan, voxel: &str) -> Result<u32, Failure> {
     index.map(|index| index as u32).ok_or_else(|| Failure::unusable(beyond()))
 }
 
+/// What a patch has two bytes for. The number -32768 is not taken: in two bytes it is the mark of a missing point, which has its own word.
 fn number(value: &str) -> Result<i16, Failure> {
     match value {
-        "missing" => Ok(MISSING),
-        _ => value.parse().map_err(|_| unlike("a value from -32767 to 32767, or `missing`", value)),
+        "missing" => Ok(NARROW_MISSING),
+        _ => {
+            let number = value.parse().ok().filter(|&number| number != NARROW_MISSING);
+            number.ok_or_else(|| unlike("a value from -32767 to 32767, or `missing`", value))
+        }
     }
 }

@@ -36,9 +36,9 @@ fn field(body: &Body, name: &str) -> Field {
     match name {
         "values" => Field {
             name: "values",
-            vtk: "short",
-            nrrd: "short",
-            width: 2,
+            vtk: "int",
+            nrrd: "int",
+            width: 4,
             bytes: body.scan.values.iter().flat_map(|v| v.to_le_bytes()).collect(),
         },
         "distances" => Field {

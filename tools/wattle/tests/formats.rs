@@ -5,12 +5,13 @@ mod common;
 use common::{answer, carved, left_out, path, samples, text, Carved, COLOURS};
 use std::path::{Path, PathBuf};
 use std::process::Command;
-use wattlerugby::Sides;
+use wattlerugby::{Sides, GREATEST_VALUE, LEAST_VALUE, MISSING};
 
-/// The samples that are carved, with what the library makes of them, and a large flat grid with missing points and openings.
+/// The samples that are carved, with what the library makes of them, a large flat grid with missing points and openings, and one with values up to
+/// the ends of their range.
 fn bodies(folder: &Path) -> Vec<(PathBuf, Carved)> {
     let mut files: Vec<PathBuf> = samples();
-    files.push(flat(folder));
+    files.extend([flat(folder), far(folder)]);
     let carved = |file: PathBuf| carved(&std::fs::read(&file).unwrap()).ok().map(|body| (file, body));
     files.into_iter().filter_map(carved).collect()
 }
@@ -24,6 +25,22 @@ fn flat(folder: &Path) -> PathBuf {
         _ => 9,
     });
     let name = folder.join("flat.grid");
+    std::fs::write(&name, file).unwrap();
+    name
+}
+
+/// 9 x 8 x 7 voxels with layers of both widths and values from the least to the greatest, the old mark of a missing point among them.
+fn far(folder: &Path) -> PathBuf {
+    let file = common::wide_file([9, 8, 7], 1, &[2, 3, 5], |x, y, z| match (x, y, z) {
+        (2, 2, 2) => LEAST_VALUE,
+        (3, 2, 2) => -32_768,
+        (4, 4, 3) | (8, 7, 5) => MISSING,
+        (1..=7, 2..=5, 2 | 3) => -10_000_000 * (x + y) as i32,
+        (1..=7, 2..=5, 4) => -20,
+        (_, _, 2 | 3 | 5) => GREATEST_VALUE - (x + y) as i32,
+        _ => 900,
+    });
+    let name = folder.join("far.grid");
     std::fs::write(&name, file).unwrap();
     name
 }
@@ -209,7 +226,6 @@ fn fields(body: &Carved) -> Vec<(&'static str, Vec<i64>)> {
 /// Samples of so many bytes each, with or without a sign, low byte first or high byte first.
 fn samples_in(bytes: &[u8], kind: &str, low_first: bool) -> Vec<i64> {
     let (width, signed) = match kind {
-        "short" => (2, true),
         "int" => (4, true),
         "uchar" | "unsigned_char" => (1, false),
         other => panic!("no type {other}"),
@@ -275,7 +291,7 @@ fn parse_vtk(file: &[u8]) -> (Sides, Vec<Field>) {
         let words: Vec<&str> = take_line(&mut rest).split(' ').collect();
         assert_eq!((words.len(), words[0], words[3]), (4, "SCALARS", "1"));
         assert_eq!(take_line(&mut rest), "LOOKUP_TABLE default");
-        let length = count * ["unsigned_char", "short", "", "int"].iter().position(|k| *k == words[2]).expect("a type").saturating_add(1);
+        let length = count * ["unsigned_char", "", "", "int"].iter().position(|k| *k == words[2]).expect("a type").saturating_add(1);
         found.push((words[1].to_string(), samples_in(&rest[..length], words[2], false)));
         assert_eq!(rest[length], b'\n');
         rest = &rest[length + 1..];
@@ -314,7 +330,7 @@ fn vtk_has_every_field() {
             assert_eq!(sides, printed_sides(body.sides));
             assert_eq!(
                 arrays.iter().map(|(_, kind, _)| kind.as_str()).collect::<Vec<_>>(),
-                ["short", "int", "unsigned_char", "unsigned_char"]
+                ["int", "int", "unsigned_char", "unsigned_char"]
             );
             assert_eq!(arrays.into_iter().map(|(name, _, samples)| (name, samples)).collect::<Vec<_>>(), due);
         }

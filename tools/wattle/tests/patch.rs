@@ -4,7 +4,7 @@ mod common;
 
 use common::{answer, folder, path, sample, status, text, wattle, wattle_on, Seed};
 use std::path::PathBuf;
-use wattlerugby::{patch, read, Sides, MISSING};
+use wattlerugby::{patch, read, Sides, NARROW_MISSING};
 
 /// A grid file of the tests' own, in a folder, and its bytes: 4 x 3 x 5 voxels, each value its index.
 fn given(name: &str) -> (PathBuf, Vec<u8>) {
@@ -22,11 +22,10 @@ fn words<'a>(grid: &'a str, sets: &[&'a str]) -> Vec<&'a str> {
 #[test]
 fn records_go_behind_the_file() {
     let (grid, file) = given("patch");
-    let cases: [(&[&str], &[[u8; 8]]); 8] = [
+    let cases: [(&[&str], &[[u8; 8]]); 7] = [
         (&["0=9"], &[patch(0, 9)]),
         (&["3,2,4=-32767"], &[patch(59, -32767)]),
-        (&["1,2,3=missing"], &[patch(45, MISSING)]),
-        (&["45=-32768"], &[patch(45, MISSING)]),
+        (&["1,2,3=missing"], &[patch(45, NARROW_MISSING)]),
         (&["59=32767"], &[patch(59, 32767)]),
         (&["0,0,1=-1"], &[patch(12, -1)]),
         (&["5=1", "2,0,0=2", "5=3"], &[patch(5, 1), patch(2, 2), patch(5, 3)]),
@@ -62,6 +61,19 @@ fn a_patched_file_is_a_grid_file() {
     }
 }
 
+/// Behind layers with four bytes a value a patch has two all the same.
+#[test]
+fn a_wide_file_is_patched() {
+    let file = common::wide_file([4, 4, 3], 0, &[1], |x, y, z| if (x, y, z) == (2, 1, 1) { -70_000 } else { 60 });
+    let patched = wattle_on(&words("-", &["1,1,1=-32767", "2,1,1=missing"]), &file);
+    assert_eq!(patched.stdout, [&file[..], &patch(21, -32_767), &patch(22, NARROW_MISSING)].concat());
+    let told = text(&wattle_on(&["explain", "-"], &patched.stdout).stdout);
+    assert!(
+        told.contains("- 1 of 3 layers have four bytes a value, the others two.\n- 2 patches correct 2 values of the layers.\n"),
+        "{told}"
+    );
+}
+
 #[test]
 fn wrong_words_and_refused_files() {
     let (grid, file) = given("patch-refused");
@@ -81,7 +93,7 @@ fn wrong_words_and_refused_files() {
     for voxel in ["60", "4,0,0", "0,3,0", "0,0,5", "18446744073709551615", "18446744073709551615,0,0", "4294967296"] {
         one_line(&[&format!("{voxel}=5")], 2, &format!("voxel {voxel} lies beyond the grid of 4 x 3 x 5 voxels, with indices 0 to 59"));
     }
-    for value in ["", "32768", "-32769", "Missing", "1.5", "5=6", "0x10"] {
+    for value in ["", "32768", "-32768", "-32769", "1000000000", "Missing", "1.5", "5=6", "0x10"] {
         one_line(&[&format!("0={value}")], 2, "--set takes a value from -32767 to 32767, or `missing`, not");
     }
     // the first that is wrong is told, and nothing is written for those before it
@@ -95,7 +107,7 @@ fn wrong_words_and_refused_files() {
 // ---- long files
 
 /// A file that is read in several pieces, none of which ends where a record does, and the values that it says.
-fn long() -> (Vec<u8>, Vec<i16>) {
+fn long() -> (Vec<u8>, Vec<i32>) {
     let (sides, mut seed) = ([64, 64, 64], Seed(3));
     let mut file = common::grid_file(sides, 0, common::sphere(sides, 6.0));
     let mut values = vec![0; 64 * 64 * 64];
@@ -103,7 +115,7 @@ fn long() -> (Vec<u8>, Vec<i16>) {
     for _ in 0..300_000 {
         let (index, value) = (seed.below(64 * 64 * 64), seed.below(1000) as i16);
         file.extend(patch(index as u32, value));
-        values[index] = value;
+        values[index] = value.into();
     }
     (file, values)
 }
@@ -111,7 +123,7 @@ fn long() -> (Vec<u8>, Vec<i16>) {
 #[test]
 fn every_piece_of_a_long_file_is_read() {
     let (file, values) = long();
-    let wanted = common::grid_file([64, 64, 64], 0, |x, y, z| values[x + 64 * (y + 64 * z)]);
+    let wanted = common::grid_file([64, 64, 64], 0, |x, y, z| values[x + 64 * (y + 64 * z)] as i16);
     assert!(wattle_on(&["rewrite", "-"], &file).stdout == wanted, "the last patch of each voxel stands");
     let told = text(&wattle_on(&["explain", "-"], &file).stdout);
     assert!(told.contains("- 300000 patches correct "), "{told}");

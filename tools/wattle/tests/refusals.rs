@@ -5,7 +5,7 @@ mod common;
 use common::{fed, path, root, sample, status, text, wattle, wattle_on, Seed};
 use std::io::Read;
 use std::process::{Command, Stdio};
-use wattlerugby::patch;
+use wattlerugby::{patch, GREATEST_VALUE, LEAST_VALUE};
 
 fn sphere() -> Vec<u8> {
     std::fs::read(sample("sphere.grid")).unwrap()
@@ -40,13 +40,78 @@ fn explain_finds_the_byte() {
     explained(&[], 21, &["the file has 0 bytes"]);
     explained(&with(&[(0, 0x50), (1, 0x4B)]), 22, &["bytes 0 and 1 are 50 4B hex"]);
     explained(&with(&[(2, 64), (3, 2), (4, 65)]), 1, &["Where: side b, byte 3, is 2; side c, byte 4, is 65; a side is 3 to 64"]);
-    let cut = "layer record 2 of 12 begins at byte 298 and has 291 bytes, but 290 are left. The file has 588 bytes";
-    explained(&sphere()[..second + 290], 21, &[cut, "with sides 12 x 12 x 12 header and layers have 3499 bytes"]);
+    let cut =
+        "layer record 2 of 12 begins at byte 298 and has 291 bytes (narrow, two bytes a value), but 290 are left. The file has 588 bytes";
+    let due = "with sides 12 x 12 x 12 header and layers have 3499 bytes, 6955 where all layers are wide";
+    explained(&sphere()[..second + 290], 21, &[cut, due]);
     explained(&sphere()[..second], 21, &["begins at byte 298", "but 0 are left"]);
-    explained(&with(&[(second, 0x41)]), 22, &["layer record 2 begins at byte 298 with 41 4C hex", "layer z = 0 from byte 7"]);
+    explained(
+        &with(&[(second, 0x41)]),
+        22,
+        &["layer record 2 begins at byte 298 with 41 4C hex, and 56 4C or 56 57 hex is due", "layer z = 0 from byte 7, narrow"],
+    );
     explained(&with(&[(7, 0), (8, 0)]), 22, &["layer record 1 begins at byte 7 with 00 00 hex", "the first after the header"]);
     explained(&with(&[(second + 2, 12)]), 23, &["layer record 2, from byte 298: byte 300 says z = 12, and there are 12 layers"]);
     explained(&with(&[(second + 2, 0)]), 24, &["layer z = 0 comes in the record from byte 7 and again in the one from byte 298, byte 300"]);
+}
+
+/// A wide record is told by its own length, and a value out of range with its voxel and bytes.
+#[test]
+fn explain_finds_the_wide_layer() {
+    let grid = |value: i32| {
+        let at = move |x: usize, y: usize, z: usize| match (x, y, z) {
+            (2, 1, 1) => -70_000,
+            (1, 3, 1) => value,
+            _ => 60,
+        };
+        common::wide_file([4, 4, 3], 0, &[1, 2], at)
+    };
+    let (second, third) = (7 + 35, 7 + 35 + 67);
+    let bytes = second + 3 + 4 * 13;
+    for value in [GREATEST_VALUE + 1, LEAST_VALUE - 1, i32::MAX, -i32::MAX] {
+        let file = grid(value);
+        assert_eq!(i32::from_le_bytes(file[bytes..bytes + 4].try_into().unwrap()), value);
+        let place = format!("layer record 2 of 3, z = 1, from byte {second}, is wide, four bytes a value: voxel (1, 3, 1), index 29, has {value} in bytes {bytes} to {}; a measured value is", bytes + 3);
+        let advice = "What to do: write that layer again with the value in range, or missing. A patch does not mend it.\n";
+        explained(&file, 28, &[&place, "-1000000000 to 1000000000, and -2147483648 is a missing range point", advice]);
+        explained(&[&file[..], &patch(29, 6)].concat(), 28, &[&place]);
+        explained(&file[..third + 1], 28, &[&place]);
+        assert_eq!(text(&wattle_on(&["carve", "-"], &file).stdout), "refused 28\n");
+        for command in ["look", "points", "volume", "page", "rewrite"] {
+            let output = wattle_on(&[command, "-"], &file);
+            let line = "wattle: the standard input: refused 28: a value is neither in range nor the missing mark; `wattle explain` says where, and what to do\n";
+            assert_eq!((status(&output), text(&output.stderr).as_str(), output.stdout.len()), (1, line, 0), "{command}");
+        }
+    }
+    let mut more = grid(GREATEST_VALUE + 1);
+    more[third - 4..third].copy_from_slice(&i32::MAX.to_le_bytes());
+    explained(&more, 28, &["has 1000000001 in bytes", ", the first of 2 such values there; "]);
+    // cut off, and with a wrong mark behind a wide record
+    let good = grid(60);
+    let short =
+        "layer record 2 of 3 begins at byte 42 and has 67 bytes (wide, four bytes a value), but 66 are left. The file has 108 bytes";
+    explained(&good[..third - 1], 21, &[short, "header and layers have 112 bytes, 208 where all layers are wide"]);
+    explained(&good[..second + 2], 21, &["has 67 bytes (wide, four bytes a value), but 2 are left"]);
+    explained(&good[..second + 1], 21, &["has 35 bytes (narrow, two bytes a value), but 1 are left"]);
+    let mut marked = good.clone();
+    marked[third + 1] = 0x58;
+    explained(
+        &marked,
+        22,
+        &["layer record 3 begins at byte 109 with 56 58 hex", "layer z = 1 from byte 42, wide, four bytes a value, may have"],
+    );
+    // what begin refuses is told with the bytes where it stands, in either width
+    for (voxel, byte) in [((0, 0, 0), 10), ((3, 2, 1), second + 3 + 4 * 11), ((3, 3, 2), third + 3 + 4 * 15)] {
+        let edge = common::wide_file([4, 4, 3], 0, &[1, 2], |x, y, z| if (x, y, z) == voxel { -9 } else { 60 });
+        explained(&edge, 3, &[&format!("with -9: byte {byte}, in layer z = {}.", voxel.2)]);
+    }
+    let told = text(&wattle_on(&["explain", "-"], &good).stdout);
+    assert!(told.contains("- 2 of 3 layers have four bytes a value, the others two.\n"), "{told}");
+    let wide = text(
+        &wattle_on(&["explain", "-"], &common::wide_file([4, 4, 3], 0, &[0, 1, 2], |x, y, z| 60 - 130 * i32::from((x, y, z) == (1, 1, 1))))
+            .stdout,
+    );
+    assert!(wide.contains("- The layers have four bytes a value.\n"), "{wide}");
 }
 
 /// The record that is out of order, the layer found there and the one due; and whether sorting helps, which is tried.
@@ -244,9 +309,17 @@ fn the_programs_limit() {
     let (ended, told) = run(&["explain", "-"], 64);
     assert!(ended == 0 && told.contains("The program carve prints `refused 1` for it"), "{told}");
     assert!(run(&["look", "-"], 64).1.contains("z = 4"));
-    // the longest file without patches, and one byte more
+    // the longest files without patches, narrow and wide, and one byte more
     let folder = common::folder("longest");
-    let mut file = common::grid_file([64, 64, 64], 0, common::sphere([64, 64, 64], 3.0));
+    let sphere = common::sphere([64, 64, 64], 3.0);
+    let all: Vec<usize> = (0..64).collect();
+    let mut file = common::wide_file([64, 64, 64], 0, &all, |x, y, z| 100_000 * i32::from(sphere(x, y, z)));
+    assert_eq!(file.len(), wattlerugby::LONGEST_FILE);
+    assert_eq!(text(&wattle_on(&["carve", "-"], &file).stdout), "refused 25\n");
+    assert!(text(&wattle_on(&["carve", "--large", "-"], &file).stdout).starts_with("kept "));
+    file.push(0);
+    assert_eq!(text(&wattle_on(&["carve", "--large", "-"], &file).stdout), "refused 21\n");
+    let mut file = common::grid_file([64, 64, 64], 0, sphere);
     for (name, number) in [("whole", 0), ("longer", 1)] {
         let grid = folder.join(name);
         std::fs::write(&grid, &file).unwrap();

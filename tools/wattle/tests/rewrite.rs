@@ -7,7 +7,7 @@ use std::os::unix::fs::{symlink, PermissionsExt};
 use std::os::unix::process::ExitStatusExt;
 use std::path::Path;
 use std::process::{Command, Output, Stdio};
-use wattlerugby::patch;
+use wattlerugby::{patch, written, Sides, MISSING, NARROW_MISSING};
 
 /// The records of a file in another order, by their places in it.
 fn reordered(file: &[u8], order: &[usize]) -> Vec<u8> {
@@ -65,6 +65,39 @@ fn any_order_can_be_sorted() {
         assert_eq!(answer(&["rewrite", "--sort", path(&out)]), wanted, "what is in order stays so");
         std::fs::remove_file(&out).unwrap();
     }
+}
+
+/// Layers of both widths come out with one width: narrow where two bytes hold every value, patches among them, otherwise wide; and sorted ones too.
+#[test]
+fn both_widths_become_one() {
+    let sides = Sides { a: 4, b: 3, c: 5 };
+    let value =
+        |large: i32| move |x: usize, y: usize, z: usize| if (x, y, z) == (1, 1, 2) { large } else { 100 * z as i32 - 7 * (x + y) as i32 };
+    let grid = |large: i32, wide: &[usize]| common::wide_file([4, 3, 5], 7, wide, value(large));
+    let all = [0, 1, 2, 3, 4];
+    for wide in [&[2][..], &[0, 2], &[2, 3, 4], &all] {
+        for (large, form) in
+            [(5, grid(5, &[])), (-32_767, grid(-32_767, &[])), (-32_768, grid(-32_768, &all)), (70_000, grid(70_000, &all))]
+        {
+            assert_eq!(wattle_on(&["rewrite", "-"], &grid(large, wide)).stdout, form, "{large} {wide:?}");
+            let patched = [&grid(large, wide)[..], &patch(29, 5)].concat();
+            assert_eq!(wattle_on(&["rewrite", "-"], &patched).stdout, grid(5, &[]), "a patch in place of {large}");
+            let missing = [&grid(large, wide)[..], &patch(0, NARROW_MISSING)].concat();
+            let mut values: Vec<i32> = (0..60).map(|i| value(large)(i % 4, i / 4 % 3, i / 12)).collect();
+            values[0] = MISSING;
+            assert_eq!(wattle_on(&["rewrite", "-"], &missing).stdout, written(sides, 7, &values).unwrap());
+        }
+    }
+    // records of different lengths, in falling order
+    let file = grid(70_000, &[1, 2, 4]);
+    let ends = [7, 34, 85, 136, 163, 214];
+    assert_eq!(file.len(), ends[5]);
+    let falling: Vec<u8> = (0..5).rev().flat_map(|z| file[ends[z]..ends[z + 1]].to_vec()).collect();
+    let falling = [&file[..7], &falling, &patch(3, 9)].concat();
+    assert_eq!(status(&wattle_on(&["rewrite", "-"], &falling)), 1);
+    let sorted = wattle_on(&["rewrite", "--sort", "-"], &falling).stdout;
+    assert_eq!(sorted, wattle_on(&["rewrite", "-"], &[&file[..], &patch(3, 9)].concat()).stdout);
+    assert_eq!(sorted.len(), 7 + 5 * 51);
 }
 
 /// What has not every layer once is refused as it is without sorting.

@@ -81,7 +81,7 @@ pub fn path(p: &Path) -> &str {
 
 // ---- grids of the tests' own
 
-/// A grid file with the layers in rising z.
+/// A grid file with the layers in rising z, two bytes a value.
 pub fn grid_file(sides: [usize; 3], allowed: u16, value: impl Fn(usize, usize, usize) -> i16) -> Vec<u8> {
     let [a, b, c] = sides;
     let mut bytes = vec![0x56, 0x48, a as u8, b as u8, c as u8];
@@ -89,6 +89,19 @@ pub fn grid_file(sides: [usize; 3], allowed: u16, value: impl Fn(usize, usize, u
     for z in 0..c {
         bytes.extend([0x56, 0x4C, z as u8]);
         bytes.extend((0..a * b).flat_map(|i| value(i % a, i / a, z).to_le_bytes()));
+    }
+    bytes
+}
+
+/// A grid file with the layers in rising z, some of them with four bytes a value.
+pub fn wide_file(sides: [usize; 3], allowed: u16, wide: &[usize], value: impl Fn(usize, usize, usize) -> i32) -> Vec<u8> {
+    let [a, b, c] = sides;
+    let mut bytes = vec![0x56, 0x48, a as u8, b as u8, c as u8];
+    bytes.extend(allowed.to_le_bytes());
+    for z in 0..c {
+        let (mark, width) = if wide.contains(&z) { (0x57, 4) } else { (0x4C, 2) };
+        bytes.extend([0x56, mark, z as u8]);
+        bytes.extend((0..a * b).flat_map(|i| value(i % a, i / a, z).to_le_bytes()[..width].to_vec()));
     }
     bytes
 }
@@ -116,7 +129,7 @@ impl Seed {
 /// A finished grid with what it was made from. The kinds are the numbers of `wattle help volume`.
 pub struct Carved {
     pub sides: Sides,
-    pub values: Vec<i16>,
+    pub values: Vec<i32>,
     pub grid: Grid,
     pub inside: Vec<bool>,
     pub kinds: Vec<u8>,
