@@ -27,15 +27,17 @@ fn main() -> std::io::Result<()> {
 
 // ---- the bodies
 
-/// Every sample. A value is ten times the distance to the body's surface in voxels, negative inside.
+/// Every sample. A value is ten times the distance to the body's surface in voxels, negative inside; but the tunnel's is in tenths of a
+/// millimetre.
 pub fn samples() -> Vec<Sample> {
     vec![
-        Sample::new("sphere", [12, 12, 12], 0, noisy(12, |x, y, z| sphere([5.5, 5.5, 5.5], x, y, z))),
-        Sample::new("torus-0", [16, 16, 9], 0, noisy(2, torus)),
-        Sample::new("torus-1", [16, 16, 9], 1, noisy(2, torus)),
+        Sample::new("sphere", [12, 12, 12], 0, noisy(12, |x, y, z| tenths(sphere([5.5, 5.5, 5.5], x, y, z)))),
+        Sample::new("torus-0", [16, 16, 9], 0, noisy(2, |x, y, z| tenths(torus(x, y, z)))),
+        Sample::new("torus-1", [16, 16, 9], 1, noisy(2, |x, y, z| tenths(torus(x, y, z)))),
         Sample::new("wet-glass", [14, 14, 9], 0, pane_with_gaps),
         Sample { name: "patched", patches: shot_again(), ..Sample::new("wet-glass", [14, 14, 9], 0, pane_with_gaps) },
         Sample::new("refused", [12, 12, 12], 0, |x, y, z| tenths(sphere([3.5, 5.5, 5.5], x, y, z))),
+        Sample::new("tunnel", [11, 11, 24], 1, noisy(9_000, tunnel_with_gap)),
     ]
 }
 
@@ -43,12 +45,15 @@ fn tenths(distance: f64) -> i32 {
     (10.0 * distance).round() as i32
 }
 
-/// A distance with noise of at most so many tenths either way, the same on every run.
-fn noisy(most: u32, distance: impl Fn(f64, f64, f64) -> f64) -> impl FnMut(f64, f64, f64) -> i32 {
+/// A value with noise of at most so much either way, the same on every run. A missing point stays missing.
+fn noisy(most: u32, value: impl Fn(f64, f64, f64) -> i32) -> impl FnMut(f64, f64, f64) -> i32 {
     let mut seed = 1u32;
     move |x, y, z| {
         seed = seed.wrapping_mul(1_664_525).wrapping_add(1_013_904_223);
-        tenths(distance(x, y, z)) + ((seed >> 16) % (2 * most + 1)) as i32 - most as i32
+        match value(x, y, z) {
+            MISSING => MISSING,
+            value => value + ((seed >> 16) % (2 * most + 1)) as i32 - most as i32,
+        }
     }
 }
 
@@ -63,6 +68,18 @@ fn sphere([mx, my, mz]: [f64; 3], x: f64, y: f64, z: f64) -> f64 {
 /// A tube of radius 2 around a circle of radius 4.5.
 fn torus(x: f64, y: f64, z: f64) -> f64 {
     length(&[length(&[x - 7.5, y - 7.5]) - 4.5, z - 4.0]) - 2.0
+}
+
+/// A tunnel's lining, 100 m long in voxels of 5 m: a tube along z with an outer radius of 20 m and a bore of 7 m. Distances in tenths of a millimetre
+/// need more than 16 bits. In the middle of the bore no shot came back.
+fn tunnel_with_gap(x: f64, y: f64, z: f64) -> i32 {
+    const TENTHS_OF_A_MILLIMETRE: f64 = 50_000.0;
+    let from_axis = length(&[x - 5.0, y - 5.0]);
+    if from_axis < 1.0 && (9.0..=14.0).contains(&z) {
+        return MISSING;
+    }
+    let lining = (from_axis - 4.0).max(1.4 - from_axis).max((z - 11.5).abs() - 10.0);
+    (TENTHS_OF_A_MILLIMETRE * lining).round() as i32
 }
 
 /// A pane of 10 x 10 x 5 voxels. Range points are missing through its whole thickness, in its middle, and from one of its faces up to the

@@ -6,7 +6,7 @@ mod generator;
 
 use std::path::{Path, PathBuf};
 use std::process::{Command, Stdio};
-use wattlerugby::{Grid, Refusal};
+use wattlerugby::{read_layer, Grid, Refusal, MISSING, WIDE};
 
 fn root() -> PathBuf {
     Path::new(env!("CARGO_MANIFEST_DIR")).join("..")
@@ -55,6 +55,24 @@ fn the_patched_pane() {
     assert_eq!(in_order.len(), 46);
     assert_ne!(kept(&in_order), kept(&reversed));
     assert_ne!(kept(&in_order), kept(&[]));
+}
+
+/// The tunnel's layers are wide, all of them, as some of its values need: and read by the layer it is what the library reads whole.
+#[test]
+fn the_tunnel_is_wide() {
+    let file = std::fs::read(root().join("samples/tunnel.grid")).expect("the sample can be read");
+    let grid = Grid::from_file(&file).expect("the sample is taken");
+    let (mut values, mut start) = (Vec::new(), 7);
+    for z in 0..24 {
+        let layer = read_layer(grid.record().sides, &file, start).expect("it is there");
+        assert_eq!((layer.z, layer.width), (z, WIDE));
+        values.extend(layer.values());
+        start = layer.end();
+    }
+    assert_eq!(start, file.len());
+    let mut whole = vec![0; values.len()];
+    assert!(wattlerugby::read(&file, &mut whole).is_ok() && whole == values);
+    assert!(values.contains(&MISSING) && values.iter().max() > Some(&65_535) && values.iter().any(|&v| v < -32_768 && v != MISSING));
 }
 
 /// With T = 1 the torus ends for want of openings; with more allowed it gives the same record, and nothing is left to open.
