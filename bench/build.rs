@@ -1,12 +1,14 @@
 //! The archive of another commit, where WATTLERUGBY_BEFORE names its folder: a copy with every name prefixed, so that one program holds both
-//! and times them in the same rounds.
+//! and times them in the same rounds. WATTLERUGBY_BEFORE_BITS says how many bits a value has in its interface, which it does not tell: 32, or 16
+//! before document 02's CR 5.
 
 use std::path::{Path, PathBuf};
 use std::process::Command;
 
 fn main() {
     println!("cargo:rerun-if-env-changed=WATTLERUGBY_BEFORE");
-    println!("cargo:rustc-check-cfg=cfg(before, before_points, before_write)");
+    println!("cargo:rerun-if-env-changed=WATTLERUGBY_BEFORE_BITS");
+    println!("cargo:rustc-check-cfg=cfg(before, before_16, before_points, before_write)");
     let Ok(folder) = std::env::var("WATTLERUGBY_BEFORE") else { return };
     let archive = Path::new(&folder).join("libcapi.a");
     println!("cargo:rerun-if-changed={}", archive.display());
@@ -19,6 +21,11 @@ fn main() {
     println!("cargo:rustc-link-search=native={}", out.display());
     println!("cargo:rustc-link-lib=static=before");
     println!("cargo:rustc-cfg=before");
+    match std::env::var("WATTLERUGBY_BEFORE_BITS").as_deref() {
+        Ok("16") => println!("cargo:rustc-cfg=before_16"),
+        Ok("32") | Err(_) => {}
+        Ok(other) => panic!("WATTLERUGBY_BEFORE_BITS is 16 or 32, not {other}"),
+    }
     // the calls that an older archive has not
     for call in ["points", "write"] {
         if names.contains(&format!("wattlerugby_{call}")) {

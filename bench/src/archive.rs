@@ -1,7 +1,7 @@
 //! The product through its C interface as the wrapper declares it: the archive as it is now, and that of another commit where build.rs was
 //! given one.
 
-use crate::types::{Carved, Local, Machine, Opened, Record, Refused, Sides, Taken};
+use crate::types::{Carved, Local, Machine, Opened, Record, Refused, Sides, Taken, Value, Values};
 use wattlerugby::raw::{CrossingAnswer, PointsAnswer, ReadAnswer, ReadLayerAnswer, WriteAnswer};
 
 fn answered<T>(refusal: u8, answer: T) -> Result<T, Refused> {
@@ -12,22 +12,23 @@ fn answered<T>(refusal: u8, answer: T) -> Result<T, Refused> {
 }
 
 pub type Points = fn(Record, &[i32], &[u8], usize, &mut [f64]) -> PointsAnswer;
-pub type Write = fn(Sides, u16, &[i16], &mut [u8]) -> WriteAnswer;
+pub type Write = fn(Sides, u16, &Values, &mut [u8]) -> WriteAnswer;
 
 /// The calls of an archive beside the machine's. Older archives have not all of them.
 #[derive(Clone, Copy)]
 pub struct Others {
     pub crossing: fn(Record, &[i32], &[u8], usize, u32) -> CrossingAnswer,
     pub points: Option<Points>,
-    pub read: fn(&[u8], &mut [i16]) -> ReadAnswer,
-    pub read_layer: fn(Sides, &[u8], usize) -> ReadLayerAnswer,
+    pub read: fn(&[u8], &mut Values) -> ReadAnswer,
+    /// After read, before what it filled in is compared.
+    pub take_back: fn(&mut Values),
     pub write: Option<Write>,
 }
 
 /// An archive's calls by slices, from a module that declares them.
 // SAFETY, of each call: the pointers and lengths are those of slices that are borrowed for the call.
 macro_rules! archive {
-    ($module:ident, $type:ident, $name:literal, $points:expr, $write:expr, $($raw:tt)+) => {
+    ($module:ident, $type:ident, $name:literal, $value:ty, $points:expr, $write:expr, $($raw:tt)+) => {
         pub mod $module {
             use super::*;
             use $($raw)+ as raw;
@@ -44,20 +45,18 @@ macro_rules! archive {
                 unsafe { raw::wattlerugby_crossing(given.into(), dist.as_ptr(), dist.len(), status.as_ptr(), status.len(), index, axis) }
             }
 
-            fn read(file: &[u8], values: &mut [i16]) -> ReadAnswer {
+            fn read(file: &[u8], values: &mut Values) -> ReadAnswer {
+                let values = <$value>::lent_to_fill(values);
                 unsafe { raw::wattlerugby_read(file.as_ptr(), file.len(), values.as_mut_ptr(), values.len()) }
             }
 
-            fn read_layer(sides: Sides, file: &[u8], start: usize) -> ReadLayerAnswer {
-                unsafe { raw::wattlerugby_read_layer(sides, file.as_ptr(), file.len(), start) }
-            }
-
-            pub const OTHERS: Others = Others { crossing, points: $points, read, read_layer, write: $write };
+            pub const OTHERS: Others = Others { crossing, points: $points, read, take_back: <$value>::take_back, write: $write };
 
             impl Machine for $type {
                 const NAME: &'static str = $name;
+                type Value = $value;
 
-                fn begin(sides: Sides, allowed: u16, values: &[i16], dist: &mut [i32], status: &mut [u8]) -> Result<Record, Refused> {
+                fn begin(sides: Sides, allowed: u16, values: &[$value], dist: &mut [i32], status: &mut [u8]) -> Result<Record, Refused> {
                     let (v, d, s) = (values.as_ptr(), dist.as_mut_ptr(), status.as_mut_ptr());
                     let r = unsafe { raw::wattlerugby_begin(sides, allowed, v, values.len(), d, dist.len(), s, status.len()) };
                     answered(r.refusal, r.next.into())
@@ -95,28 +94,39 @@ fn points_now(given: Record, dist: &[i32], status: &[u8], position: usize, out: 
     unsafe { wattlerugby::raw::wattlerugby_points(given.into(), d, dist.len(), s, status.len(), position, o, out.len()) }
 }
 
-fn write_now(sides: Sides, allowed: u16, values: &[i16], file: &mut [u8]) -> WriteAnswer {
+fn write_now(sides: Sides, allowed: u16, values: &Values, file: &mut [u8]) -> WriteAnswer {
+    let values = i32::lent(values);
     // SAFETY: as in the macro.
     unsafe { wattlerugby::raw::wattlerugby_write(sides, allowed, values.as_ptr(), values.len(), file.as_mut_ptr(), file.len()) }
 }
 
-archive!(now, Ours, "ours", Some(points_now), Some(write_now), wattlerugby::raw);
+/// Ours alone: the other archive's answer may be without the width.
+pub fn read_layer(sides: Sides, file: &[u8], start: usize) -> ReadLayerAnswer {
+    // SAFETY: as in the macro.
+    unsafe { wattlerugby::raw::wattlerugby_read_layer(sides, file.as_ptr(), file.len(), start) }
+}
+
+archive!(now, Ours, "ours", i32, Some(points_now), Some(write_now), wattlerugby::raw);
 
 /// The same calls under the names that build.rs gave those of the other archive.
 #[cfg(before)]
 #[allow(clashing_extern_declarations)]
 mod prefixed {
     use crate::types::{Local, Sides};
-    use wattlerugby::raw::{
-        BeginAnswer, CarveAnswer, CrossingAnswer, FinishAnswer, OpenAnswer, ReadAnswer, ReadLayerAnswer, Record, TakeAnswer,
-    };
+    use wattlerugby::raw::{BeginAnswer, CarveAnswer, CrossingAnswer, FinishAnswer, OpenAnswer, ReadAnswer, Record, TakeAnswer};
+
+    /// A value in its interface, as build.rs was told.
+    #[cfg(before_16)]
+    pub type Value = i16;
+    #[cfg(not(before_16))]
+    pub type Value = i32;
 
     extern "C" {
         #[link_name = "before_wattlerugby_begin"]
         pub fn wattlerugby_begin(
             sides: Sides,
             allowed: u16,
-            values: *const i16,
+            values: *const Value,
             values_len: usize,
             dist: *mut i32,
             dist_len: usize,
@@ -154,15 +164,13 @@ mod prefixed {
             ol: usize,
         ) -> wattlerugby::raw::PointsAnswer;
         #[link_name = "before_wattlerugby_read"]
-        pub fn wattlerugby_read(file: *const u8, file_len: usize, values: *mut i16, values_len: usize) -> ReadAnswer;
-        #[link_name = "before_wattlerugby_read_layer"]
-        pub fn wattlerugby_read_layer(sides: Sides, file: *const u8, file_len: usize, start: usize) -> ReadLayerAnswer;
+        pub fn wattlerugby_read(file: *const u8, file_len: usize, values: *mut Value, values_len: usize) -> ReadAnswer;
         #[cfg(before_write)]
         #[link_name = "before_wattlerugby_write"]
         pub fn wattlerugby_write(
             sides: Sides,
             allowed: u16,
-            values: *const i16,
+            values: *const Value,
             vl: usize,
             file: *mut u8,
             fl: usize,
@@ -180,7 +188,8 @@ fn points_before(given: Record, dist: &[i32], status: &[u8], position: usize, ou
 }
 
 #[cfg(before_write)]
-fn write_before(sides: Sides, allowed: u16, values: &[i16], file: &mut [u8]) -> WriteAnswer {
+fn write_before(sides: Sides, allowed: u16, values: &Values, file: &mut [u8]) -> WriteAnswer {
+    let values = prefixed::Value::lent(values);
     // SAFETY: as in the macro.
     unsafe { prefixed::wattlerugby_write(sides, allowed, values.as_ptr(), values.len(), file.as_mut_ptr(), file.len()) }
 }
@@ -195,4 +204,19 @@ const WRITE_BEFORE: Option<Write> = Some(write_before);
 const WRITE_BEFORE: Option<Write> = None;
 
 #[cfg(before)]
-archive!(before, Before, "before", POINTS_BEFORE, WRITE_BEFORE, super::prefixed);
+archive!(before, Before, "before", super::prefixed::Value, POINTS_BEFORE, WRITE_BEFORE, super::prefixed);
+
+/// Stops where the other archive's values have other bits than build.rs was told, before a call is lent too little. Its read is lent room for the
+/// longer ones, and leaves the last of it alone where its own are the shorter.
+#[cfg(before)]
+pub fn check_before() {
+    let layers = (0..3).flat_map(|z| [&[0x56, 0x4C, z], &[0xFF; 18][..]].concat());
+    let file: Vec<u8> = [0x56, 0x48, 3, 3, 3, 0, 0].into_iter().chain(layers).collect();
+    let mut room = [0i32; 27];
+    // SAFETY: 27 values of either kind have room.
+    let read = unsafe { prefixed::wattlerugby_read(file.as_ptr(), file.len(), room.as_mut_ptr().cast(), room.len()) };
+    assert!(read.refusal == 0 && room[0] == -1, "the other archive reads no file");
+    let bits = if room[26] == -1 { 32 } else { 16 };
+    let told = prefixed::Value::BITS;
+    assert!(bits == told, "the other archive's values have {bits} bits, not {told}: see WATTLERUGBY_BEFORE_BITS");
+}

@@ -1,11 +1,11 @@
 //! Runs of the calls, timed in turn for each implementation in one process, every answer and buffer matched.
 
 use crate::clock;
-use crate::types::{begun, size, Carved, Machine, Opened, Record, Refused, Sides, Taken};
+use crate::types::{begun, size, Carved, Machine, Opened, Record, Refused, Sides, Taken, Value, Values};
 use std::time::{Duration, Instant};
 
 type Answer<T> = Result<T, Refused>;
-type Begin = fn(Sides, u16, &[i16], &mut [i32], &mut [u8]) -> Answer<Record>;
+type Begin = fn(Sides, u16, &Values, &mut [i32], &mut [u8]) -> Answer<Record>;
 type Carve = fn(Record, &[i32], &mut [u8], u32) -> Answer<Carved>;
 type Take = fn(Record, &[i32], &mut [u8], usize) -> Answer<Taken>;
 type Open = fn(Record, &[i32], &mut [u8]) -> Answer<Opened>;
@@ -23,14 +23,15 @@ pub struct Calls {
 
 impl Calls {
     pub const fn of<M: Machine>() -> Self {
-        Calls { name: M::NAME, begin: M::begin, carve: M::carve, take: M::take, open: M::open, finish: M::finish }
+        let begin: Begin = |sides, allowed, values, dist, status| M::begin(sides, allowed, M::Value::lent(values), dist, status);
+        Calls { name: M::NAME, begin, carve: M::carve, take: M::take, open: M::open, finish: M::finish }
     }
 }
 
 pub struct Case {
     pub sides: Sides,
     pub allowed: u16,
-    pub values: Vec<i16>,
+    pub values: Values,
 }
 
 /// A record with its buffers.
@@ -133,6 +134,7 @@ impl<'a> Race<'a> {
             self.log.carved.clear();
             self.log.opened.clear();
             self.log.refused = None;
+            self.case.values.warm();
             let from = clock::now();
             (self.run)(calls, self.case, &mut self.state, &mut self.log);
             *least = least.min(clock::now() - from);

@@ -1,6 +1,6 @@
 //! The grids that are measured: a sphere, a torus and white noise, each fitted to the sides.
 
-use crate::types::{size, Sides, MISSING};
+use crate::types::{narrowed, size, Sides, MISSING};
 use wattlerugby::patch;
 
 /// SplitMix64: a seed names a case for good.
@@ -39,20 +39,20 @@ impl Shape {
 }
 
 /// A signed value of a place in the cube from -1 to 1.
-fn value(shape: Shape, [x, y, z]: [f64; 3], random: &mut Random) -> i16 {
+fn value(shape: Shape, [x, y, z]: [f64; 3], random: &mut Random) -> i32 {
     match shape {
-        Shape::Sphere => (((x * x + y * y + z * z).sqrt() - 0.8) * 3000.0) as i16,
-        Shape::Torus => ((((x * x + y * y).sqrt() - 0.6).hypot(z) - 0.3) * 3000.0) as i16,
+        Shape::Sphere => (((x * x + y * y + z * z).sqrt() - 0.8) * 3000.0) as i32,
+        Shape::Torus => ((((x * x + y * y).sqrt() - 0.6).hypot(z) - 0.3) * 3000.0) as i32,
         // 3 in 10 measured negative, 1 in 20 missing
         Shape::Noise => match random.below(100) {
-            0..30 => -1 - random.below(1000) as i16,
+            0..30 => -1 - random.below(1000) as i32,
             30..35 => MISSING,
-            _ => random.below(1000) as i16,
+            _ => random.below(1000) as i32,
         },
     }
 }
 
-pub fn values(sides: Sides, shape: Shape) -> Vec<i16> {
+pub fn values(sides: Sides, shape: Shape) -> Vec<i32> {
     let mut random = Random(size(sides) as u64);
     let along = |v: usize, side: usize| 2.0 * v as f64 / (side - 1) as f64 - 1.0;
     let mut values = Vec::with_capacity(size(sides));
@@ -61,11 +61,38 @@ pub fn values(sides: Sides, shape: Shape) -> Vec<i16> {
             for x in 0..sides.a {
                 let v = value(shape, [along(x, sides.a), along(y, sides.b), along(z, sides.c)], &mut random);
                 let border = x == 0 || y == 0 || z == 0 || x == sides.a - 1 || y == sides.b - 1 || z == sides.c - 1;
-                values.push(if border { v.saturating_abs() } else { v });
+                values.push(match v {
+                    // the greatest that 16 bits hold, as it was when values had no more: the grids are those of every earlier figure
+                    MISSING if border => 32_767,
+                    _ if border => v.abs(),
+                    _ => v,
+                });
             }
         }
     }
     values
+}
+
+/// The same grid in units a thousand times smaller: 16 bits do not hold its measured values.
+pub fn lengthened(values: &[i32]) -> Vec<i32> {
+    values.iter().map(|&v| if v == MISSING { v } else { 1000 * v }).collect()
+}
+
+/// A grid's file with the layers of a width each, 2 or 4 bytes a value, whichever the written form has. Narrow layers are of values that 16 bits
+/// hold.
+pub fn file(Sides { a, b, c }: Sides, allowed: u16, values: &[i32], width: impl Fn(usize) -> usize) -> Vec<u8> {
+    let mut file = vec![0x56, 0x48, a as u8, b as u8, c as u8];
+    file.extend(allowed.to_le_bytes());
+    for (z, layer) in values.chunks_exact(a * b).enumerate() {
+        if width(z) == 4 {
+            file.extend([0x56, 0x57, z as u8]);
+            file.extend(layer.iter().flat_map(|v| v.to_le_bytes()));
+        } else {
+            file.extend([0x56, 0x4C, z as u8]);
+            file.extend(layer.iter().flat_map(|&v| narrowed(v).expect("16 bits hold it").to_le_bytes()));
+        }
+    }
+    file
 }
 
 /// So many patch records for a grid of n voxels: any voxel, any value.

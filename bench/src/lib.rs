@@ -4,6 +4,7 @@
 pub mod archive;
 pub mod clock;
 pub mod contest;
+pub mod file;
 pub mod grids;
 pub mod local;
 pub mod neighbourhood;

@@ -44,7 +44,7 @@ fn in_place(rounds: usize, kept: u64) -> Vec<f64> {
 
 /// The blocks that the first carve meets on a grid of such a shape, in its order, over and over: found by one examination at a time.
 fn met(shape: Shape) -> Vec<u32> {
-    let case = Case { sides: SMALL, allowed: 0, values: values(SMALL, shape) };
+    let case = Case { sides: SMALL, allowed: 0, values: values(SMALL, shape).into() };
     let mut state = State::blank(&case);
     contest::begin(&Calls::of::<Ours>(), &case, &mut state, &mut Log::default());
     let mut blocks = Vec::new();

@@ -2,19 +2,19 @@
 //! Words given name the parts to run; none: all. `once PART SHAPE SIDE [before]` makes a part's calls a single time on a cube, and prints by
 //! what to divide a count of instructions.
 
+mod files;
 mod locals;
 mod patches;
 mod singles;
 mod stacks;
 mod ways;
-mod writes;
 
 use bench::archive;
 use bench::contest::{begin, carve, contest, turns, whole, Calls, Case, Log, Race, Run, State, ROUNDS};
 use bench::grids::{pending, values, Distances, Shape};
 use bench::plain::Plain;
 use bench::tuned::Tuned;
-use bench::types::{size, Sides};
+use bench::types::{size, Sides, Values};
 use singles::Took;
 
 const GRIDS: [Sides; 5] = [
@@ -58,7 +58,7 @@ fn named(Sides { a, b, c }: Sides) -> String {
 }
 
 fn case(sides: Sides, shape: Shape) -> Case {
-    Case { sides, allowed: ALLOWED, values: values(sides, shape) }
+    Case { sides, allowed: ALLOWED, values: values(sides, shape).into() }
 }
 
 /// The state that runs lead to from a grid's values.
@@ -188,7 +188,7 @@ fn worst_case() -> Option<f64> {
     println!("| distances | examined | |\n|---|---|---|");
     let mut most: Option<f64> = None;
     for distances in Distances::ALL {
-        let case = Case { sides: LARGEST, allowed: 0, values: Vec::new() };
+        let case = Case { sides: LARGEST, allowed: 0, values: Values::default() };
         let start = crafted(LARGEST, distances);
         let race = contest(&ALL, &case, &start, carve);
         let times: Vec<f64> = race.times.iter().map(|t| t / examinations(race.log())).collect();
@@ -240,7 +240,7 @@ fn once(word: &str, shape: &str, side: &str, before: bool) {
     let named = Shape::ALL.into_iter().find(|s| s.name() == shape);
     if let Some(distances) = Distances::ALL.into_iter().find(|d| word == "crafted" && d.name() == shape) {
         let (mut state, mut log) = (crafted(sides, distances), Log::default());
-        carve(calls, &Case { sides, allowed: 0, values: Vec::new() }, &mut state, &mut log);
+        carve(calls, &Case { sides, allowed: 0, values: Values::default() }, &mut state, &mut log);
         return println!("{} {}", size(sides), log.examined());
     }
     let case = case(sides, named.expect("sphere, torus or noise"));
@@ -256,6 +256,8 @@ fn once(word: &str, shape: &str, side: &str, before: bool) {
 fn main() {
     let words: Vec<String> = std::env::args().skip(1).collect();
     let given: Vec<&str> = words.iter().map(String::as_str).collect();
+    #[cfg(before)]
+    archive::check_before();
     match given[..] {
         ["once", part, shape, side] => return once(part, shape, side, false),
         ["once", part, shape, side, "before"] => return once(part, shape, side, true),
@@ -289,10 +291,11 @@ fn main() {
         let each = points.map(|t| 1e3 * t.times[0] / (3 * size(LARGEST)) as f64).fold(0.0, f64::max);
         demands.push(Demand(format!("all points, {}, ns per position", named(LARGEST)), each, 15.0));
     }
+    if wanted("read") {
+        demands.extend(files::measure_read(case));
+    }
     if wanted("write") {
-        for (sides, by_index) in writes::measure(case) {
-            demands.push(Demand(format!("write, {}, ours/a loop by index", named(sides)), by_index, 1.3));
-        }
+        demands.extend(files::measure_write(case));
     }
     if wanted("patches") {
         for (sides, by_index) in patches::measure(case) {

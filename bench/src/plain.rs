@@ -7,7 +7,12 @@ use std::collections::{BinaryHeap, VecDeque};
 
 pub struct Plain;
 
-fn negative(value: i16) -> bool {
+/// Neither in the range nor missing.
+fn stray(value: i32) -> bool {
+    value != MISSING && !(-1_000_000_000..=1_000_000_000).contains(&value)
+}
+
+fn negative(value: i32) -> bool {
     value < 0 && value != MISSING
 }
 
@@ -64,7 +69,7 @@ impl Voxels for Sides {
 }
 
 /// The largest group of measured negative voxels joined by touching; of equal ones the first.
-fn inside(sides: Sides, values: &[i16]) -> Vec<bool> {
+fn inside(sides: Sides, values: &[i32]) -> Vec<bool> {
     let mut seen = vec![false; values.len()];
     let mut largest = Vec::new();
     for seed in 0..values.len() {
@@ -112,13 +117,13 @@ fn steps(sides: Sides, inside: &[bool]) -> Vec<u32> {
     steps
 }
 
-fn fill_distances(values: &[i16], steps: &[u32], dist: &mut [i32]) {
+fn fill_distances(values: &[i32], steps: &[u32], dist: &mut [i32]) {
     let beside = values.iter().zip(steps).filter(|&(&v, &d)| d == 1 && v >= 0).map(|(&v, _)| v).max();
-    let m = i32::from(beside.unwrap_or(1).max(1));
+    let m = beside.unwrap_or(1).max(1);
     for ((out, &value), &d) in dist.iter_mut().zip(values).zip(steps) {
         *out = match d {
-            0 => i32::from(value),
-            1 if value >= 0 => i32::from(value),
+            0 => value,
+            1 if value >= 0 => value,
             1 => m,
             _ => m + d as i32,
         };
@@ -195,154 +200,17 @@ fn remove(sides: Sides, dist: &[i32], status: &mut [u8], i: usize, mut woken: im
     });
 }
 
-/// The layer records and the rest of what follows the header: 21, 22, 23, 24, 27 of each record.
-fn layers_and_rest(Sides { a, b, c }: Sides, bytes: &[u8]) -> Result<(&[u8], &[u8]), Refused> {
-    let length = 3 + 2 * a * b;
-    for k in 0..c {
-        let Some(record) = bytes.get(k * length..(k + 1) * length) else { return Err(21) };
-        let z = usize::from(record[2]);
-        if !record.starts_with(b"VL") {
-            return Err(22);
-        }
-        if z >= c {
-            return Err(23);
-        }
-        if z != k {
-            return Err(if z < k { 24 } else { 27 });
-        }
-    }
-    Ok(bytes.split_at(c * length))
-}
-
-/// A way through patch records: the checks of all of them for n voxels, and the values into their places.
-pub struct Patches {
-    check: fn(usize, &[u8]) -> Result<(), Refused>,
-    apply: fn(&[u8], &mut [i16]),
-}
-
-/// As arrays of 8 bytes, in which no index is checked. What is too short for one comes last.
-pub const CHUNKED: Patches = Patches {
-    check: |n, bytes| {
-        let (patches, rest) = bytes.as_chunks::<8>();
-        for &[first, second, i, j, k, l, ..] in patches {
-            if [first, second] != *b"VP" {
-                return Err(22);
-            }
-            if u32::from_le_bytes([i, j, k, l]) as usize >= n {
-                return Err(5);
-            }
-        }
-        match rest {
-            [] => Ok(()),
-            _ => Err(21),
-        }
-    },
-    apply: |bytes, values| {
-        for &[_, _, i, j, k, l, low, high] in bytes.as_chunks().0 {
-            values[u32::from_le_bytes([i, j, k, l]) as usize] = i16::from_le_bytes([low, high]);
-        }
-    },
-};
-
-fn index_at(bytes: &[u8], start: usize) -> usize {
-    u32::from_le_bytes([bytes[start + 2], bytes[start + 3], bytes[start + 4], bytes[start + 5]]) as usize
-}
-
-/// With the product's own body: from record to record by the byte where it begins.
-pub const INDEXED: Patches = Patches {
-    check: |n, bytes| {
-        let mut start = 0;
-        while start < bytes.len() {
-            if bytes.len() - start < 8 {
-                return Err(21);
-            }
-            if bytes[start] != 0x56 || bytes[start + 1] != 0x50 {
-                return Err(22);
-            }
-            if index_at(bytes, start) >= n {
-                return Err(5);
-            }
-            start += 8;
-        }
-        Ok(())
-    },
-    apply: |bytes, values| {
-        let mut start = 0;
-        while start < bytes.len() {
-            values[index_at(bytes, start)] = i16::from_le_bytes([bytes[start + 6], bytes[start + 7]]);
-            start += 8;
-        }
-    },
-};
-
-/// A grid file into n values, every check before the first of them; sides and T.
-#[inline(never)]
-pub fn read(file: &[u8], values: &mut [i16], patches: &Patches) -> Result<(Sides, u16), Refused> {
-    let Some((header, records)) = file.split_at_checked(7) else { return Err(21) };
-    if !header.starts_with(b"VH") {
-        return Err(22);
-    }
-    let [a, b, c] = [2, 3, 4].map(|i| usize::from(header[i]));
-    let Some(n) = (Sides { a, b, c }).voxels() else { return Err(1) };
-    if values.len() != n {
-        return Err(2);
-    }
-    let (layers, rest) = layers_and_rest(Sides { a, b, c }, records)?;
-    (patches.check)(n, rest)?;
-    for (record, layer) in layers.chunks_exact(3 + 2 * a * b).zip(values.chunks_exact_mut(a * b)) {
-        for (value, bytes) in layer.iter_mut().zip(record[3..].chunks_exact(2)) {
-            *value = i16::from_le_bytes([bytes[0], bytes[1]]);
-        }
-    }
-    (patches.apply)(rest, values);
-    Ok((Sides { a, b, c }, u16::from_le_bytes([header[5], header[6]])))
-}
-
-/// A layer's values, two bytes each. The compiler sees through it: what runs is the C library's memcpy, which is not held to plain x86-64.
-pub fn zipped(values: &[i16], bytes: &mut [u8]) {
-    for (bytes, value) in bytes.chunks_exact_mut(2).zip(values) {
-        bytes.copy_from_slice(&value.to_le_bytes());
-    }
-}
-
-/// The same with the product's own body: a byte at a time, by index.
-pub fn indexed(values: &[i16], bytes: &mut [u8]) {
-    let mut i = 0;
-    while i < values.len() {
-        let [low, high] = values[i].to_le_bytes();
-        bytes[2 * i] = low;
-        bytes[2 * i + 1] = high;
-        i += 1;
-    }
-}
-
-/// A grid's file into a lent buffer, and its length; `put` writes a layer's values.
-#[inline(never)]
-pub fn write(sides: Sides, allowed: u16, values: &[i16], file: &mut [u8], put: impl Fn(&[i16], &mut [u8])) -> Result<usize, Refused> {
-    let Sides { a, b, c } = sides;
-    let Some(n) = sides.voxels() else { return Err(1) };
-    if values.len() != n {
-        return Err(2);
-    }
-    let record = 3 + 2 * a * b;
-    let Some(file) = file.get_mut(..7 + c * record) else { return Err(26) };
-    let (header, records) = file.split_at_mut(7);
-    header[..5].copy_from_slice(&[0x56, 0x48, a as u8, b as u8, c as u8]);
-    header[5..].copy_from_slice(&allowed.to_le_bytes());
-    for (z, (record, layer)) in records.chunks_exact_mut(record).zip(values.chunks_exact(a * b)).enumerate() {
-        record[..3].copy_from_slice(&[0x56, 0x4C, z as u8]);
-        put(layer, &mut record[3..]);
-    }
-    Ok(file.len())
-}
-
 impl Machine for Plain {
     const NAME: &'static str = "(a) idiomatic Rust";
+    type Value = i32;
 
-    fn begin(sides: Sides, allowed: u16, values: &[i16], dist: &mut [i32], status: &mut [u8]) -> Result<Record, Refused> {
+    fn begin(sides: Sides, allowed: u16, values: &[i32], dist: &mut [i32], status: &mut [u8]) -> Result<Record, Refused> {
         let Some(n) = sides.voxels() else { return Err(1) };
         if values.len() != n || dist.len() != n || status.len() != n {
             return Err(2);
+        }
+        if values.iter().any(|&v| stray(v)) {
+            return Err(28);
         }
         if (0..n).any(|i| negative(values[i]) && sides.border(i)) {
             return Err(3);

@@ -3,8 +3,8 @@
 use crate::{after, named, ratio_to, with_ratio, GRIDS, LARGEST};
 use bench::archive::Others;
 use bench::contest::{begin, carve, Calls, Case, Log, State, ROUNDS};
-use bench::grids::{patches, Shape};
-use bench::types::{size, Sides};
+use bench::grids::{self, lengthened, patches, Shape};
+use bench::types::{size, Sides, Values};
 use bench::{archive, clock};
 use wattlerugby::written;
 
@@ -37,6 +37,10 @@ pub struct Scene {
     pub file: Vec<u8>,
     /// The same with many patches.
     pub patched: Vec<u8>,
+    /// The same with wide layers.
+    pub wide: Vec<u8>,
+    /// The grid with values that need wide layers, whose file is as long as that.
+    pub long: Values,
     /// A position with a crossing, and how many have one.
     pub crossing: usize,
     pub crossings: usize,
@@ -52,9 +56,11 @@ impl Scene {
         }
         finished.record.finished = true;
         let at: Vec<usize> = (0..3 * size(case.sides)).filter(|&p| crosses(case.sides, &finished.dist, p)).collect();
-        let file = written(case.sides, case.allowed, &case.values).expect("fit sides");
+        let file = written(case.sides, case.allowed, &case.values.wide).expect("a grid that can be written");
         let patched = [&file[..], &patches(size(case.sides), PATCHES)].concat();
-        Scene { begun, carved, finished, file, patched, crossing: at[at.len() / 2], crossings: at.len(), case }
+        let wide = grids::file(case.sides, case.allowed, &case.values.wide, |_| 4);
+        let long = lengthened(&case.values.wide).into();
+        Scene { begun, carved, finished, file, patched, wide, long, crossing: at[at.len() / 2], crossings: at.len(), case }
     }
 }
 
@@ -68,7 +74,7 @@ fn crosses(sides: Sides, dist: &[i32], position: usize) -> bool {
 #[derive(Clone, PartialEq)]
 pub struct Desk {
     pub state: State,
-    pub values: Vec<i16>,
+    pub values: Values,
     pub out: Vec<f64>,
     pub file: Vec<u8>,
 }
@@ -88,7 +94,20 @@ fn carve_some(archive: &Archive, desk: &mut Desk, limit: u32) -> Option<[u64; 3]
     Some([r.examined.into(), r.removed.into(), r.pending.into()])
 }
 
-pub const SINGLES: [Single; 11] = [
+/// Reads a file; nothing where the archive takes none of its kind.
+fn read_some(archive: &Archive, desk: &mut Desk, file: &[u8]) -> Option<[u64; 3]> {
+    let r = (archive.others.read)(file, &mut desk.values);
+    (r.refusal == 0).then_some([r.allowed.into(), 0, 0])
+}
+
+/// Writes a grid's file, which is so long; nothing where the archive has no such call, or takes no values of their kind.
+fn write_some(archive: &Archive, case: &Case, values: &Values, length: usize, desk: &mut Desk) -> Option<[u64; 3]> {
+    let r = (archive.others.write?)(case.sides, case.allowed, values, &mut desk.file);
+    assert!(r.refusal != 0 || r.length == length, "the file has another length");
+    (r.refusal == 0).then_some([r.length as u64, 0, 0])
+}
+
+pub const SINGLES: [Single; 13] = [
     Single {
         word: "check",
         title: "check 7: take, refused after it with 5",
@@ -184,31 +203,36 @@ pub const SINGLES: [Single; 11] = [
         title: "read, a file with 100,000 patches",
         from: |scene| &scene.begun,
         only_reads: true,
-        run: |archive, scene, desk| {
-            let r = (archive.others.read)(&scene.patched, &mut desk.values);
-            // an archive from before there were patches takes none
-            (r.refusal == 0).then_some([r.allowed.into(), 0, 0])
-        },
+        run: |archive, scene, desk| read_some(archive, desk, &scene.patched),
+    },
+    Single {
+        word: "read_wide",
+        title: "read, a file with wide layers",
+        from: |scene| &scene.begun,
+        only_reads: true,
+        run: |archive, scene, desk| read_some(archive, desk, &scene.wide),
     },
     Single {
         word: "write",
         title: "write, a file",
         from: |scene| &scene.begun,
         only_reads: true,
-        run: |archive, scene, desk| {
-            let Case { sides, allowed, values } = &scene.case;
-            let r = (archive.others.write?)(*sides, *allowed, values, &mut desk.file);
-            assert_eq!((r.refusal, r.length), (0, desk.file.len()), "the grid is written");
-            Some([r.length as u64, 0, 0])
-        },
+        run: |archive, scene, desk| write_some(archive, &scene.case, &scene.case.values, scene.file.len(), desk),
+    },
+    Single {
+        word: "write_wide",
+        title: "write, a file with wide layers",
+        from: |scene| &scene.begun,
+        only_reads: true,
+        run: |archive, scene, desk| write_some(archive, &scene.case, &scene.long, scene.wide.len(), desk),
     },
 ];
 
 impl Single {
     pub fn desk(&self, scene: &Scene) -> Desk {
         let state = (self.from)(scene).clone();
-        let (values, out, file) = (vec![0; state.status.len()], vec![0.0; 3 * (scene.crossings + 1)], vec![0; scene.file.len()]);
-        Desk { state, values, out, file }
+        let (values, out, file) = (vec![0; state.status.len()], vec![0.0; 3 * (scene.crossings + 1)], vec![0; scene.wide.len()]);
+        Desk { state, values: values.into(), out, file }
     }
 
     /// The least time of each archive in microseconds; all must answer and leave the same.
@@ -222,10 +246,13 @@ impl Single {
         for _ in 0..5 * ROUNDS {
             for (archive, least) in all.iter().zip(&mut least) {
                 desk.state.set(&clean.state);
+                desk.values.set(&clean.values);
+                scene.case.values.warm();
                 let from = clock::now();
                 let answers: Vec<_> = (0..repeats).map(|_| (self.run)(archive, scene, &mut desk)).collect();
                 let Some(answer) = answers[0] else { continue };
                 *least = least.min((clock::now() - from) / repeats as f64 / 1e3);
+                (archive.others.take_back)(&mut desk.values);
                 let (wanted, after) = outcome.get_or_insert_with(|| (answer, desk.clone()));
                 assert!(*wanted == answer && *after == desk, "{}: another answer or other buffers in {}", archive.calls.name, self.word);
             }

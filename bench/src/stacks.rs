@@ -3,6 +3,7 @@
 use crate::singles::{archives, Scene};
 use crate::{case, named, GRIDS};
 use bench::archive::now::local_test;
+use bench::archive::read_layer;
 use bench::contest::State;
 use bench::grids::Shape;
 use bench::stack::{used, LEAST};
@@ -44,7 +45,7 @@ fn on(scene: &Scene) -> [usize; 11] {
         used(|| assert!((others.crossing)(done.record, &done.dist, &done.status, index, axis).crosses)),
         used(|| assert_eq!(points(done.record, &done.dist, &done.status, 0, &mut out).count, scene.crossings)),
         used(|| assert_eq!((others.read)(&scene.patched, &mut values).refusal, 0)),
-        used(|| assert_eq!((others.read_layer)(case.sides, &scene.file, 7).refusal, 0)),
+        used(|| assert_eq!(read_layer(case.sides, &scene.file, 7).refusal, 0)),
         used(|| assert_eq!(write(case.sides, case.allowed, &case.values, &mut file).length, scene.file.len())),
         used(|| _ = black_box(local_test(black_box(0x07BE_8BEF)))),
     ]

@@ -1,15 +1,17 @@
 //! The two Rust implementations against the reference, on small grids and on random calls; the local tests, and the race.
 
 use crate::contest::Calls;
-use crate::grids::{blocks, inner, patches, statuses, Random};
+use crate::file::{read, write, Chunked, Indexed, Way};
+use crate::grids;
+use crate::grids::{blocks, inner, lengthened, patches, statuses, values, Random, Shape};
 use crate::local::searched::{both, by_cells, by_frontiers, touched};
 use crate::local::{joined, passes, ranked, Whole};
 use crate::neighbourhood::{gather, kept_bits};
-use crate::plain::{indexed, read, write, zipped, Plain, CHUNKED, INDEXED};
+use crate::plain::Plain;
 use crate::race::{median, race, Contestant};
 use crate::tuned::Tuned;
-use crate::types::{begun, size, Record, Sides, MISSING};
-use reference::{file, grid, local, machine};
+use crate::types::{begun, size, Record, Sides, Value, Values, MISSING};
+use reference::{grid, local, machine};
 use std::cell::RefCell;
 use std::collections::BTreeSet;
 use wattlerugby::patch;
@@ -27,16 +29,24 @@ fn theirs(r: Record) -> grid::Record {
     }
 }
 
-fn random_values(random: &mut Random, sides: Sides) -> Vec<i16> {
+/// Values on either side of a bound: of the two ranges, and of all numbers.
+const EDGES: [i32; 12] =
+    [32_767, 32_768, -32_767, -32_768, 1_000_000_000, -1_000_000_000, 1_000_000_001, -1_000_000_001, i32::MAX, MISSING, MISSING + 1, 0];
+
+fn random_values(random: &mut Random, sides: Sides) -> Vec<i32> {
     let dense = random.below(60);
-    let scale = [1, 3, 1000, 32767][random.below(4) as usize];
-    let mut values: Vec<i16> = (0..size(sides))
+    let scale = [1, 3, 1000, 32_767, 1_000_000_000][random.below(5) as usize];
+    let mut values: Vec<i32> = (0..size(sides))
         .map(|_| match random.below(100) {
-            p if p < dense => -1 - random.below(scale) as i16,
+            p if p < dense => -1 - random.below(scale) as i32,
             p if p > 94 => MISSING,
-            _ => random.below(scale + 1) as i16,
+            _ => random.below(scale + 1) as i32,
         })
         .collect();
+    // on the border, too, where 28 comes before 3
+    if random.below(10) == 0 {
+        values[random.below(size(sides) as u64) as usize] = EDGES[random.below(EDGES.len() as u64) as usize];
+    }
     if random.below(20) > 0 {
         for z in 0..sides.c {
             for y in 0..sides.b {
@@ -78,7 +88,7 @@ fn play(calls: &Calls, seed: u64) {
     let allowed = [0, 1, 5, 65535][random.below(4) as usize];
     let (mut dist, mut status) = (vec![7; n], vec![7; n]);
     let (mut their_dist, mut their_status) = (dist.clone(), status.clone());
-    let ours = (calls.begin)(sides, allowed, &values, &mut dist, &mut status);
+    let ours = (calls.begin)(sides, allowed, &values.clone().into(), &mut dist, &mut status);
     let expected = grid::begin(theirs(begun(sides, allowed)).sides, allowed, &values, &mut their_dist, &mut their_status);
     assert_eq!(ours.map(theirs), expected, "{} begin {seed}", calls.name);
     assert_eq!((&dist, &status), (&their_dist, &their_status), "{} begin {seed}", calls.name);
@@ -134,63 +144,100 @@ fn tuned_as_the_reference() {
     (0..3000).for_each(|seed| play(&Calls::of::<Tuned>(), seed));
 }
 
-/// The reference reads what is written, its layers stand in rising z, and the rest of the buffer stays.
-fn written_as_read(put: fn(&[i16], &mut [u8])) {
-    let mut random = Random(1);
-    for _ in 0..300 {
-        let mut side = || 3 + random.below(5) as usize;
-        let sides = Sides { a: side(), b: side(), c: side() };
-        let (n, record) = (size(sides), 3 + 2 * sides.a * sides.b);
-        let (length, allowed) = (7 + sides.c * record, random.word() as u16);
-        let values: Vec<i16> = (0..n).map(|_| random.word() as i16).collect();
-        let (mut lent, mut back) = (vec![0xA5; length + 3], vec![0; n]);
-        assert_eq!(write(Sides { c: 2, ..sides }, allowed, &values[1..], &mut lent[..0], put), Err(1));
-        assert_eq!(write(sides, allowed, &values[1..], &mut lent[..0], put), Err(2));
-        assert_eq!(write(sides, allowed, &values, &mut lent[..length - 1], put), Err(26));
-        assert_eq!(lent, vec![0xA5; length + 3]);
-        assert_eq!(write(sides, allowed, &values, &mut lent, put), Ok(length));
-        assert_eq!(file::read(&lent[..length], &mut back, 64), Ok((theirs(begun(sides, 0)).sides, allowed)));
-        assert!((0..sides.c).all(|z| usize::from(lent[7 + z * record + 2]) == z));
-        assert_eq!((back, &lent[length..]), (values, &[0xA5; 3][..]));
+/// Values of which none, some or all need more than 16 bits; in some grids one is at the edge of a range, or out of it.
+fn file_values(random: &mut Random, n: usize) -> Vec<i32> {
+    let scale = [32_768, 40_000, 1_000_000_001][random.below(3) as usize];
+    let signed = |v: u64, negative: bool| if negative { -(v as i32) } else { v as i32 };
+    let value = |random: &mut Random| if random.below(10) == 0 { MISSING } else { signed(random.below(scale), random.below(2) == 0) };
+    let mut values: Vec<i32> = (0..n).map(|_| value(random)).collect();
+    if random.below(4) == 0 {
+        values[random.below(n as u64) as usize] = EDGES[random.below(EDGES.len() as u64) as usize];
     }
+    values
+}
+
+/// Every answer of write with the buffer after it; every check is met, each before those that come after it, and either width.
+fn written_as_the_reference<W: Way>() {
+    let mut random = Random(1);
+    let (mut numbers, mut widths) = (BTreeSet::new(), BTreeSet::new());
+    for seed in 0..3000 {
+        let mut side = || 3 + random.below(5) as usize;
+        let mut sides = Sides { a: side(), b: side(), c: side() };
+        let (n, allowed) = (size(sides), random.word() as u16);
+        let mut values = file_values(&mut random, n);
+        let full = 7 + sides.c * (3 + 4 * sides.a * sides.b);
+        let mut lent = vec![0xA5; full + 3];
+        if random.below(4) == 0 {
+            lent.truncate(random.below(full as u64) as usize);
+        }
+        match random.below(12) {
+            0 => values.truncate(n - 1),
+            1 => sides.c = [2, 65][random.below(2) as usize],
+            _ => {}
+        }
+        let mut their = lent.clone();
+        let expected = reference::file::write(&theirs(begun(sides, 0)).sides, allowed, &values, &mut their);
+        assert_eq!(write::<W>(sides, allowed, &values, &mut lent), expected, "{seed}");
+        assert_eq!(lent, their, "{seed}");
+        numbers.insert(expected.err().unwrap_or(0));
+        widths.extend(expected.ok().map(|_| lent[8]));
+    }
+    assert_eq!(Vec::from_iter(numbers), [0, 1, 2, 26, 28], "every answer is met");
+    assert_eq!(Vec::from_iter(widths), *b"LW", "either width is met");
 }
 
 #[test]
-fn files_as_the_reference_reads_them() {
-    written_as_read(zipped);
-    written_as_read(indexed);
+fn write_as_the_reference() {
+    written_as_the_reference::<Chunked>();
+    written_as_the_reference::<Indexed>();
 }
 
-/// A file of random layers, seldom with another than the first in front, and of some patches; in most of them something is wrong then.
+/// A file of random layers, narrow and wide ones, seldom with another than the first in front, and of some patches; in most of them something is wrong
+/// then.
 fn random_file(random: &mut Random) -> Vec<u8> {
     let mut side = || 3 + random.below(3) as usize;
     let sides = Sides { a: side(), b: side(), c: side() };
-    let (n, record) = (size(sides), 3 + 2 * sides.a * sides.b);
-    let values: Vec<i16> = (0..n).map(|_| random.word() as i16).collect();
-    let mut file = vec![0; 7 + sides.c * record];
-    write(sides, random.word() as u16, &values, &mut file, zipped).expect("fit sides");
+    let (n, area) = (size(sides), sides.a * sides.b);
+    let mut values = file_values(random, n);
+    let mut widths = vec![4; sides.c];
+    for (width, layer) in widths.iter_mut().zip(values.chunks_exact_mut(area)) {
+        if random.below(2) == 0 {
+            *width = 2;
+            layer.iter_mut().for_each(|v| *v = (*v).clamp(-32_767, 32_767));
+        }
+    }
+    let mut file = grids::file(sides, random.word() as u16, &values, |z| widths[z]);
+    let heads: Vec<usize> = (0..sides.c).map(|z| 7 + widths[..z].iter().map(|width| 3 + width * area).sum::<usize>()).collect();
     if random.below(8) == 0 {
-        file[7..].rotate_left(record * random.below(sides.c as u64) as usize);
+        file[7..].rotate_left(heads[random.below(sides.c as u64) as usize] - 7);
     }
     file.extend(patches(n, random.below(20) as usize));
-    spoil_file(random, &mut file, n, record);
+    spoil_file(random, &mut file, n, &heads);
     file
 }
 
-/// Another length, a patch at the grid's end or just beyond it, or a bit changed: in the header, in a record's head, or anywhere.
-fn spoil_file(random: &mut Random, file: &mut Vec<u8>, n: usize, record: usize) {
+/// Another length, a patch at the grid's end or just beyond it, the mark of the other width, or a bit changed: in the header, in a record's head, or
+/// anywhere.
+fn spoil_file(random: &mut Random, file: &mut Vec<u8>, n: usize, heads: &[usize]) {
     let length = file.len() as u64;
-    match random.below(6) {
+    let head = heads[random.below(heads.len() as u64) as usize];
+    match random.below(7) {
         0 => file.truncate(random.below(length) as usize),
         1 => file.extend(&[0x56, 0x50, 0, 0, 0, 0, 0, 0][..random.below(9) as usize]),
         2 => file.extend(patch(n as u32 - random.below(2) as u32, 1)),
-        3 | 4 => {
-            let head = 7 + record as u64 * random.below(4) + random.below(3);
-            let at = [random.below(7), head, random.below(length)][random.below(3) as usize];
-            file[at.min(length - 1) as usize] ^= 1 << random.below(8);
+        3 => file[head + 1] ^= 0x4C ^ 0x57,
+        4 | 5 => {
+            let at = [random.below(7) as usize, head + random.below(3) as usize, random.below(length) as usize][random.below(3) as usize];
+            file[at] ^= 1 << random.below(8);
         }
         _ => {}
     }
+}
+
+fn read_by<W: Way>(file: &[u8], lent: &[i32]) -> (Result<(grid::Sides, u16), u8>, Vec<i32>) {
+    let mut values = lent.to_vec();
+    let answer = read::<W>(file, &mut values).map(|(sides, allowed)| (theirs(begun(sides, 0)).sides, allowed));
+    (answer, values)
 }
 
 /// Every answer of read with the buffer after it, refused or not.
@@ -201,17 +248,47 @@ fn read_as_the_reference() {
     for seed in 0..20_000 {
         let file = random_file(&mut random);
         let side = |i: usize| usize::from(*file.get(i).unwrap_or(&0));
-        let lent = (Sides { a: side(2), b: side(3), c: side(4) }).voxels().unwrap_or(5) + usize::from(random.below(50) == 0);
-        let mut their = vec![77; lent];
-        let expected = file::read(&file, &mut their, 64);
-        for way in [CHUNKED, INDEXED] {
-            let mut ours = vec![77; lent];
-            let answer = read(&file, &mut ours, &way).map(|(sides, allowed)| (theirs(begun(sides, 0)).sides, allowed));
-            assert_eq!((answer, &ours), (expected, &their), "{seed}: {file:02X?}");
-        }
-        numbers.insert(expected.err().unwrap_or(0));
+        let voxels = (Sides { a: side(2), b: side(3), c: side(4) }).voxels().unwrap_or(5);
+        let lent = vec![77; voxels + usize::from(random.below(50) == 0)];
+        let mut their = lent.clone();
+        let expected = (reference::file::read(&file, &mut their, 64), their);
+        assert_eq!(read_by::<Chunked>(&file, &lent), expected, "{seed}: {file:02X?}");
+        assert_eq!(read_by::<Indexed>(&file, &lent), expected, "{seed}: {file:02X?}");
+        numbers.insert(expected.0.err().unwrap_or(0));
     }
-    assert_eq!(Vec::from_iter(numbers), [0, 1, 2, 5, 21, 22, 23, 24, 27], "every answer is met");
+    assert_eq!(Vec::from_iter(numbers), [0, 1, 2, 5, 21, 22, 23, 24, 27, 28], "every answer is met");
+}
+
+/// What an archive with 16 bits a value is lent, and what is taken back from it.
+#[test]
+fn values_in_16_bits_and_back() {
+    let wide = vec![-32_767, -1, 0, 32_767, MISSING];
+    let mut values = Values::from(wide.clone());
+    assert_eq!(i16::lent(&values), [-32_767, -1, 0, 32_767, i16::MIN]);
+    values.wide.fill(7);
+    i32::take_back(&mut values);
+    assert_eq!(values.wide, [7; 5]);
+    i16::take_back(&mut values);
+    assert_eq!(values.wide, wide);
+    for beyond in [-32_768, 32_768, i32::MAX] {
+        assert!(i16::lent(&vec![0, beyond].into()).is_empty(), "16 bits do not hold {beyond}");
+    }
+}
+
+/// The grids that are measured: 16 bits hold the values, and do not where they are lengthened.
+#[test]
+fn measured_grids_narrow_and_wide() {
+    for shape in Shape::ALL {
+        let sides = Sides { a: 9, b: 8, c: 7 };
+        let narrow = values(sides, shape);
+        let long = lengthened(&narrow);
+        assert!(!i16::lent(&narrow.clone().into()).is_empty() && i16::lent(&long.clone().into()).is_empty(), "{}", shape.name());
+        for (values, width) in [(&narrow, 2), (&long, 4)] {
+            let mut file = vec![0; 7 + sides.c * (3 + width * sides.a * sides.b)];
+            assert_eq!(write::<Chunked>(sides, 5, values, &mut file), Ok(file.len()));
+            assert_eq!(file, grids::file(sides, 5, values, |_| width));
+        }
+    }
 }
 
 #[test]

@@ -7,7 +7,12 @@ use std::collections::BinaryHeap;
 
 pub struct Tuned;
 
-fn negative(value: i16) -> bool {
+/// Neither -1,000,000,000 to 1,000,000,000 nor missing.
+fn stray(value: i32) -> bool {
+    (value.wrapping_add(1_000_000_000) as u32 > 2_000_000_000) & (value != MISSING)
+}
+
+fn negative(value: i32) -> bool {
     (value < 0) & (value != MISSING)
 }
 
@@ -83,12 +88,12 @@ fn sweep_slabs(d: &mut [u8], width: usize) {
     }
 }
 
-fn fill_distances(values: &[i16], steps: &[u8], dist: &mut [i32]) {
+fn fill_distances(values: &[i32], steps: &[u8], dist: &mut [i32]) {
     let m = values.iter().zip(steps).fold(1, |m, (&v, &d)| m.max(if d == 1 { v } else { 1 }));
     for ((out, &value), &d) in dist.iter_mut().zip(values).zip(steps) {
         let own = (d == 0) | (d == 1) & (value >= 0);
-        let far = i32::from(m) + if d == 1 { 0 } else { i32::from(d) };
-        *out = if own { i32::from(value) } else { far };
+        let far = m + if d == 1 { 0 } else { i32::from(d) };
+        *out = if own { value } else { far };
     }
 }
 
@@ -192,13 +197,17 @@ fn foremost(sides: Sides, dist: &[i32], status: &[u8]) -> u64 {
 
 impl Machine for Tuned {
     const NAME: &'static str = "(b) tuned Rust";
+    type Value = i32;
 
-    fn begin(sides: Sides, allowed: u16, values: &[i16], dist: &mut [i32], status: &mut [u8]) -> Result<Record, Refused> {
+    fn begin(sides: Sides, allowed: u16, values: &[i32], dist: &mut [i32], status: &mut [u8]) -> Result<Record, Refused> {
         let Some(n) = sides.voxels() else { return Err(1) };
         if values.len() != n || dist.len() != n || status.len() != n {
             return Err(2);
         }
-        let any = |part: &[i16]| part.iter().fold(false, |any, &v| any | negative(v));
+        if values.iter().fold(false, |any, &v| any | stray(v)) {
+            return Err(28);
+        }
+        let any = |part: &[i32]| part.iter().fold(false, |any, &v| any | negative(v));
         let mut outer_negative = false;
         rows(sides, |at, outer| {
             let row = &values[at..at + sides.a];

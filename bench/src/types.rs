@@ -1,5 +1,7 @@
 //! What crosses between the harness and an implementation of the rules: the wrapper's own types, so that the C interface is declared once.
 
+use std::hint::black_box;
+use wattlerugby::{widened, NARROW_MISSING};
 pub use wattlerugby::{Carved, LocalTest as Local, Opened, Record, Sides, Taken, MISSING};
 
 /// n, also where a side is not fit.
@@ -24,10 +26,89 @@ pub fn counts_fit(record: &Record) -> bool {
 /// A refusal's number.
 pub type Refused = u8;
 
+/// A grid's values as the calls are lent them. An archive from before document 02's CR 5 has 16 bits a value in its interface: the copy for it is
+/// made, and what it fills in is taken back, outside of all that is timed or counted.
+#[derive(Clone, Debug, Default)]
+pub struct Values {
+    pub wide: Vec<i32>,
+    /// None where one of them needs more than 16 bits.
+    narrow: Vec<i16>,
+}
+
+/// The value in 16 bits, where it is measured in the narrow range or missing.
+pub fn narrowed(value: i32) -> Option<i16> {
+    match value {
+        MISSING => Some(NARROW_MISSING),
+        _ => i16::try_from(value).ok().filter(|&v| v != NARROW_MISSING),
+    }
+}
+
+impl From<Vec<i32>> for Values {
+    fn from(wide: Vec<i32>) -> Self {
+        let narrow: Option<Vec<i16>> = wide.iter().map(|&v| narrowed(v)).collect();
+        Values { wide, narrow: narrow.unwrap_or_default() }
+    }
+}
+
+impl Values {
+    pub fn set(&mut self, from: &Values) {
+        self.wide.copy_from_slice(&from.wide);
+        self.narrow.copy_from_slice(&from.narrow);
+    }
+
+    /// Reads both, so that no implementation finds its own colder than another does.
+    pub fn warm(&self) {
+        black_box(self.wide.iter().fold(0, |all, v| all ^ v));
+        black_box(self.narrow.iter().fold(0, |all, v| all ^ v));
+    }
+}
+
+/// By the values themselves, whichever of the two a call was lent.
+impl PartialEq for Values {
+    fn eq(&self, other: &Self) -> bool {
+        self.wide == other.wide
+    }
+}
+
+/// A value in the interface of an implementation.
+pub trait Value: Copy {
+    fn lent(values: &Values) -> &[Self];
+    fn lent_to_fill(values: &mut Values) -> &mut [Self];
+    /// Takes back what a call filled in, so that it can be compared.
+    fn take_back(values: &mut Values);
+}
+
+impl Value for i32 {
+    fn lent(values: &Values) -> &[i32] {
+        &values.wide
+    }
+
+    fn lent_to_fill(values: &mut Values) -> &mut [i32] {
+        &mut values.wide
+    }
+
+    fn take_back(_: &mut Values) {}
+}
+
+impl Value for i16 {
+    fn lent(values: &Values) -> &[i16] {
+        &values.narrow
+    }
+
+    fn lent_to_fill(values: &mut Values) -> &mut [i16] {
+        &mut values.narrow
+    }
+
+    fn take_back(values: &mut Values) {
+        values.wide.iter_mut().zip(&values.narrow).for_each(|(wide, &narrow)| *wide = widened(narrow));
+    }
+}
+
 /// The five calls of the carving machine.
 pub trait Machine {
     const NAME: &'static str;
-    fn begin(sides: Sides, allowed: u16, values: &[i16], dist: &mut [i32], status: &mut [u8]) -> Result<Record, Refused>;
+    type Value: Value;
+    fn begin(sides: Sides, allowed: u16, values: &[Self::Value], dist: &mut [i32], status: &mut [u8]) -> Result<Record, Refused>;
     fn carve(given: Record, dist: &[i32], status: &mut [u8], limit: u32) -> Result<Carved, Refused>;
     fn take(given: Record, dist: &[i32], status: &mut [u8], index: usize) -> Result<Taken, Refused>;
     fn open(given: Record, dist: &[i32], status: &mut [u8]) -> Result<Opened, Refused>;
