@@ -120,9 +120,8 @@ fn measure(word: &str, sheets: Vec<Sheet>, all: Vec<Contestant>, lacking: fn(&Sh
     let [.., narrow, wide] = &times[..] else { return Vec::new() };
     let ratio = |k: usize| wide[k] / narrow[k];
     println!("\nWide to narrow on {}: ours {:.2}, (a) {:.2}, by index {:.2}.", named(LARGEST), ratio(0), ratio(1), ratio(2));
-    let asked =
-        |(sheet, times): (&Sheet, &Vec<f64>)| Demand(format!("{word}, {}, ours/a loop by index", sheet.title), times[0] / times[2], 1.3);
-    sheets.iter().zip(&times).map(asked).collect()
+    let by_index = |sheet: &Sheet| format!("{}, {}, ours/a loop by index", word.to_lowercase(), sheet.title);
+    sheets.iter().zip(&times).map(|(sheet, times)| Demand(by_index(sheet), times[0] / times[2], 1.3)).collect()
 }
 
 /// The smallest and the largest cube, each with its written form, then the largest once more, with wide layers.
