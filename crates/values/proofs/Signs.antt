@@ -1,43 +1,62 @@
 -- Tests of a signed value: of the machine's bits, and of the number.
 use mathlib.Core.Path.{_≡_, refl, sym, ap, ap₂, _∙_}
 use mathlib.Core.Logic.{⊎-elim}
-use mathlib.Core.Bool.{Bool, true, false, not, cond, _&&_}
-use Prim.Native.Nat.{ℕ, zero, suc, _+_, _^_, _≤_, _<_, max}
+use mathlib.Core.Bool.{Bool, true, false, not, cond, _&&_, _||_}
+use Prim.Native.Nat.{ℕ, zero, suc, _+_, _-_, _^_, _≤_, _<_, max}
 use native.Mathlib.Omega.{arith}
-use borrow.Author.Tests.{ltb-true, ltb-false, le-ltb, eq-eqb, eqb-true}
+use borrow.Author.Tests.{ltb-true, ltb-false, le-ltb, eq-eqb, ne-eqb, eqb-true}
 use lib.IntN.{ℤ, pos, negsuc}
-use lib.Signed.{ltZ, mag}
-use lib.Dec.{eqb, leb, ltb}
+use lib.Signed.{ltZ, leZ, mag}
+use lib.Dec.{eqb, ltb}
 use mir.Syntax.{w32}
 use mir.Val.{SFits, toZ, ofZ}
-use mir.Facts.{toZ-ofZ, toZ-pos}
-use Rattle.prelude.proofs.Bools.{two, and-zero, both-ways}
+use mir.Facts.{toZ-ofZ, toZ-pos, toZ-neg}
+use Rattle.prelude.proofs.Bools.{two, and-zero, and-one, or-zero, both-ways}
 use Rattle.prelude.proofs.Signs.{below, not-below}
 use Rattle.rules.specs.Value.{isMissing, beyond, stray, measuredNegative, measuredNonNegative, amount}
 use Rattle.rules.proofs.LongRange.{amount-high}
 use Rattle.values.specs.Values.{workedTo}
 
+-- the missing mark by its bits
+mark-bits : (n : ℕ) → SFits w32 (negsuc n) → eqb (ofZ w32 (negsuc n)) 2147483648 ≡ eqb n 2147483647
+mark-bits n h =
+    both-ways (eqb (ofZ w32 (negsuc n)) 2147483648) (eqb n 2147483647)
+    (λ e. eq-eqb n 2147483647 (ap mag (sym (toZ-ofZ h) ∙ ap (toZ w32) (eqb-true (ofZ w32 (negsuc n)) 2147483648 e))))
+    (λ e. eq-eqb (ofZ w32 (negsuc n)) 2147483648 (ap (λ (x : ℕ). ofZ w32 (negsuc x)) (eqb-true n 2147483647 e)))
+
 negative-is : (z : ℤ) → SFits w32 z → (ltZ z (pos 0) && not (eqb (ofZ w32 z) 2147483648)) ≡ measuredNegative z
 unfolding measuredNegative isMissing
 negative-is (pos n) h = ap (λ (t : Bool). t && not (eqb n 2147483648)) (le-ltb n 0 (omega arith))
-negative-is (negsuc n) h =
-    ap not
-    (both-ways (eqb (ofZ w32 (negsuc n)) 2147483648) (eqb n 2147483647)
-    (λ e. eq-eqb n 2147483647 (ap mag (sym (toZ-ofZ h) ∙ ap (toZ w32) (eqb-true (ofZ w32 (negsuc n)) 2147483648 e))))
-    (λ e. eq-eqb (ofZ w32 (negsuc n)) 2147483648 (ap (λ (x : ℕ). ofZ w32 (negsuc x)) (eqb-true n 2147483647 e))))
+negative-is (negsuc n) h = ap not (mark-bits n h)
 
 pub negative-test : (z : ℤ) → SFits w32 z → (ltZ (toZ w32 (ofZ w32 z)) (pos 0) && not (eqb (ofZ w32 z) 2147483648)) ≡ measuredNegative z
 negative-test z h = ap (λ (x : ℤ). ltZ x (pos 0) && not (eqb (ofZ w32 z) 2147483648)) (toZ-ofZ h) ∙ negative-is z h
 
--- ---- number 28, below 0 and from 0 on
+-- ---- number 28: of a number and its complement, the one that is not negative is held against the bound
 
-pub beyond-below : (bound : ℕ) (z : ℤ) → ltZ z (pos 0) ≡ true → (leb bound (mag z) && not (eqb (mag z) 2147483647)) ≡ beyond bound z
+-- of high, a number, its complement and its bits
+abbrev tested : ℤ → ℤ → ℤ → ℕ → Bool
+tested high v w bits = (ltZ high v || leZ high w) && not (eqb bits 2147483648)
+
+complement : (n : ℕ) → n < 2 ^ 31 → toZ w32 (4294967295 - n) ≡ negsuc n
+complement n l = let e : 4294967295 - n ≡ 4294967296 - suc n = omega arith in ap (toZ w32) e ∙ toZ-neg w32 n l
+
+complement-back : (n : ℕ) → n < 2 ^ 31 → toZ w32 (4294967295 - ofZ w32 (negsuc n)) ≡ pos n
+complement-back n l = let e : 4294967295 - (4294967296 - suc n) ≡ n = omega arith in ap (toZ w32) e ∙ toZ-pos w32 l
+
+beyond-is : (bound : ℕ) (z : ℤ) → SFits w32 z → tested (pos bound) z (toZ w32 (4294967295 - ofZ w32 z)) (ofZ w32 z) ≡ beyond bound z
 unfolding beyond isMissing
-beyond-below bound z e = sym (ap (beyond bound) (below z e))
+beyond-is bound (pos n) h =
+    ap₂ (λ (w : ℤ) (t : Bool). (ltb bound n || leZ (pos bound) w) && not t) (complement n (h .sfits))
+    (ne-eqb n 2147483648 (λ e. let l : n < 2 ^ 31 = h .sfits in let z : ⊥ = omega arith in z))
+    ∙ and-one (ltb bound n || false)
+    ∙ or-zero (ltb bound n)
+beyond-is bound (negsuc n) h = ap₂ (λ (w : ℤ) (t : Bool). leZ (pos bound) w && not t) (complement-back n (h .sfits)) (mark-bits n h)
 
-pub beyond-above : (bound : ℕ) (z : ℤ) → ltZ z (pos 0) ≡ false → ltb bound (mag z) ≡ beyond bound z
-unfolding beyond
-beyond-above bound z e = sym (ap (beyond bound) (not-below z e))
+pub beyond-test : (bound : ℕ) (z : ℤ) → bound < 2147483648 → SFits w32 z
+    → tested (toZ w32 bound) (toZ w32 (ofZ w32 z)) (toZ w32 (4294967295 - ofZ w32 z)) (ofZ w32 z) ≡ beyond bound z
+beyond-test bound z l h =
+    ap₂ (λ (high v : ℤ). tested high v (toZ w32 (4294967295 - ofZ w32 z)) (ofZ w32 z)) (toZ-pos w32 l) (toZ-ofZ h) ∙ beyond-is bound z h
 
 -- ---- M
 

@@ -1,7 +1,7 @@
 // What a measured value means, and the scans of the values: labels, M, the worked distances. Signed numbers stop here.
 ghost use mathlib.Core.Path.{_≡_};
 ghost use mathlib.Core.Bool.{false, cond};
-ghost use Prim.Native.Nat.{_≤_};
+ghost use Prim.Native.Nat.{_≤_, _<_};
 ghost use lib.Dec.{eqb};
 ghost use lib.IntN.{pos};
 ghost use lib.Signed.{ltZ};
@@ -12,17 +12,16 @@ ghost use Rattle.values.specs.Values.{labelsOf, greatestBy, workedTo, wo
 
 // Measured, and not from -bound to bound.
 pub fn beyond(v: i32, bound: u32) -> bool
+    requires { ⌜ bound < 2147483648 ⌝ }
     ensures { λ r. ⌜ r ≡ beyondOf bound v ⌝ }
 {
-    if v < 0 {
-        let m = (!v) as u32;
-        return (bound <= m) & (m != 2147483647);
-    }
-    bound < v as u32
+    let high = bound as i32;
+    ((high < v) | (high <= !v)) & (v != -2147483648)
 }
 
 // Whether some value is.
 pub fn any_beyond(values: &[i32], bound: u32) -> bool
+    requires { ⌜ bound < 2147483648 ⌝ }
     ensures { λ r. ⌜ r ≡ any (beyondOf bound) (now (values .entry)) ⌝ }
 {
     let mut found = false;

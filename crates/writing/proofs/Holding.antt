@@ -51,3 +51,12 @@ held values known = go (any (beyond 32767) values) refl
     go : (t : Bool) → any (beyond 32767) values ≡ t → Held (cond t 4 2) values
     go true e = record { two-or-four = inr refl; each = none-beyond 1000000000 2147483647 (omega arith) values known }
     go false e = record { two-or-four = inl refl; each = e }
+
+-- a grid that is written narrow has no stray value
+pub narrow-known : (values : List ℤ) → widthFor values ≡ 2 → any stray values ≡ false
+unfolding widthFor
+narrow-known values e = go (any (beyond 32767) values) refl e
+  where
+    go : (t : Bool) → any (beyond 32767) values ≡ t → _≡_ {A = ℕ} (cond t 4 2) 2 → any stray values ≡ false
+    go true f w = let z : ⊥ = omega arith in absurd z
+    go false f w = none-beyond 32767 1000000000 (omega arith) values f

@@ -57,7 +57,7 @@ module _ {s : Sides} {T : ℕ} {values : List ℤ} (w : Writable s T values) whe
   -- ---- the next record
 
   module _ {file : List ℕ} {z left : ℕ} (r : Ahead s width values file z (suc left)) where
-    pub z-below : z < s .c
+    z-below : z < s .c
     z-below = omega arith
 
     abbrev start : ℕ
@@ -85,7 +85,7 @@ module _ {s : Sides} {T : ℕ} {values : List ℤ} (w : Writable s T values) whe
     length-ahead : recordLength s file start ≡ layerLength s width
     length-ahead = ap (layerLength s) width-ahead
 
-    pub z-ahead : zAt file start ≡ z
+    z-ahead : zAt file start ≡ z
     z-ahead = byte-ahead 2
 
     pub ahead-next : Ahead s width values file (suc z) left

@@ -123,8 +123,9 @@ fn write_file(sides: Sides, allowed: u16, width: usize, values: &[i32], file: &m
 
 // ---- write
 
-// The number that a grid is refused with, whatever the buffer, or 0.
-fn grid_refusal(sides: Sides, values: &[i32]) -> u8
+// The number that a grid is refused with, whatever the buffer, or 0. Where the values fit two bytes, none is out of the range.
+fn grid_refusal(sides: Sides, values: &[i32], width: usize) -> u8
+    requires { ⌜ width ≡ widthFor (now values) ⌝ }
     ensures { λ r. ⌜ r ≡ firstFailing (gridChecks sides (now (values .entry))) ⌝ }
 {
     if !sizes::fit_sides(sides) {
@@ -132,6 +133,9 @@ fn grid_refusal(sides: Sides, values: &[i32]) -> u8
     }
     if values.len() != sizes::voxel_count(sides) {
         return 2;
+    }
+    if width == 2 {
+        return 0;
     }
     if values::any_beyond(values, 1000000000) {
         return 28;
@@ -142,11 +146,11 @@ fn grid_refusal(sides: Sides, values: &[i32]) -> u8
 pub fn write(sides: Sides, allowed: u16, values: &[i32], file: &mut [u8]) -> WriteAnswer
     ensures { λ r. ⌜ outcome (writeAnswer r) (now (file .exit)) ≡ spec.write sides allowed (now (values .entry)) (now (file .entry)) ⌝ }
 {
-    let n = grid_refusal(sides, values);
+    let width = width_for(values);
+    let n = grid_refusal(sides, values, width);
     if n != 0 {
         return WriteAnswer::Refused(n);
     }
-    let width = width_for(values);
     let length = written_length(sides, width);
     if file.len() < length {
         return WriteAnswer::Refused(26);

@@ -106,7 +106,8 @@ loop-again c =
     let t = c .before .before .before .before .before in
     let l = t .before .before in
     let e = l .before .before .area .ensures .0 in
-    laid-next _ _ _ _ _ _ _ (l .loop .inv) _ _ _ (t .if1 .taken) (below t) e (l .before .layer-length .ensures .0) _ (c .before .before .write-layer .ensures)
+    laid-next _ _ _ _ _ _ _ (l .loop .inv) _ _ _ (t .if1 .taken) (omega (arith, below t)) e (l .before .layer-length .ensures .0) _
+    (c .before .before .write-layer .ensures)
 
 same-length : tie.Need-same-length Inv-loop μ-loop
 same-length c = laid-long _ _ _ _ _ _ _ (c .before .before .loop .inv)
