@@ -157,8 +157,8 @@ pub fn of_layer(sides: &Sides, bytes: &[u8], start: u64) -> Vec<String> {
     let Some(start) = usize::try_from(start).ok().filter(|_| sides.fit()) else { return Vec::new() };
     let record = LayerRecord::at(bytes, start, (sides.a * sides.b) as usize);
     let wide = record.width == WIDE;
-    let before = parts(bytes, sides).0.into_iter().filter(|record| record.start < start);
-    let behind_wide = before.last().is_some_and(|last| last.width == WIDE && last.start + last.length == start);
+    let mut before = parts(bytes, sides).0.into_iter().filter(|record| record.start < start);
+    let behind_wide = before.next_back().is_some_and(|last| last.width == WIDE && last.start + last.length == start);
     let wrong = || record.values().any(|v| out_of_range(v).is_some());
     chosen(&[
         (wide, "readlayer: a wide layer"),

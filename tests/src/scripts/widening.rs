@@ -558,7 +558,7 @@ fn at_the_edge() -> String {
 fn one_wide_layer() -> String {
     let mut text = "# one layer that needs four bytes\n".to_string();
     for wide in 0..4 {
-        let values: Vec<i32> = (0..48).map(|i| if i / 12 == wide { 1_000_003 * (i as i32 - 20) } else { 7 - i as i32 }).collect();
+        let values: Vec<i32> = (0..48).map(|i| if i / 12 == wide { 1_000_003 * (i - 20) } else { 7 - i }).collect();
         text += &set([4, 3, 4], 770, &values);
         text += &[length([4, 3, 4], NARROW), 4096].map(|lent| format!("write {lent}\n")).concat();
         text += &written_and_read([4, 3, 4], &values);
