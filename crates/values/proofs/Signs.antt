@@ -12,7 +12,7 @@ use mir.Syntax.{w32}
 use mir.Val.{SFits, toZ, ofZ}
 use mir.Facts.{toZ-ofZ, toZ-pos, toZ-neg}
 use Rattle.prelude.proofs.Bools.{two, and-zero, and-one, or-zero, both-ways}
-use Rattle.prelude.proofs.Signs.{below, not-below}
+use Rattle.prelude.proofs.Signs.{below, not-below, turned}
 use Rattle.rules.specs.Value.{isMissing, beyond, stray, measuredNegative, measuredNonNegative, amount}
 use Rattle.rules.proofs.LongRange.{amount-high}
 use Rattle.values.specs.Values.{workedTo}
@@ -41,9 +41,6 @@ tested high v w bits = (ltZ high v || leZ high w) && not (eqb bits 2147483648)
 complement : (n : ℕ) → n < 2 ^ 31 → toZ w32 (4294967295 - n) ≡ negsuc n
 complement n l = let e : 4294967295 - n ≡ 4294967296 - suc n = omega arith in ap (toZ w32) e ∙ toZ-neg w32 n l
 
-complement-back : (n : ℕ) → n < 2 ^ 31 → toZ w32 (4294967295 - ofZ w32 (negsuc n)) ≡ pos n
-complement-back n l = let e : 4294967295 - (4294967296 - suc n) ≡ n = omega arith in ap (toZ w32) e ∙ toZ-pos w32 l
-
 beyond-is : (bound : ℕ) (z : ℤ) → SFits w32 z → tested (pos bound) z (toZ w32 (4294967295 - ofZ w32 z)) (ofZ w32 z) ≡ beyond bound z
 unfolding beyond isMissing
 beyond-is bound (pos n) h =
@@ -51,7 +48,7 @@ beyond-is bound (pos n) h =
     (ne-eqb n 2147483648 (λ e. let l : n < 2 ^ 31 = h .sfits in let z : ⊥ = omega arith in z))
     ∙ and-one (ltb bound n || false)
     ∙ or-zero (ltb bound n)
-beyond-is bound (negsuc n) h = ap₂ (λ (w : ℤ) (t : Bool). leZ (pos bound) w && not t) (complement-back n (h .sfits)) (mark-bits n h)
+beyond-is bound (negsuc n) h = ap₂ (λ (w : ℤ) (t : Bool). leZ (pos bound) w && not t) (turned (negsuc n) h (ap (λ (v : ℤ). ltZ v (pos 0)) (toZ-ofZ h))) (mark-bits n h)
 
 pub beyond-test : (bound : ℕ) (z : ℤ) → bound < 2147483648 → SFits w32 z
     → tested (toZ w32 bound) (toZ w32 (ofZ w32 z)) (toZ w32 (4294967295 - ofZ w32 z)) (ofZ w32 z) ≡ beyond bound z
@@ -60,25 +57,25 @@ beyond-test bound z l h =
 
 -- ---- M
 
--- M with one voxel more: the greater of M so far and the voxel's value, or 1 where it does not count
-pub greater-is : (g : ℕ) (v : ℤ) (t : Bool) → 1 ≤ g
-    → cond (ltZ (pos g) (cond t v (pos 1))) (cond t v (pos 1)) (pos g) ≡ pos (cond (measuredNonNegative v && t) (max (amount v) g) g)
+-- M with one voxel more: the greater of M so far and the voxel's value, or 0 where it does not count
+greater-is : (g : ℕ) (v : ℤ) (t : Bool)
+    → cond (ltZ (pos g) (cond t v (pos 0))) (cond t v (pos 0)) (pos g) ≡ pos (cond (measuredNonNegative v && t) (max (amount v) g) g)
 unfolding measuredNonNegative
-greater-is g v false h = rw (le-ltb g 1 h, and-zero (measuredNonNegative v))
-greater-is g (negsuc n) true h = refl
-greater-is g (pos n) true h =
+greater-is g v false = rw (le-ltb g 0 (omega arith), and-zero (measuredNonNegative v))
+greater-is g (negsuc n) true = refl
+greater-is g (pos n) true =
     ⊎-elim
     (λ e. let l = ltb-true g n e in rw e (ap pos (let q : n ≡ max n g = omega arith in q)))
     (λ e. let l = ltb-false g n e in rw e (ap pos (let q : g ≡ max n g = omega arith in q)))
     (two (ltb g n))
 
 -- the same, where M is at hand as bits
-pub raised : {m : ℕ} (d : ℕ) {r w : ℤ} (v : ℤ) → 1 ≤ m → m ≤ 1000000000 → r ≡ cond (ltZ (toZ w32 m) w) w (toZ w32 m) → w ≡ cond (eqb d 1) v (pos 1)
+pub raised : {m : ℕ} (d : ℕ) {r w : ℤ} (v : ℤ) → m ≤ 1000000000 → r ≡ cond (ltZ (toZ w32 m) w) w (toZ w32 m) → w ≡ cond (eqb d 1) v (pos 0)
     → r ≡ pos (cond (measuredNonNegative v && eqb d 1) (max (amount v) m) m)
-raised {m} d v h l e f =
+raised {m} d v l e f =
     e
     ∙ ap₂ (λ (x y : ℤ). cond (ltZ x y) y x) (toZ-pos w32 (let q : m < 2 ^ 31 = omega arith in q)) f
-    ∙ greater-is m v (eqb d 1) h
+    ∙ greater-is m v (eqb d 1)
 
 -- no value that begin takes makes M greater than the range
 pub in-range : {m : ℕ} (t : Bool) (v : ℤ) → stray v ≡ false → m ≤ 1000000000 → cond t (max (amount v) m) m ≤ 1000000000

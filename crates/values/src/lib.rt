@@ -61,14 +61,14 @@ pub fn labels(status: &mut [u8], values: &[i32])
     }
 }
 
-// The value of a voxel 1 step from S, and 1 of any other.
+// The value of a voxel 1 step from S, and 0 of any other.
 fn beside(v: i32, d: u8) -> i32
-    ensures { λ r. ⌜ r ≡ cond (eqb d 1) v (pos 1) ⌝ }
+    ensures { λ r. ⌜ r ≡ cond (eqb d 1) v (pos 0) ⌝ }
 {
     if d == 1 {
         return v;
     }
-    1
+    0
 }
 
 // The greater of two values. Two selects, and no branch around a store: so a compiler does many voxels at a time.

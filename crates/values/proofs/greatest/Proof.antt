@@ -24,14 +24,14 @@ use Rattle.values.proofs.greatest.Tie as tie
 
 abbrev Inv-loop : tie.InvT-loop
 Inv-loop values d m₀ i₀ m i =
-    (i ≤ length values) × (1 ≤ m) × (m ≤ 1000000000) × (m ≡ greatest 1 (map (λ k. amount (valueAt values k)) (filter (counts values d) (range 0 i))))
+    (i ≤ length values) × (m ≤ 1000000000) × (m ≡ greatest 1 (map (λ k. amount (valueAt values k)) (filter (counts values d) (range 0 i))))
 
 abbrev μ-loop : tie.MeasureT-loop
 μ-loop values d m₀ i₀ m i = length values - i
 
 loop-holds : tie.Need-loop-holds Inv-loop μ-loop
 unfolding range filter greatest
-loop-holds c = (omega arith, omega arith, omega arith, refl)
+loop-holds c = (omega arith, omega arith, refl)
 
 mul-v : tie.Need-mul-v Inv-loop μ-loop
 mul-v c = search needs
@@ -64,32 +64,27 @@ loop-again c =
     let i = l .loop .i in
     let x = valueAt (a .values .now) i in
     let is =
-    raised (getD (a .d .now) i 0) x (l .loop .inv .1) (l .loop .inv .2) (c .greater .ensures)
+    raised (getD (a .d .now) i 0) x (l .loop .inv .1) (c .greater .ensures)
     (toZ-ofZ (sfits-of (w .beside .ok))
     ∙ w .beside .ensures
-    ∙ ap (λ (x : ℤ). cond (eqb (getD (a .d .now) i 0) 1) x (pos 1))
+    ∙ ap (λ (x : ℤ). cond (eqb (getD (a .d .now) i 0) 1) x (pos 0))
     (toZ-ofZ (sfits-of (v .v .given)) ∙ getD-within (a .values .now) i (pos 0) missing (t .loop-test .taken))) in
     let g = counts (a .values .now) (a .d .now) i in
     let e : ofZ w32 (c .greater .result) ≡ cond g (max (amount x) (l .loop .m)) (l .loop .m) = ap (ofZ w32) is in
     let known = none-stray (a .values .now) (l .before .before .pre .1) i in (
       omega (arith, t .loop-test .taken),
-      subst (λ (m : ℕ). 1 ≤ m) (sym e) (at-least g (amount x) (l .loop .inv .1)),
-      subst (λ (m : ℕ). m ≤ 1000000000) (sym e) (in-range g x known (l .loop .inv .2)),
+      subst (λ (m : ℕ). m ≤ 1000000000) (sym e) (in-range g x known (l .loop .inv .1)),
       e
-          ∙ ap (λ (m : ℕ). cond g (max (amount x) m) m) (l .loop .inv .3)
+          ∙ ap (λ (m : ℕ). cond g (max (amount x) m) m) (l .loop .inv .2)
           ∙ sym (greatest-more (λ k. amount (valueAt (a .values .now) k)) (counts (a .values .now) (a .d .now)) 1 i),
     )
-  where
-    at-least : {m : ℕ} (t : Bool) (n : ℕ) → 1 ≤ m → 1 ≤ cond t (max n m) m
-    at-least true n h = omega arith
-    at-least false n h = h
 
 -- M as a number
 number : (c : tie.After-loop Inv-loop μ-loop) → toZ w32 (c .before .loop .m) ≡ pos (c .before .loop .m)
-number c = toZ-pos w32 (omega (arith, c .before .loop .inv .2))
+number c = toZ-pos w32 (omega (arith, c .before .loop .inv .1))
 
 cast-result : tie.Need-cast-result Inv-loop μ-loop
-cast-result c = rw (number c) (tt, record { fits = omega (arith, c .before .loop .inv .2) })
+cast-result c = rw (number c) (tt, record { fits = omega (arith, c .before .loop .inv .1) })
 
 returns : tie.Need-returns Inv-loop μ-loop
 unfolding greatestBy
@@ -98,9 +93,9 @@ returns c =
     let a = l .before .before .args in
     let n : l .loop .i ≡ length (a .values .now) = omega (arith, c .loop-test .left) in
     rw (number c) (
-      l .loop .inv .3 ∙ ap (λ (n : ℕ). greatest 1 (map (λ k. amount (valueAt (a .values .now) k))
+      l .loop .inv .2 ∙ ap (λ (n : ℕ). greatest 1 (map (λ k. amount (valueAt (a .values .now) k))
           (filter (counts (a .values .now) (a .d .now)) (range 0 n)))) n,
-      l .loop .inv .2,
+      l .loop .inv .1,
     )
 
 pub greatest-spec : {M : Type 1} → statement M
