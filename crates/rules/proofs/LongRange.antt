@@ -24,8 +24,7 @@ use Rattle.rules.specs.Machine.{theVoxel, opened, openNext, closed, clos
 use Rattle.rules.specs.Demand.{Call, carveUpTo, takeAt, openOne, finishIt, call, run}
 use Rattle.rules.specs.LongRange.{farthest, WithinRange, StaysWithinRange}
 use Rattle.rules.proofs.Checks.{by-checks}
-use Rattle.rules.proofs.Places.{Fit, fit}
-use Rattle.rules.proofs.InsideLeast.{start-le}
+use Rattle.rules.proofs.Places.{fit}
 use Rattle.rules.proofs.Inside.{inside-members}
 use Rattle.rules.proofs.Fit.{Beginnable}
 use Rattle.rules.proofs.Demand.{handed, by-begin}

@@ -1,7 +1,7 @@
 -- `greatest`: M over the voxels below i.
-use Prim.Native.Nat.{ℕ, _≤_, _<_, _-_, max}
+use Prim.Native.Nat.{ℕ, _≤_, _-_, max}
 use mathlib.Core.Path.{_≡_, refl, sym, _∙_, ap, subst}
-use mathlib.Core.Bool.{Bool, true, false, cond}
+use mathlib.Core.Bool.{cond}
 use mathlib.Core.List.{map}
 use native.Mathlib.Omega.{arith}
 use borrow.Author.Needs.{needs, sfits-of}
