@@ -21,3 +21,12 @@ pub fn now() -> f64 {
     assert_eq!(failed, 0, "the clock answers");
     time.seconds as f64 * 1e9 + time.nanoseconds as f64
 }
+
+/// Nanoseconds from then until now. On a busy virtual machine this clock was seen to stand still over a whole run: that is no time, and no run's
+/// least.
+pub fn since(then: f64) -> f64 {
+    match now() - then {
+        time if time > 0.0 => time,
+        _ => f64::INFINITY,
+    }
+}

@@ -1,6 +1,7 @@
 //! Runs of the calls, timed in turn for each implementation in one process, every answer and buffer matched.
 
 use crate::clock;
+use crate::race::Order;
 use crate::types::{begun, size, Carved, Machine, Opened, Record, Refused, Sides, Taken, Value, Values};
 use std::time::{Duration, Instant};
 
@@ -116,6 +117,7 @@ pub struct Race<'a> {
     run: Run,
     /// The least time of each implementation so far, in ns.
     pub times: Vec<f64>,
+    order: Order,
     state: State,
     log: Log,
     outcome: Option<(Log, State)>,
@@ -124,12 +126,14 @@ pub struct Race<'a> {
 impl<'a> Race<'a> {
     pub fn new(entrants: usize, case: &'a Case, start: &'a State, run: Run) -> Self {
         let log = Log { carved: Vec::with_capacity(1 << 12), opened: Vec::with_capacity(1 << 12), refused: None };
-        Race { case, start, run, times: vec![f64::INFINITY; entrants], state: start.clone(), log, outcome: None }
+        let (times, order) = (vec![f64::INFINITY; entrants], Order::of(entrants));
+        Race { case, start, run, times, order, state: start.clone(), log, outcome: None }
     }
 
     /// Every implementation once; all must answer and leave the same.
     pub fn round(&mut self, all: &[Calls]) {
-        for (calls, least) in all.iter().zip(&mut self.times) {
+        for k in self.order.drawn() {
+            let (calls, least) = (&all[k], &mut self.times[k]);
             self.state.set(self.start);
             self.log.carved.clear();
             self.log.opened.clear();
@@ -137,7 +141,7 @@ impl<'a> Race<'a> {
             self.case.values.warm();
             let from = clock::now();
             (self.run)(calls, self.case, &mut self.state, &mut self.log);
-            *least = least.min(clock::now() - from);
+            *least = least.min(clock::since(from));
             let (answers, after) = self.outcome.get_or_insert_with(|| (self.log.clone(), self.state.clone()));
             assert!(*answers == self.log, "{}: other answers", calls.name);
             assert!(*after == self.state, "{}: other buffers", calls.name);

@@ -6,6 +6,7 @@ use crate::{against_all, named, Demand, GRIDS, LARGEST};
 use bench::contest::{Case, ROUNDS};
 use bench::file::{self, Chunked, Indexed, Way};
 use bench::grids::{self, lengthened, Shape};
+use bench::race::Order;
 use bench::types::{size, Sides, Values};
 use bench::{archive, clock};
 use std::hint::black_box;
@@ -87,15 +88,17 @@ fn race(sheets: &[Sheet], all: &[Contestant], lacking: fn(&Sheet) -> Desk) -> Ve
     let starts: Vec<Desk> = sheets.iter().map(lacking).collect();
     let mut desks: Vec<Desk> = sheets.iter().map(lacking).collect();
     let mut least = vec![vec![f64::INFINITY; all.len()]; sheets.len()];
+    let mut order = Order::of(all.len());
     for _ in 0..5 * ROUNDS {
         for (((sheet, start), desk), least) in sheets.iter().zip(&starts).zip(&mut desks).zip(&mut least) {
             let repeats = VALUES / size(sheet.case.sides);
-            for (contestant, least) in all.iter().zip(least) {
+            for k in order.drawn() {
+                let (contestant, least) = (&all[k], &mut least[k]);
                 desk.values.set(&start.values);
                 desk.file.copy_from_slice(&start.file);
                 let from = clock::now();
                 let taken = (0..repeats).map(|_| black_box((contestant.run)(sheet, black_box(desk)))).last();
-                let time = clock::now() - from;
+                let time = clock::since(from);
                 if taken == Some(true) {
                     *least = least.min(time / (repeats * size(sheet.case.sides)) as f64);
                     (contestant.take_back)(&mut desk.values);

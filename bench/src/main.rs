@@ -265,7 +265,8 @@ fn main() {
     }
     let wanted = |word: &str| words.is_empty() || words.iter().any(|w| w == word);
     println!(
-        "Processor time, least of {ROUNDS} rounds or more, or as told; every implementation once a round, all answers and buffers equal."
+        "Processor time, least of {ROUNDS} rounds or more, or as told; every implementation once a round, in an order drawn anew, all answers and \
+         buffers equal."
     );
     let mut demands = Vec::new();
     let parts: Vec<&Part> = PARTS.iter().filter(|part| wanted(part.word)).collect();

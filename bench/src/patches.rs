@@ -7,6 +7,7 @@ use crate::{against_all, named, GRIDS, LARGEST};
 use bench::clock;
 use bench::contest::{Case, ROUNDS};
 use bench::grids::{patches, Shape};
+use bench::race::Order;
 use bench::types::{size, Sides, Values};
 use std::hint::black_box;
 use wattlerugby::{read, written};
@@ -16,7 +17,7 @@ fn time(reader: &Reader, file: &[u8], wanted: &[i32]) -> f64 {
     let mut values: Values = vec![0x5A5A; wanted.len()].into();
     let from = clock::now();
     let taken = (reader.read)(black_box(file), black_box(&mut values));
-    let time = clock::now() - from;
+    let time = clock::since(from);
     (reader.take_back)(&mut values);
     assert!(taken && values.wide == wanted, "the file is not taken, or other values are read");
     time
@@ -29,8 +30,10 @@ fn race(case: &Case, all: &[Reader]) -> Vec<f64> {
     let mut corrected = case.values.wide.clone();
     read(&file, &mut corrected).expect("the file is taken");
     let mut least = vec![(f64::INFINITY, f64::INFINITY); all.len()];
+    let mut order = Order::of(all.len());
     for _ in 0..5 * ROUNDS {
-        for (reader, (whole, part)) in all.iter().zip(&mut least) {
+        for k in order.drawn() {
+            let (reader, (whole, part)) = (&all[k], &mut least[k]);
             *whole = whole.min(time(reader, &file, &corrected));
             *part = part.min(time(reader, &layers, &case.values.wide));
         }

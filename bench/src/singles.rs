@@ -4,9 +4,9 @@ use crate::{after, named, ratio_to, with_ratio, GRIDS, LARGEST};
 use bench::archive::Others;
 use bench::contest::{begin, carve, Calls, Case, Log, State, ROUNDS};
 use bench::grids::{self, lengthened, patches, Shape};
+use bench::race::Order;
 use bench::types::{size, Sides, Values};
 use bench::{archive, clock};
-use wattlerugby::written;
 
 /// Patches in a file that has many.
 pub const PATCHES: usize = 100_000;
@@ -56,9 +56,9 @@ impl Scene {
         }
         finished.record.finished = true;
         let at: Vec<usize> = (0..3 * size(case.sides)).filter(|&p| crosses(case.sides, &finished.dist, p)).collect();
-        let file = written(case.sides, case.allowed, &case.values.wide).expect("a grid that can be written");
+        // not by the archive, whose calls are counted
+        let [file, wide] = [2, 4].map(|width| grids::file(case.sides, case.allowed, &case.values.wide, |_| width));
         let patched = [&file[..], &patches(size(case.sides), PATCHES)].concat();
-        let wide = grids::file(case.sides, case.allowed, &case.values.wide, |_| 4);
         let long = lengthened(&case.values.wide).into();
         Scene { begun, carved, finished, file, patched, wide, long, crossing: at[at.len() / 2], crossings: at.len(), case }
     }
@@ -242,16 +242,17 @@ impl Single {
         // what only reads is repeated, so that the clock's own time counts for little
         let repeats = if self.only_reads { ((1 << 17) / size(scene.case.sides)).clamp(1, 32) } else { 1 };
         let mut least = vec![f64::INFINITY; all.len()];
-        let mut outcome = None;
+        let (mut outcome, mut order) = (None, Order::of(all.len()));
         for _ in 0..5 * ROUNDS {
-            for (archive, least) in all.iter().zip(&mut least) {
+            for k in order.drawn() {
+                let (archive, least) = (&all[k], &mut least[k]);
                 desk.state.set(&clean.state);
                 desk.values.set(&clean.values);
                 scene.case.values.warm();
                 let from = clock::now();
                 let answers: Vec<_> = (0..repeats).map(|_| (self.run)(archive, scene, &mut desk)).collect();
                 let Some(answer) = answers[0] else { continue };
-                *least = least.min((clock::now() - from) / repeats as f64 / 1e3);
+                *least = least.min(clock::since(from) / repeats as f64 / 1e3);
                 (archive.others.take_back)(&mut desk.values);
                 let (wanted, after) = outcome.get_or_insert_with(|| (answer, desk.clone()));
                 assert!(*wanted == answer && *after == desk, "{}: another answer or other buffers in {}", archive.calls.name, self.word);
