@@ -1,11 +1,13 @@
 //! The archive of another commit, where WATTLERUGBY_BEFORE names its folder: a copy with every name prefixed, so that one program holds both
 //! and times them in the same rounds. WATTLERUGBY_BEFORE_BITS says how many bits a value has in its interface, which it does not tell: 32, or 16
-//! before document 02's CR 5.
+//! before document 02's CR 5. WATTLERUGBY_SHIFT is for main.rs.
 
 use std::path::{Path, PathBuf};
 use std::process::Command;
 
 fn main() {
+    println!("cargo:rerun-if-env-changed=WATTLERUGBY_SHIFT");
+    println!("cargo:rustc-env=SHIFT={}", std::env::var("WATTLERUGBY_SHIFT").unwrap_or_else(|_| "0".into()));
     println!("cargo:rerun-if-env-changed=WATTLERUGBY_BEFORE");
     println!("cargo:rerun-if-env-changed=WATTLERUGBY_BEFORE_BITS");
     println!("cargo:rustc-check-cfg=cfg(before, before_16, before_points, before_write)");

@@ -16,6 +16,7 @@ use bench::plain::Plain;
 use bench::tuned::Tuned;
 use bench::types::{size, Sides, Values};
 use singles::Took;
+use std::hint::black_box;
 
 const GRIDS: [Sides; 5] = [
     Sides { a: 16, b: 16, c: 16 },
@@ -253,7 +254,16 @@ fn once(word: &str, shape: &str, side: &str, before: bool) {
     println!("{} {}", size(case.sides), log.examined());
 }
 
+// So many bytes stand in front of the code of both archives. Begin took up to a fifth more where its inner loop lay across two lines of the cache,
+// and where each archive's lies is the linker's chance: four builds that are 16 bytes apart have every placement.
+std::arch::global_asm!(".section .text.shift, \"ax\"", ".globl shift", "shift:", concat!(".skip ", env!("SHIFT")), ".text");
+
+extern "C" {
+    fn shift();
+}
+
 fn main() {
+    black_box(shift as *const ());
     let words: Vec<String> = std::env::args().skip(1).collect();
     let given: Vec<&str> = words.iter().map(String::as_str).collect();
     #[cfg(before)]
