@@ -48,7 +48,8 @@ beyond-is bound (pos n) h =
     (ne-eqb n 2147483648 (λ e. let l : n < 2 ^ 31 = h .sfits in let z : ⊥ = omega arith in z))
     ∙ and-one (ltb bound n || false)
     ∙ or-zero (ltb bound n)
-beyond-is bound (negsuc n) h = ap₂ (λ (w : ℤ) (t : Bool). leZ (pos bound) w && not t) (turned (negsuc n) h (ap (λ (v : ℤ). ltZ v (pos 0)) (toZ-ofZ h))) (mark-bits n h)
+beyond-is bound (negsuc n) h =
+    ap₂ (λ (w : ℤ) (t : Bool). leZ (pos bound) w && not t) (turned (negsuc n) h (ap (λ (v : ℤ). ltZ v (pos 0)) (toZ-ofZ h))) (mark-bits n h)
 
 pub beyond-test : (bound : ℕ) (z : ℤ) → bound < 2147483648 → SFits w32 z
     → tested (toZ w32 bound) (toZ w32 (ofZ w32 z)) (toZ w32 (4294967295 - ofZ w32 z)) (ofZ w32 z) ≡ beyond bound z
