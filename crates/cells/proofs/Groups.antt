@@ -218,10 +218,10 @@ module _ {A : Type 0} (joined : A → A → Bool) (turn : (x y : A) → joined x
   at-joined (g ∷ gs) o (suc i) zero x y a b h = absurd (o .1 y x i b a (turn x y h))
   at-joined (g ∷ gs) o (suc i) (suc j) x y a b h = ap suc (at-joined gs (o .2) i j x y a b h)
 
--- ---- the groups of a list whose elements are the members, for what is joined both ways and to itself
+-- ---- the groups of a list whose elements are the members, for what is joined both ways
 
-module _ {A : Type 0} (joined : A → A → Bool) (turn : (x y : A) → joined x y ≡ true → joined y x ≡ true) (self : (x : A) → joined x x ≡ true)
-    (member : A → Bool) (xs : List A) (are : (x : A) → Mem x xs → member x ≡ true) (all : (x : A) → member x ≡ true → Mem x xs) where
+module _ {A : Type 0} (joined : A → A → Bool) (turn : (x y : A) → joined x y ≡ true → joined y x ≡ true) (member : A → Bool) (xs : List A)
+    (are : (x : A) → Mem x xs → member x ≡ true) (all : (x : A) → member x ≡ true → Mem x xs) where
   good : Good joined turn member (groups joined xs)
   unfolding groups
   good = gather-good joined turn member xs [] are tt
@@ -241,18 +241,11 @@ module _ {A : Type 0} (joined : A → A → Bool) (turn : (x y : A) → joined x
   pub group-joined : (i j : ℕ) (x y : A) → At (groups joined xs) i x → At (groups joined xs) j y → joined x y ≡ true → i ≡ j
   group-joined i j x y a b h = at-joined joined turn member (groups joined xs) good i j x y a b h
 
-  -- an element is in one group only
-  pub group-same : (i j : ℕ) (x : A) → At (groups joined xs) i x → At (groups joined xs) j x → i ≡ j
-  group-same i j x a b = group-joined i j x x a b (self x)
-
   -- a group has all that is linked to its members
   pub linked-group : (i : ℕ) {x y : A} → Linked member joined x y → At (groups joined xs) i x → At (groups joined xs) i y
   linked-group i l a =
       follow (λ z. At (groups joined xs) i z)
       (λ u v p j m. let b = group-of v m in subst (λ (k : ℕ). At (groups joined xs) k v) (sym (group-joined i (b .0) u v p (b .1) j)) (b .1)) l a
-
-  pub linked-same : (i j : ℕ) {x y : A} → Linked member joined x y → At (groups joined xs) i x → At (groups joined xs) j y → i ≡ j
-  linked-same i j {x} {y} l a b = group-same i j y (linked-group i l a) b
 
   -- one group: any two members are linked
   pub group-one : length (groups joined xs) ≡ 1 → OnePiece member joined
@@ -263,3 +256,14 @@ module _ {A : Type 0} (joined : A → A → Bool) (turn : (x y : A) → joined x
       let lb = at-lt (groups joined xs) (b .0) y (b .1) in
       let q : b .0 ≡ a .0 = omega arith in
       group-linked (a .0) x y (a .1) (subst (λ (k : ℕ). At (groups joined xs) k y) q (b .1))
+
+-- ---- and to itself
+
+module _ {A : Type 0} (joined : A → A → Bool) (turn : (x y : A) → joined x y ≡ true → joined y x ≡ true) (self : (x : A) → joined x x ≡ true)
+    (member : A → Bool) (xs : List A) (are : (x : A) → Mem x xs → member x ≡ true) (all : (x : A) → member x ≡ true → Mem x xs) where
+  -- an element is in one group only
+  pub group-same : (i j : ℕ) (x : A) → At (groups joined xs) i x → At (groups joined xs) j x → i ≡ j
+  group-same i j x a b = group-joined joined turn member xs are all i j x x a b (self x)
+
+  pub linked-same : (i j : ℕ) {x y : A} → Linked member joined x y → At (groups joined xs) i x → At (groups joined xs) j y → i ≡ j
+  linked-same i j {x} {y} l a b = group-same i j y (linked-group joined turn member xs are all i l a) b

@@ -59,9 +59,9 @@ module _ (joined : ℕ → ℕ → Bool) (turn : Symmetric joined) (self : Refle
           (λ e.
           let r = any-true (λ g. among g x) (groups joined xs) e in
           let q = mem-getD [] (r .0) (groups joined xs) (r .1) in
-          group-member joined turn self member xs are all (q .0) x (subst (λ (g : List ℕ). Mem x g) (sym (q .2)) (among-mem (r .0) x (r .2))))
+          group-member joined turn member xs are all (q .0) x (subst (λ (g : List ℕ). Mem x g) (sym (q .2)) (among-mem (r .0) x (r .2))))
           (λ m.
-          let r = group-of joined turn self member xs are all x m in
+          let r = group-of joined turn member xs are all x m in
           at-any (λ g. among g x) (r .0) x (r .1) (mem-among (getD (groups joined xs) (r .0) []) x (r .1)))
 
       filled : any (λ g. eqb (length g) 0) (groups joined xs) ≡ false
@@ -69,7 +69,7 @@ module _ (joined : ℕ → ℕ → Bool) (turn : Symmetric joined) (self : Refle
           false-any (λ g. eqb (length g) 0) (groups joined xs)
           (λ g m. ne-eqb (length g) 0 (λ e.
           let q = mem-getD [] g (groups joined xs) m in
-          let p = group-filled joined turn self member xs are all (q .0) (q .1) in
+          let p = group-filled joined turn member xs are all (q .0) (q .1) in
           empty g (p .0) (subst (λ (h : List ℕ). Mem (p .0) h) (q .2) (p .1)) e))
         where
           empty : (g : List ℕ) (x : ℕ) → Mem x g → length g ≡ 0 → ⊥
@@ -81,38 +81,38 @@ module _ (joined : ℕ → ℕ → Bool) (turn : Symmetric joined) (self : Refle
           let r = any-true (λ g. among g x && among g y) (groups joined xs) e in
           let q = mem-getD [] (r .0) (groups joined xs) (r .1) in
           let b = and-true (among (r .0) x) (among (r .0) y) (r .2) in
-          group-linked joined turn self member xs are all (q .0) x y
+          group-linked joined turn member xs are all (q .0) x y
           (subst (λ (g : List ℕ). Mem x g) (sym (q .2)) (among-mem (r .0) x (b .0)))
           (subst (λ (g : List ℕ). Mem y g) (sym (q .2)) (among-mem (r .0) y (b .1)))
 
       whole : (x y : ℕ) → Linked member joined x y → together (groups joined xs) x y ≡ true
       whole x y l =
-          let r = group-of joined turn self member xs are all x (first-member l) in
+          let r = group-of joined turn member xs are all x (first-member l) in
           let g = getD (groups joined xs) (r .0) [] in
           at-any (λ g. among g x && among g y) (r .0) x (r .1)
-          (true-and (among g x) (among g y) (mem-among g x (r .1)) (mem-among g y (linked-group joined turn self member xs are all (r .0) l (r .1))))
+          (true-and (among g x) (among g y) (mem-among g x (r .1)) (mem-among g y (linked-group joined turn member xs are all (r .0) l (r .1))))
 
   pub groups-counted : Counted member joined (length (groups joined xs))
   groups-counted =
       record {
         pick = λ i. pick i (decLt i n);
-        picked = λ i h. group-member joined turn self member xs are all i (pick i (decLt i n)) (at i h (decLt i n));
+        picked = λ i h. group-member joined turn member xs are all i (pick i (decLt i n)) (at i h (decLt i n));
         apart = λ i j h k l. linked-same joined turn self member xs are all i j l (at i h (decLt i n)) (at j k (decLt j n));
         reach = λ x m.
-            let r = group-of joined turn self member xs are all x m in
+            let r = group-of joined turn member xs are all x m in
             let h = at-lt (groups joined xs) (r .0) x (r .1) in
-            (r .0, h, group-linked joined turn self member xs are all (r .0) x (pick (r .0) (decLt (r .0) n)) (r .1) (at (r .0) h (decLt (r .0) n)));
+            (r .0, h, group-linked joined turn member xs are all (r .0) x (pick (r .0) (decLt (r .0) n)) (r .1) (at (r .0) h (decLt (r .0) n)));
       }
     where
       n : ℕ
       n = length (groups joined xs)
 
       pick : (i : ℕ) → Dec (i < n) → ℕ
-      pick i (yes h) = group-filled joined turn self member xs are all i h .0
+      pick i (yes h) = group-filled joined turn member xs are all i h .0
       pick i (no h) = 0
 
       at : (i : ℕ) → i < n → (d : Dec (i < n)) → At (groups joined xs) i (pick i d)
-      at i h (yes k) = group-filled joined turn self member xs are all i k .1
+      at i h (yes k) = group-filled joined turn member xs are all i k .1
       at i h (no k) = absurd (k h)
 
 pub groups-are-classes : GroupsAreClasses
@@ -153,7 +153,7 @@ module _ (p : ℕ → Bool) where
   -- one group: any two of the cells are linked
   pub cells-one-piece : groupCount (filter p positions) ≡ 1 → OnePiece (cells p) joined
   unfolding groupCount
-  cells-one-piece e = group-one joined joined-turn joined-self (cells p) (filter p positions) are all e
+  cells-one-piece e = group-one joined joined-turn (cells p) (filter p positions) are all e
 
 pub test-counts : TestCounts
 unfolding test testOf

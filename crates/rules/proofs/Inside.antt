@@ -32,18 +32,10 @@ gap-turn : (p q : ℕ) → gap p q ≡ gap q p
 unfolding gap
 gap-turn p q = omega arith
 
-gap-self : (p : ℕ) → gap p p ≡ 0
-unfolding gap
-gap-self p = omega arith
-
 pub touch-turn : (s : Sides) (i j : ℕ) → touch s i j ≡ touch s j i
 unfolding touch near
 touch-turn s i j =
     rw (gap-turn (voxel s i .x) (voxel s j .x), gap-turn (voxel s i .y) (voxel s j .y), gap-turn (voxel s i .z) (voxel s j .z))
-
-pub touch-self : (s : Sides) (i : ℕ) → touch s i i ≡ true
-unfolding touch near
-touch-self s i = rw (gap-self (voxel s i .x), gap-self (voxel s i .y), gap-self (voxel s i .z))
 
 pub touch-back : (s : Sides) (i j : ℕ) → touch s i j ≡ true → touch s j i ≡ true
 touch-back s i j e = touch-turn s j i ∙ e
@@ -177,23 +169,23 @@ module _ (s : Sides) (values : List ℤ) where
 
   all-filled : (k : ℕ) → k < length all → (i : ℕ) × (At all k i)
   unfolding all
-  all-filled k h = group-filled (touch s) (touch-back s) (touch-self s) (negative s values) (negatives s values) negative-mem mem-negative k h
+  all-filled k h = group-filled (touch s) (touch-back s) (negative s values) (negatives s values) negative-mem mem-negative k h
 
   all-of : (i : ℕ) → negative s values i ≡ true → (k : ℕ) × (At all k i)
   unfolding all
-  all-of i e = group-of (touch s) (touch-back s) (touch-self s) (negative s values) (negatives s values) negative-mem mem-negative i e
+  all-of i e = group-of (touch s) (touch-back s) (negative s values) (negatives s values) negative-mem mem-negative i e
 
   all-negative : (k i : ℕ) → At all k i → negative s values i ≡ true
   unfolding all
-  all-negative k i a = group-member (touch s) (touch-back s) (touch-self s) (negative s values) (negatives s values) negative-mem mem-negative k i a
+  all-negative k i a = group-member (touch s) (touch-back s) (negative s values) (negatives s values) negative-mem mem-negative k i a
 
   all-linked : (k i j : ℕ) → At all k i → At all k j → Near i j
   unfolding all Near
-  all-linked k i j a b = group-linked (touch s) (touch-back s) (touch-self s) (negative s values) (negatives s values) negative-mem mem-negative k i j a b
+  all-linked k i j a b = group-linked (touch s) (touch-back s) (negative s values) (negatives s values) negative-mem mem-negative k i j a b
 
   all-whole : (k i j : ℕ) → Near i j → At all k i → At all k j
   unfolding all Near
-  all-whole k i j l a = linked-group (touch s) (touch-back s) (touch-self s) (negative s values) (negatives s values) negative-mem mem-negative k l a
+  all-whole k i j l a = linked-group (touch s) (touch-back s) (negative s values) (negatives s values) negative-mem mem-negative k l a
 
   -- the size of a voxel's group, by any test that finds it
   found-size : (k v : ℕ) (test : ℕ → Bool) → At all k v → GroupOf s values v test → found s test ≡ length (getD all k [])
