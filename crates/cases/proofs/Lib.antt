@@ -1,2 +1,3 @@
 pub mod Carved
+pub mod Hollow
 pub mod Cases

@@ -1,4 +1,4 @@
--- The cases, by computation from the rules; case C and the arc, which take long, stand in the crate of all cases.
+-- The cases, by computation from the rules; case C, the arc and the hollow, which take long, stand in the crate of all cases.
 use mathlib.Core.Path.{refl}
 use Rattle.cells.specs.Groups.{any, filter, reached, others, enter, gather, groups}
 use Rattle.cells.specs.Cells.{contains, joined, touched, groupCount, dimension, countOf, testOf, test, passes}
@@ -6,14 +6,15 @@ use Rattle.rules.specs.Grid.{fitSides, size, index, voxel, range, voxels
 use Rattle.rules.specs.Value.{isMissing, beyond, measuredNegative, measuredNonNegative}
 use Rattle.rules.specs.Grid.{neighbourhoodOf, neighbourhood}
 use Rattle.rules.specs.Checks.{unless}
+use Rattle.rules.specs.Fill.{gaps, around, enclosed, enclosedGaps, inSome, filledIn, filled}
 use Rattle.rules.specs.Begin.{least, greatest, isIn, negatives, larger, largest, inside, facing, greatestFacing, distance, workedAt, worked, inBox}
-use Rattle.rules.specs.Begin.{exposed, statusAt, startStatus, begun, begin}
+use Rattle.rules.specs.Begin.{exposed, statusAt, startStatus, begunOn, begun, begin}
 use Rattle.rules.specs.Status.{keptByte, pendingByte, woken, rested, isKept, isPending, anyPending, testAt, prefer, foremost, firstOf, removable}
 use Rattle.rules.specs.Status.{statusWithout, without, examine, carving, openable}
 use Rattle.rules.specs.Machine.{isInside, outside, farther, unfitCounts, unfitVoxel, unfit, wrongLength, carved, carve, taken, take, toOpen, opened}
 use Rattle.rules.specs.Machine.{openNext, closed, closedAt, finishedOf, finish}
-use Rattle.rules.specs.Cases.{start, carvedTo, ended, caseA, plate, valuesC, caseC, layerD, valuesD, caseD, valuesArc, arc, bar, cube}
-use Rattle.rules.specs.Cases.{CaseA, CaseD, Bar, Numbers, LongTunnels}
+use Rattle.rules.specs.Cases.{start, carvedTo, ended, caseA, plate, valuesC, caseC, layerD, valuesD, caseD, valuesArc, arc, bar, cube, wall, walled, hollow}
+use Rattle.rules.specs.Cases.{CaseA, CaseD, Bar, Numbers, LongTunnels, BehindTheFace}
 
 -- ---- all that a case computes with: to unfold `all-rules` is to unfold the rules
 
@@ -29,8 +30,12 @@ unfoldable measuring-rules : Unit {0}
 unfolding isMissing beyond measuredNegative measuredNonNegative unless least greatest isIn negatives larger largest inside facing greatestFacing
 measuring-rules = tt
 
+unfoldable fill-rules : Unit {0}
+unfolding gaps around enclosed enclosedGaps inSome filledIn filled
+fill-rules = tt
+
 unfoldable begin-rules : Unit {0}
-unfolding measuring-rules distance workedAt worked inBox exposed statusAt startStatus begun begin
+unfolding measuring-rules fill-rules distance workedAt worked inBox exposed statusAt startStatus begunOn begun begin
 begin-rules = tt
 
 unfoldable status-rules : Unit {0}
@@ -46,7 +51,7 @@ unfolding unfitCounts unfitVoxel unfit wrongLength carved carve taken take toOpe
 call-rules = tt
 
 unfoldable worked-cases : Unit {0}
-unfolding start carvedTo ended caseA plate valuesC caseC layerD valuesD caseD valuesArc arc bar cube
+unfolding start carvedTo ended caseA plate valuesC caseC layerD valuesD caseD valuesArc arc bar cube wall walled hollow
 worked-cases = tt
 
 unfoldable pub all-rules : Unit {0}
@@ -94,3 +99,7 @@ long-tunnels =
       none-after = refl;
       taken = refl;
     }
+
+pub behind-the-face : BehindTheFace
+unfolding all-rules
+behind-the-face = record { inside = (refl, refl); held = refl; open-face = (refl, refl); two-gaps = (refl, refl); border = refl }

@@ -9,7 +9,8 @@ use Rattle.rules.specs.declared.Sides.{Sides}
 use Rattle.rules.specs.declared.Record.{Record}
 use Rattle.rules.specs.Grid.{size, voxels}
 use Rattle.rules.specs.Answer.{done, untouched, buffers}
-use Rattle.rules.specs.Begin.{isIn, inside, inBox, worked, startStatus, newRecord, beginChecks, begun, begin}
+use Rattle.rules.specs.Fill.{filled}
+use Rattle.rules.specs.Begin.{isIn, inside, inBox, worked, startStatus, newRecord, beginChecks, begunOn, begun, begin}
 use Rattle.rules.specs.Status.{isPending, testAt, anyPending}
 use Rattle.rules.specs.Machine.{State, state, isInside}
 use Rattle.rules.specs.Demand.{Call, Sums, call, run, Demand, DemandIsMet}
@@ -19,6 +20,7 @@ use Rattle.prelude.proofs.Ranges.{none-below}
 use Rattle.rules.proofs.Places.{fit}
 use Rattle.rules.proofs.Inside.{inside-some}
 use Rattle.rules.proofs.Fit.{Beginnable, beginnable}
+use Rattle.rules.proofs.Fill.{beginnable-filled}
 use Rattle.rules.proofs.Topology.Moves.{Inv}
 use Rattle.rules.proofs.Topology.Steps.{Sound, tally, sets}
 use Rattle.rules.proofs.Topology.Calls.{tallyOf, Good, run-keeps}
@@ -78,18 +80,21 @@ module _ (s : Sides) (T : ℕ) (values : List ℤ) (start : ℕ → Bool) (dist 
 abbrev pub handed : Sides → ℕ → List ℤ → State
 handed s T values = let S = inside s values in state (newRecord s T) (worked s values S) (startStatus s S (inBox s S))
 
--- what holds of it for every grid that begin accepts, holds of begin's answer and buffers
+-- what holds of it for the filled values of every grid that begin accepts, holds of begin's answer and buffers
 module _ (P : State → Type 0) where
-  pub by-begin : (s : Sides) (T : ℕ) (values dist : List ℤ) (status : List ℕ) → (Beginnable s values → P (handed s T values))
+  pub by-begin : (s : Sides) (T : ℕ) (values dist : List ℤ) (status : List ℕ)
+      → (let used = filled s values in Beginnable s used → P (handed s T used))
       → (r : Record) → begin s T values dist status .answer ≡ done r
       → let b = begin s T values dist status in P (state r (b .lent .dist) (b .lent .status))
-  unfolding begin begun
+  unfolding begin begun begunOn
   by-begin s T values dist status holds r e =
+      let used = filled s values in
       by-checks (untouched (buffers dist status)) (begun s T values) (λ o. o .answer ≡ done r → P (state r (o .lent .dist) (o .lent .status)))
       (beginChecks s values dist status)
       (λ n f. let z : _≡_ {A = ℕ} 0 1 = cc in let y : ⊥ = omega arith in absurd y)
       (λ p f. let q : newRecord s T ≡ r = cc in
-      subst (λ (r : Record). P (state r (handed s T values .dist) (handed s T values .status))) q (holds (beginnable s values dist status p))) e
+      subst (λ (r : Record). P (state r (handed s T used .dist) (handed s T used .status))) q
+      (holds (beginnable-filled s values (beginnable s values dist status p)))) e
 
 module _ (s : Sides) (values : List ℤ) (accepted : Beginnable s values) where
   pub begun-inside : (i : ℕ) × (isIn (inside s values) i ≡ true)
@@ -112,5 +117,6 @@ module _ (s : Sides) (values : List ℤ) (accepted : Beginnable s values) where
 
 pub demand-is-met : DemandIsMet
 demand-is-met s T values dist status r e calls =
-    by-begin (λ g. let after = run calls g in Demand s values (inBox s (inside s values)) (after .end) (after .answers))
-    s T values dist status (λ accepted. from-begin s values accepted T calls) r e
+    let used = filled s values in
+    by-begin (λ g. let after = run calls g in Demand s used (inBox s (inside s used)) (after .end) (after .answers))
+    s T values dist status (λ accepted. from-begin s used accepted T calls) r e

@@ -5,6 +5,7 @@ use mathlib.Core.Bool.{Bool, true, false, not, _&&_, _||_}
 use mathlib.Core.List.{List, [], _∷_, _++_}
 use Prim.Native.Nat.{ℕ, _*_, _≤_, _<_}
 use native.Mathlib.Omega.{arith}
+use native.Mathlib.Decide.{decLt}
 use borrow.Author.Tests.{ltb-true, ltb-false, lt-ltb, le-ltb, leb-false, eqb-true, eqb-false, eq-eqb}
 use lib.Dec.{eqb, ltb, leb}
 use lib.IntN.{ℤ, pos, natAbs}
@@ -12,9 +13,10 @@ use lib.ListN.{length, List·getD-eq-default}
 use Rattle.cells.specs.Groups.{any}
 use Rattle.cells.specs.Cells.{passes}
 use Rattle.prelude.proofs.Bools.{and-true, true-and, or-true, or-false, not-false, not-both, two}
+use Rattle.prelude.proofs.Lists.{none-at}
 use Rattle.rules.specs.declared.Sides.{Sides}
 use Rattle.rules.specs.declared.Record.{Record}
-use Rattle.rules.specs.Value.{stray}
+use Rattle.rules.specs.Value.{missing, isMissing, beyond, stray}
 use Rattle.rules.specs.Grid.{fitSides, size, range, voxels, onBorder, isNegative, measuredNegative, valueAt, distanceAt}
 use Rattle.rules.specs.Checks.{_when_, AllHold}
 use Rattle.rules.specs.Meaning.{negative}
@@ -48,6 +50,15 @@ beginnable s values dist status h =
       some = v .0;
       some-negative = true-and (ltb (v .0) (size s)) (measuredNegative (valueAt values (v .0))) (lt-ltb (v .0) (size s) (v .1)) (v .2);
     }
+
+-- past the end of the buffer the value is missing
+pub none-stray : (values : List ℤ) → any stray values ≡ false → (i : ℕ) → stray (valueAt values i) ≡ false
+unfolding beyond isMissing
+none-stray values e i =
+    elim (decLt i (length values)) [
+      | yes h ↦ none-at stray missing values e i h
+      | no h ↦ let past : length values ≤ i = omega arith in rw (List·getD-eq-default values missing past)
+    ]
 
 -- ---- number 7 at a voxel
 

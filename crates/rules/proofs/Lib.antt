@@ -10,7 +10,9 @@ pub mod Fit
 pub mod FitKept
 pub mod Topology
 pub mod Neighbours
+pub mod Fill
 pub mod Demand
+pub mod Gaps
 pub mod NeverUnfit
 pub mod LongRange
 pub mod Cases

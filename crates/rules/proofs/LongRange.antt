@@ -9,14 +9,14 @@ use borrow.Author.Tests.{ltb-false, leb-false}
 use lib.Dec.{leb, ltb}
 use lib.IntN.{ℤ, pos, negsuc, natAbs}
 use lib.ListN.{length, List·getD-eq-default}
-use Rattle.cells.specs.Groups.{any, filter}
+use Rattle.cells.specs.Groups.{filter}
 use Rattle.prelude.proofs.Bools.{and-true, and-one}
-use Rattle.prelude.proofs.Lists.{none-at}
 use Rattle.prelude.proofs.Ranges.{getD-map-range, length-map-range}
 use Rattle.rules.specs.declared.Sides.{Sides}
-use Rattle.rules.specs.Value.{missing, isMissing, beyond, stray, measuredNegative, measuredNonNegative, amount}
+use Rattle.rules.specs.Value.{beyond, stray, measuredNegative, measuredNonNegative, amount}
 use Rattle.rules.specs.Grid.{size, range, voxels, taxicab, valueAt, distanceAt}
 use Rattle.rules.specs.Answer.{untouched}
+use Rattle.rules.specs.Fill.{filled}
 use Rattle.rules.specs.Begin.{least, greatest, isIn, inside, facing, greatestFacing, distance, workedAt, worked}
 use Rattle.rules.specs.Status.{isKept}
 use Rattle.rules.specs.Machine.{State, after, lentTo, workingChecks, takeChecks, openChecks, finishChecks, carved, carve, taken, take, toOpen}
@@ -26,19 +26,10 @@ use Rattle.rules.specs.LongRange.{farthest, WithinRange, StaysWithinRang
 use Rattle.rules.proofs.Checks.{by-checks}
 use Rattle.rules.proofs.Places.{fit}
 use Rattle.rules.proofs.Inside.{inside-members}
-use Rattle.rules.proofs.Fit.{Beginnable}
+use Rattle.rules.proofs.Fit.{Beginnable, none-stray}
 use Rattle.rules.proofs.Demand.{handed, by-begin}
 
 -- ---- a value that is not stray
-
--- past the end of the buffer the value is missing
-pub none-stray : (values : List ℤ) → any stray values ≡ false → (i : ℕ) → stray (valueAt values i) ≡ false
-unfolding beyond isMissing
-none-stray values e i =
-    elim (decLt i (length values)) [
-      | yes h ↦ none-at stray missing values e i h
-      | no h ↦ let past : length values ≤ i = omega arith in rw (List·getD-eq-default values missing past)
-    ]
 
 pub amount-high : (v : ℤ) → stray v ≡ false → amount v ≤ 1000000000
 unfolding beyond
@@ -154,4 +145,4 @@ run-near (c ∷ cs) g near = run-near cs (call c g .end) (call-near g near c)
 pub stays-within-range : StaysWithinRange
 stays-within-range s T values dist status r e calls =
     by-begin (λ g. WithinRange (run calls g .end)) s T values dist status
-    (λ accepted. run-near calls (handed s T values) (begun-near s values accepted T)) r e
+    (λ accepted. let used = filled s values in run-near calls (handed s T used) (begun-near s used accepted T)) r e

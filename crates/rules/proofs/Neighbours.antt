@@ -1,7 +1,7 @@
 -- The two ways to say neighbour are one.
 use mathlib.Core.Path.{_≡_, refl, ap, sym, _∙_, subst}
 use mathlib.Core.Bool.{Bool, true, false, not, _&&_, true≢false}
-use Prim.Native.Nat.{ℕ, _-_, _≤_, _<_}
+use Prim.Native.Nat.{ℕ, _-_, _<_}
 use native.Mathlib.Omega.{arith}
 use lib.Dec.{eqb}
 use borrow.Author.Tests.{eqb-true, eq-eqb}
@@ -17,8 +17,54 @@ use Rattle.rules.specs.Neighbours as told
 use Rattle.rules.specs.Neighbours.{TouchIsBlock, ExposedIsFace}
 use Rattle.rules.proofs.Places.{fit, index-lt, index-voxel, voxel-index}
 use Rattle.rules.proofs.Topology.Around.{Close, touch-close, close-touch, At, at-same, close-at, Inner, neighbour-at, neighbourhood-at}
-use Rattle.rules.proofs.Topology.Removal.{away, apart-at, face-taxicab}
+use Rattle.rules.proofs.Topology.Removal.{away, apart-at, face-at, face-taxicab}
 use Rattle.rules.proofs.Topology.Start.{border-inner}
+
+-- a voxel at a position of the block around another touches it
+pub at-close : (u v : Voxel) (p : ℕ) → At u v p → Close u v
+at-close u v p a =
+    let l = a .low in
+    record {
+      x-up = omega (arith, a .x-at);
+      x-down = omega (arith, a .x-at);
+      y-up = omega (arith, a .y-at);
+      y-down = omega (arith, a .y-at);
+      z-up = omega (arith, a .z-at);
+      z-down = omega (arith, a .z-at);
+    }
+
+-- ---- a face neighbour stands at one of the six face positions
+
+face-position : (p : ℕ) → p < 27 → away p ≡ 1 → Mem p facePositions
+unfolding any range gap
+face-position p l e =
+    let r = any-true (eqb p) facePositions (decided (eqb (away p) 1) (any (eqb p) facePositions) (eq-eqb (away p) 1 e)
+    (all-in (λ p. not (eqb (away p) 1 && not (any (eqb p) facePositions))) (range 0 27) refl p (mem-range 0 27 p (omega arith) (omega arith)))) in
+    subst (λ (q : ℕ). Mem q facePositions) (sym (eqb-true p (r .0) (r .2))) (r .1)
+  where
+    decided : (t u : Bool) → t ≡ true → not (t && not u) ≡ true → u ≡ true
+    decided true true e f = refl
+    decided true false e f = f
+    decided false u e f = absurd (true≢false (sym e))
+
+close-taxicab : (u v : Voxel) → apart u v ≡ 1 → Close u v
+unfolding apart gap
+close-taxicab u v e =
+    record { x-up = omega arith; x-down = omega arith; y-up = omega arith; y-down = omega arith; z-up = omega arith; z-down = omega arith }
+
+module _ (s : Sides) (i j : ℕ) where
+  pub face-at-position : shareFace s i j ≡ true → (p : ℕ) × (Mem p facePositions) × (At (voxel s i) (voxel s j) p)
+  unfolding shareFace taxicab
+  face-at-position f =
+      let e : apart (voxel s i) (voxel s j) ≡ 1 = eqb-true (apart (voxel s i) (voxel s j)) 1 f in
+      let q = close-at (voxel s i) (voxel s j) (close-taxicab (voxel s i) (voxel s j) e) in
+      (q .0, face-position (q .0) (q .1 .low) (sym (apart-at (voxel s i) (voxel s j) (q .0) (q .1)) ∙ e), q .1)
+
+  pub position-face : (p : ℕ) → Mem p facePositions → At (voxel s i) (voxel s j) p → shareFace s i j ≡ true
+  unfolding shareFace taxicab
+  position-face p m a = eq-eqb (apart (voxel s i) (voxel s j)) 1 (face-at (voxel s i) (voxel s j) p m a)
+
+-- ---- around an inner voxel
 
 module _ (s : Sides) (i : ℕ) (h : told.Inner s i) where
   inner : Inner s (voxel s i)
@@ -32,18 +78,6 @@ module _ (s : Sides) (i : ℕ) (h : told.Inner s i) where
   at-position p l =
       let a = neighbour-at s (voxel s i) inner p l in
       (a .0, voxel-index s (neighbour (voxel s i) p) (a .1 .x-in) (a .1 .y-in))
-
-  close-of : (p : ℕ) (v : Voxel) → At (voxel s i) v p → Close (voxel s i) v
-  close-of p v a =
-      let l = a .low in
-      record {
-        x-up = omega (arith, a .x-at);
-        x-down = omega (arith, a .x-at);
-        y-up = omega (arith, a .y-at);
-        y-down = omega (arith, a .y-at);
-        z-up = omega (arith, a .z-at);
-        z-down = omega (arith, a .z-at);
-      }
 
   -- the position of a voxel that is close
   position-of : (j : ℕ) → Close (voxel s i) (voxel s j) → (p : ℕ) × (At (voxel s i) (voxel s j) p) × (index s (neighbour (voxel s i) p) ≡ j)
@@ -60,19 +94,7 @@ module _ (s : Sides) (i : ℕ) (h : told.Inner s i) where
       let a = at-position (r .0) (r .1) in
       subst (λ (k : ℕ). touch s i k ≡ true) (r .2)
       (close-touch s i (index s (neighbour (voxel s i) (r .0)))
-      (subst (λ (v : Voxel). Close (voxel s i) v) (sym (a .1)) (close-of (r .0) (neighbour (voxel s i) (r .0)) (a .0))))
-
-  face-position : (p : ℕ) → p < 27 → away p ≡ 1 → Mem p facePositions
-  unfolding any range gap
-  face-position p l e =
-      let r = any-true (eqb p) facePositions (decided (eqb (away p) 1) (any (eqb p) facePositions) (eq-eqb (away p) 1 e)
-      (all-in (λ p. not (eqb (away p) 1 && not (any (eqb p) facePositions))) (range 0 27) refl p (mem-range 0 27 p (omega arith) (omega arith)))) in
-      subst (λ (q : ℕ). Mem q facePositions) (sym (eqb-true p (r .0) (r .2))) (r .1)
-    where
-      decided : (t u : Bool) → t ≡ true → not (t && not u) ≡ true → u ≡ true
-      decided true true e f = refl
-      decided true false e f = f
-      decided false u e f = absurd (true≢false (sym e))
+      (subst (λ (v : Voxel). Close (voxel s i) v) (sym (a .1)) (at-close (voxel s i) (neighbour (voxel s i) (r .0)) (r .0) (a .0))))
 
   neighbourhood-bare : (kept : ℕ → Bool) (v : Voxel) (p : ℕ) → At (voxel s i) v p → neighbourhood s kept i p ≡ kept (index s v)
   unfolding neighbourhood
@@ -93,20 +115,13 @@ module _ (s : Sides) (i : ℕ) (h : told.Inner s i) where
         sym (neighbourhood-bare kept w p (a .0)) ∙ not-true (neighbourhood s kept i p) (r .2),
       )
 
-  close-taxicab : (v : Voxel) → apart (voxel s i) v ≡ 1 → Close (voxel s i) v
-  unfolding apart gap
-  close-taxicab v e =
-      record { x-up = omega arith; x-down = omega arith; y-up = omega arith; y-down = omega arith; z-up = omega arith; z-down = omega arith }
-
   face-exposed : (kept : ℕ → Bool) → (j : ℕ) × (j < size s) × (shareFace s i j ≡ true) × (kept j ≡ false) → exposed s kept i ≡ true
-  unfolding exposed shareFace taxicab
+  unfolding exposed
   face-exposed kept r =
       let j = r .0 in
-      let e : apart (voxel s i) (voxel s j) ≡ 1 = eqb-true (apart (voxel s i) (voxel s j)) 1 (r .2) in
-      let q = position-of j (close-taxicab (voxel s j) e) in
-      let p = q .0 in
-      true-any (λ p. not (neighbourhood s kept i p)) facePositions p (face-position p (q .1 .low) (sym (apart-at (voxel s i) (voxel s j) p (q .1)) ∙ e))
-      (ap not (neighbourhood-bare kept (voxel s j) p (q .1) ∙ ap kept (index-of j) ∙ r .3))
+      let q = face-at-position s i j (r .2) in
+      true-any (λ p. not (neighbourhood s kept i p)) facePositions (q .0) (q .1)
+      (ap not (neighbourhood-bare kept (voxel s j) (q .0) (q .2) ∙ ap kept (index-of j) ∙ r .3))
 
 pub touch-is-block : TouchIsBlock
 touch-is-block s i j h l = (touch-position s i h j, position-touch s i h j)

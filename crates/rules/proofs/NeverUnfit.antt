@@ -20,6 +20,7 @@ use Rattle.rules.specs.declared.Sides.{Sides}
 use Rattle.rules.specs.Grid.{size, range, voxel, voxels, onBorder, neighbourhood, isNegative, distanceAt}
 use Rattle.rules.specs.Checks.{_when_, AllHold}
 use Rattle.rules.specs.Answer.{Outcome, Buffers, untouched, Carving}
+use Rattle.rules.specs.Fill.{filled}
 use Rattle.rules.specs.Begin.{exposed, isIn, inside, inBox, greatestFacing, workedAt, worked, statusAt, startStatus, newRecord}
 use Rattle.rules.specs.Meaning.{found}
 use Rattle.rules.specs.Status.{Progress, statusOf, keptByte, pendingByte, isKept, isPending, anyPending, testAt, removable, openable, carving}
@@ -290,12 +291,13 @@ module _ (s : Sides) (T : ℕ) (values : List ℤ) (accepted : Beginnable s valu
 
 pub never-unfit : NeverUnfit
 never-unfit s T values dist status r e calls =
-    by-begin (λ g. AllHold (stateChecks (run calls g .end))) s T values dist status (λ accepted. end-holds s T values accepted calls) r e
+    by-begin (λ g. AllHold (stateChecks (run calls g .end))) s T values dist status (λ accepted. end-holds s T (filled s values) accepted calls) r e
 
 pub carve-ends : CarveEnds
 carve-ends s T values dist status r e calls limit h =
     by-begin (λ g. let end = run calls g .end in
     end .rec .finished ≡ false → (carve limit end ≡ carved limit end) × (anyPending s (carve limit end .lent .status) ≡ false)) s T values dist status
     (λ accepted f.
-    let c = end-carved s T values accepted calls limit f in
-    (c, ap (λ (o : Outcome Buffers Carving). anyPending s (o .lent .status)) c ∙ end-quiet s T values accepted calls limit h f)) r e
+    let used = filled s values in
+    let c = end-carved s T used accepted calls limit f in
+    (c, ap (λ (o : Outcome Buffers Carving). anyPending s (o .lent .status)) c ∙ end-quiet s T used accepted calls limit h f)) r e

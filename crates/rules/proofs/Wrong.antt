@@ -3,11 +3,15 @@ use mathlib.Core.Path.{_≡_, refl, ap, sym}
 use mathlib.Core.Bool.{true≢false}
 use Prim.Native.Nat.{ℕ}
 use native.Mathlib.Omega.{arith}
-use lib.IntN.{pos, natAbs}
+use lib.IntN.{pos, negsuc, natAbs}
 use Rattle.rules.specs.declared.Record.{Record}
 use Rattle.rules.specs.Answer.{Reply, refused, done, Carving}
 use Rattle.rules.specs.Body.{bodyOf, some, covered, sum, sum3, corners, edges, faces, cubes, eulerOf}
+use Rattle.rules.specs.Grid.{missing}
+use Rattle.rules.specs.Cases.{sides, cube, wall}
 use Rattle.rules.specs.Wrong.{carvingBy, onlyClears, byKAlone, dropsFailed, byFaceGroups, invents, WrongMachines}
+use Rattle.rules.specs.Wrong.{fillsBy, walledIn, offBorder, WrongFills}
+use Rattle.rules.proofs.Fill.{filled-is-enclosed}
 use Rattle.rules.proofs.Cases.{all-rules}
 
 numbers-differ : (m n : ℕ) → pos m ≡ pos n → (m ≡ n → ⊥) → ⊥
@@ -36,4 +40,19 @@ wrong-machines =
       take-varies = λ c h. apart _ 5 c (h 22) (h 48);
       open-varies = λ c h. apart _ 14 c (h 1) (h 0);
       finish-varies = λ c h. apart _ 13 c (h 2) (h 0);
+    }
+
+pub wrong-fills : WrongFills
+unfolding all-rules fillsBy walledIn offBorder
+wrong-fills =
+    record {
+      by-touching = λ h.
+          let values = wall (negsuc 3) missing in
+          true≢false (sym (h (sides 5 5 5) values 62 .1 (filled-is-enclosed (sides 5 5 5) values 62 .0 refl)));
+      at-the-border = λ h.
+          let values = cube missing (negsuc 4) missing in
+          true≢false (sym (filled-is-enclosed (sides 3 3 3) values 0 .1 (h (sides 3 3 3) values 0 .0 refl)));
+      beside-any-value = λ h.
+          let values = wall (pos 0) (pos 4) in
+          true≢false (sym (filled-is-enclosed (sides 5 5 5) values 62 .1 (h (sides 5 5 5) values 62 .0 refl)));
     }

@@ -1,4 +1,5 @@
--- Document 01, "Grid and worked distances", begin: S, M, worked distances, box and status.
+-- Document 01, "Grid and worked distances", begin: S, M, worked distances, box and status. By document 02's CR 6 it works on the values with gaps
+-- filled; its checks look at the values as they are given.
 use mathlib.Core.Bool.{Bool, true, false, not, cond, _&&_, _||_}
 use mathlib.Core.List.{List, [], _∷_, map}
 use Prim.Native.Nat.{ℕ, zero, suc, _+_, min, max}
@@ -10,7 +11,9 @@ use Rattle.rules.specs.declared.Sides.{Sides}
 use Rattle.rules.specs.declared.Record.{Record}
 use Rattle.rules.specs.Grid.{fitSides, size, voxel, voxels, onBorder, touch, taxicab, shareFace, neighbourhood, facePositions, measuredNegative}
 use Rattle.rules.specs.Grid.{measuredNonNegative, amount, valueAt}
+unfoldable pub use Rattle.rules.specs.Grid.{isIn}
 use Rattle.rules.specs.Value.{stray}
+use Rattle.rules.specs.Fill.{filled}
 use Rattle.rules.specs.Checks.{Check, _when_, unless}
 use Rattle.rules.specs.Answer.{done, Outcome, outcome, untouched, Buffers, buffers}
 
@@ -21,9 +24,6 @@ least start (x ∷ xs) = min x (least start xs)
 unfoldable pub greatest : ℕ → List ℕ → ℕ
 greatest start [] = start
 greatest start (x ∷ xs) = max x (greatest start xs)
-
-unfoldable pub isIn : List ℕ → ℕ → Bool
-isIn l i = any (eqb i) l
 
 -- ---- step 1: S is the largest group of measured negative voxels; of equal groups the one with the smallest index
 
@@ -97,8 +97,12 @@ beginChecks s values dist status =
     ∷ 4 when not (any (λ i. measuredNegative (valueAt values i)) (voxels s))
     ∷ []
 
+-- steps 1 to 4
+unfoldable pub begunOn : Sides → ℕ → List ℤ → Outcome Buffers Record
+begunOn s T values = let S = inside s values in outcome (done (newRecord s T)) (buffers (worked s values S) (startStatus s S (inBox s S)))
+
 unfoldable pub begun : Sides → ℕ → List ℤ → Outcome Buffers Record
-begun s T values = let S = inside s values in outcome (done (newRecord s T)) (buffers (worked s values S) (startStatus s S (inBox s S)))
+begun s T values = begunOn s T (filled s values)
 
 unfoldable pub begin : Sides → ℕ → List ℤ → List ℤ → List ℕ → Outcome Buffers Record
 begin s T values dist status = unless (beginChecks s values dist status) (untouched (buffers dist status)) (begun s T values)

@@ -1,16 +1,17 @@
 -- Document 01, "What the second supplier may hold us to": the worked cases of begin and the machine, and small ones that notice what those
--- leave open. proofs/Cases.antt proves each by computation, the crate cases case C and the arc; it gathers all of document 01's into one list.
+-- leave open. proofs/Cases.antt proves each by computation, the crate cases case C, the arc and the hollow; it gathers all of document 01's into one list.
 use mathlib.Core.Path.{_≡_}
 use mathlib.Core.Bool.{Bool, true, false}
 use mathlib.Core.List.{List, [], _∷_, _++_, map}
-use Prim.Native.Nat.{ℕ, _+_}
-use lib.ListN.{length, replicate}
+use Prim.Native.Nat.{ℕ, _+_, max}
+use lib.ListN.{length, getD, replicate}
 use lib.IntN.{ℤ, pos, negsuc}
 use Rattle.rules.specs.declared.Sides.{Sides}
 use Rattle.rules.specs.declared.Record.{Record}
-use Rattle.rules.specs.Grid.{missing, distanceAt}
+use Rattle.rules.specs.Grid.{range, missing, voxel, gap, distanceAt}
+use Rattle.rules.specs.Fill.{filled}
 use Rattle.rules.specs.Answer.{Reply, refused, done}
-use Rattle.rules.specs.Begin.{begin, newRecord}
+use Rattle.rules.specs.Begin.{isIn, inside, begin, newRecord}
 use Rattle.rules.specs.Status.{statusOf, anyPending}
 use Rattle.rules.specs.Machine.{State, state, after, count, carve, take, openNext, finish}
 
@@ -54,12 +55,13 @@ valuesC = let n = negsuc 3 in plate (n ∷ n ∷ n ∷ []) (n ∷ pos 4 ∷ n �
 unfoldable pub caseC : ℕ → State
 caseC T = start (sides 5 5 3) T valuesC
 
-pub record CaseC : Type 0 where
-  pub one-examination : carvedTo 1000 (caseC 0) .rec ≡ count (caseC 0 .rec) 1 0 0 (pos 0)
-  pub middle-filled : distanceAt (ended (carvedTo 1000 (caseC 0)) .dist) 37 ≡ negsuc 3
+-- with T openings allowed
+pub record CarvesC (begun : ℕ → State) : Type 0 where
+  pub one-examination : carvedTo 1000 (begun 0) .rec ≡ count (begun 0 .rec) 1 0 0 (pos 0)
+  pub middle-filled : distanceAt (ended (carvedTo 1000 (begun 0)) .dist) 37 ≡ negsuc 3
   -- open answers k = 1, m = 2; the Euler number is 0
   pub opening :
-      openNext (carvedTo 1000 (caseC 1)) .answer
+      openNext (carvedTo 1000 (begun 1)) .answer
       ≡ done (
       record {
         index = 37;
@@ -69,9 +71,12 @@ pub record CaseC : Type 0 where
       }
       )
   -- no opening is allowed; nothing is left to open; the middle does not pass
-  pub none-allowed : openNext (carvedTo 1000 (caseC 0)) .answer ≡ refused 14
-  pub none-left : openNext (carvedTo 9 (after (λ r. r .next) (caseC 2) (openNext (carvedTo 9 (caseC 2))))) .answer ≡ refused 15
-  pub not-taken : take 37 (caseC 0) .answer ≡ refused 12
+  pub none-allowed : openNext (carvedTo 1000 (begun 0)) .answer ≡ refused 14
+  pub none-left : openNext (carvedTo 9 (after (λ r. r .next) (begun 2) (openNext (carvedTo 9 (begun 2))))) .answer ≡ refused 15
+  pub not-taken : take 37 (begun 0) .answer ≡ refused 12
+
+abbrev pub CaseC : Type 0
+CaseC = CarvesC caseC
 
 -- ---- D: 4, 4, 3, all 6; (1, 1, 1) and (2, 2, 1) are -6; T = 0
 
@@ -102,10 +107,13 @@ valuesArc = let n = negsuc 3 in plate (n ∷ n ∷ n ∷ []) (pos 3 ∷ pos 4 �
 unfoldable pub arc : State
 arc = start (sides 5 5 3) 0 valuesArc
 
-pub record Arc : Type 0 where
-  pub first : map (statusOf (carvedTo 1 arc .status)) (36 ∷ 37 ∷ []) ≡ 3 ∷ 1 ∷ []
-  pub second : map (statusOf (carvedTo 2 arc .status)) (36 ∷ 37 ∷ []) ≡ 0 ∷ 3 ∷ []
-  pub end : carvedTo 1000 arc .rec ≡ count (arc .rec) 3 2 0 (pos 0)
+pub record CarvesArc (begun : State) : Type 0 where
+  pub first : map (statusOf (carvedTo 1 begun .status)) (36 ∷ 37 ∷ []) ≡ 3 ∷ 1 ∷ []
+  pub second : map (statusOf (carvedTo 2 begun .status)) (36 ∷ 37 ∷ []) ≡ 0 ∷ 3 ∷ []
+  pub end : carvedTo 1000 begun .rec ≡ count (begun .rec) 3 2 0 (pos 0)
+
+abbrev pub Arc : Type 0
+Arc = CarvesArc arc
 
 -- ---- a bar that no begin makes: three voxels in a row, the middle one pending. It has k = 2, m = 1, and stays.
 
@@ -166,3 +174,44 @@ pub record LongTunnels : Type 0 where
       start (sides 3 3 3) 0 (cube missing (negsuc 999999999) (pos 1000000000)) .dist
       ≡ map (λ d. pos (1000000000 + d)) (3 ∷ 2 ∷ 3 ∷ 2 ∷ 0 ∷ 2 ∷ 3 ∷ 2 ∷ 3 ∷ 2 ∷ 0 ∷ 2 ∷ 0 ∷ [])
       ++ (negsuc 999999999 ∷ map (λ d. pos (1000000000 + d)) (0 ∷ 2 ∷ 0 ∷ 2 ∷ 3 ∷ 2 ∷ 3 ∷ 2 ∷ 0 ∷ 2 ∷ 3 ∷ 2 ∷ 3 ∷ []))
+
+-- ---- document 02's CR 6: gaps behind the face
+
+-- 5, 5, 5, all 4; the middle, 62, is missing, and five voxels that share a face with it are -4. The sixth is 63; 68 touches it by an edge.
+unfoldable pub wall : ℤ → ℤ → List ℤ
+wall sixth edge =
+    let o = pos 4 in
+    let n = negsuc 3 in
+    replicate 37 o ++ (n ∷ replicate 19 o) ++ (n ∷ o ∷ o ∷ o ∷ n ∷ missing ∷ sixth ∷ o ∷ o ∷ o ∷ n ∷ edge ∷ replicate 18 o) ++ (n ∷ replicate 37 o)
+
+unfoldable pub walled : ℤ → ℤ → State
+walled sixth edge = start (sides 5 5 5) 0 (wall sixth edge)
+
+-- the worked distance and the status of the middle
+abbrev pub middleIs : State → ℤ → ℕ → Type 0
+middleIs g d t = (distanceAt (g .dist) 62 ≡ d) × (statusOf (g .status) 62 ≡ t)
+
+pub record BehindTheFace : Type 0 where
+  -- a gap of one voxel inside a wall counts as measured with value -1, is one of S, and cannot be taken
+  pub inside : middleIs (walled (negsuc 3) (pos 4)) (negsuc 0) 1
+  pub held : take 62 (walled (negsuc 3) (pos 4)) .answer ≡ refused 11
+  -- with one face neighbour at 0 it is a missing voxel beside S as ever, at M, and pending
+  pub open-face : middleIs (walled (pos 0) (pos 4)) (pos 4) 3
+  -- a missing voxel that only touches it is another gap
+  pub two-gaps : middleIs (walled (negsuc 3) missing) (negsuc 0) 1
+  -- a gap with voxels on the border is none, though every other face neighbour is negative
+  pub border :
+      start (sides 3 3 3) 0 (cube missing (negsuc 4) missing) .dist
+      ≡ map pos (4 ∷ 3 ∷ 4 ∷ 3 ∷ 1 ∷ 3 ∷ 4 ∷ 3 ∷ 4 ∷ 3 ∷ 1 ∷ 3 ∷ 1 ∷ [])
+      ++ (negsuc 4 ∷ map pos (1 ∷ 3 ∷ 1 ∷ 3 ∷ 4 ∷ 3 ∷ 4 ∷ 3 ∷ 1 ∷ 3 ∷ 4 ∷ 3 ∷ 4 ∷ []))
+
+-- 7, 7, 7: around the middle, 171, which is -4, a shell of missing voxels, around that one of -4, and the border 4
+unfoldable pub hollow : List ℤ
+hollow =
+    map (λ i. let v = voxel (sides 7 7 7) i in
+    getD (negsuc 3 ∷ missing ∷ negsuc 3 ∷ []) (max (gap (v .x) 3) (max (gap (v .y) 3) (gap (v .z) 3))) (pos 4)) (range 0 343)
+
+-- two groups of negative voxels, joined by a fill
+pub record JoinedByFill : Type 0 where
+  pub apart : isIn (inside (sides 7 7 7) hollow) 171 ≡ false
+  pub joined : isIn (inside (sides 7 7 7) (filled (sides 7 7 7) hollow)) 171 ≡ true

@@ -11,6 +11,7 @@ use Rattle.rules.specs.declared.Sides.{Sides}
 use Rattle.rules.specs.declared.Record.{Record}
 use Rattle.rules.specs.Grid.{size, touch, shareFace}
 use Rattle.rules.specs.Answer.{Reply, refused, done, Carving, Removal, Opening}
+use Rattle.rules.specs.Fill.{filled}
 use Rattle.rules.specs.Begin.{isIn, inside, inBox, begin}
 use Rattle.rules.specs.Meaning.{found}
 use Rattle.rules.specs.Status.{isKept, testAt, anyPending}
@@ -100,13 +101,15 @@ pub record Demand (s : Sides) (values : List ℤ) (start : ℕ → Bool) (g : St
   pub removals-count : g .rec .removals ≡ answers .removed
   pub examinations-count : g .rec .examinations ≡ answers .examined
 
--- a grid that begin does not refuse, and any list of calls from the record and the buffers as begin left them (proofs/Demand.antt)
+-- a grid that begin does not refuse, and any list of calls from the record and the buffers as begin left them (proofs/Demand.antt): S, the inside,
+-- is that of the values with gaps filled
 abbrev pub DemandIsMet : Type 0
 DemandIsMet =
     (s : Sides) (T : ℕ) (values dist : List ℤ) (status : List ℕ) (r : Record) → begin s T values dist status .answer ≡ done r → (calls : List Call)
     → let b = begin s T values dist status in
     let after = run calls (state r (b .lent .dist) (b .lent .status)) in
-    Demand s values (inBox s (inside s values)) (after .end) (after .answers)
+    let used = filled s values in
+    Demand s used (inBox s (inside s used)) (after .end) (after .answers)
 
 -- ---- what the program relies on
 

@@ -6,6 +6,7 @@ use lib.Dec.{leb, ltb, eqb}
 use lib.ListN.{getD}
 use lib.IntN.{ℤ, pos}
 unfoldable pub use Rattle.prelude.specs.Lists.{range}
+use Rattle.prelude.specs.Lists.{any}
 pub use Rattle.prelude.specs.Integers.{isNegative}
 pub use Rattle.cells.specs.Cells.{facePositions}
 pub use Rattle.rules.specs.Value.{missing, amount}
@@ -38,6 +39,9 @@ voxel s i = record { x = i % s .a; y = i / s .a % s .b; z = i / (s .a * s .b) }
 -- every voxel, by its index
 unfoldable pub voxels : Sides → List ℕ
 voxels s = range 0 (size s)
+
+unfoldable pub isIn : List ℕ → ℕ → Bool
+isIn l i = any (eqb i) l
 
 -- at 0 or at the side less 1
 abbrev pub end : ℕ → ℕ → Bool

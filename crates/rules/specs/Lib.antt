@@ -2,6 +2,7 @@ pub mod Value
 pub mod Grid
 pub mod Checks
 pub mod Answer
+pub mod Fill
 pub mod Begin
 pub mod Meaning
 pub mod Neighbours
@@ -11,6 +12,7 @@ pub mod Fit
 pub mod Choice
 pub mod Body
 pub mod Demand
+pub mod Gaps
 pub mod LongRange
 pub mod Cases
 pub mod Wrong

@@ -1,17 +1,21 @@
 -- Document 01, "What the second supplier may hold us to" and "Shortcuts that break it": machines that must be rejected, as definitions, and
--- which clause of demand 3 rejects each on a small grid. proofs/Wrong.antt shows it by computation.
+-- which clause of demand 3 rejects each on a small grid; and wrong fills of gaps. proofs/Wrong.antt shows it by computation.
 use mathlib.Core.Path.{_≡_}
-use mathlib.Core.Bool.{Bool, true, false, _&&_}
+use mathlib.Core.Logic.{_↔_}
+use mathlib.Core.Bool.{Bool, true, false, not, _&&_}
 use mathlib.Core.List.{List, [], _∷_}
 use mathlib.Core.Option.{Option, none, some}
 use Prim.Native.Nat.{ℕ, zero, suc}
 use lib.Dec.{eqb}
 use lib.IntN.{ℤ, pos}
 use lib.ListN.{length, set}
-use Rattle.cells.specs.Groups.{filter, groups}
+use Rattle.cells.specs.Groups.{any, filter, groups}
 use Rattle.cells.specs.Cells.{positions, passes}
 use Rattle.rules.specs.declared.Sides.{Sides}
-use Rattle.rules.specs.Grid.{apart, Voxel, voxel, neighbourhood}
+use Rattle.rules.specs.Value.{isMissing}
+use Rattle.rules.specs.Grid.{apart, Voxel, voxel, voxels, onBorder, touch, shareFace, neighbourhood, measuredNegative, valueAt}
+use Rattle.rules.specs.Fill.{around, enclosed, inSome}
+use Rattle.rules.specs.Gaps.{Enclosed}
 use Rattle.rules.specs.Answer.{Reply, refused}
 use Rattle.rules.specs.Status.{isKept, isPending, firstOf, testAt, without, statusOf, rested}
 use Rattle.rules.specs.Machine.{State, state, outside, farther, count, carve, take, openNext, finish}
@@ -91,3 +95,25 @@ pub record WrongMachines : Type 0 where
   pub take-varies : NoConstant (λ (i : ℕ). take i caseD .answer)
   pub open-varies : NoConstant (λ (T : ℕ). openNext (carvedTo 9 (caseC T)) .answer)
   pub finish-varies : NoConstant (λ (limit : ℕ). finish (carvedTo limit caseD) .answer)
+
+-- ---- document 02's CR 6: fills by another rule, how missing voxels are joined and which groups of them are filled
+
+unfoldable pub fillsBy : (Sides → ℕ → ℕ → Bool) → (Sides → List ℤ → List ℕ → Bool) → Sides → List ℤ → ℕ → Bool
+fillsBy joined fills s values i = inSome (filter (fills s values) (groups (joined s) (filter (λ j. isMissing (valueAt values j)) (voxels s)))) i
+
+-- a gap at the border is filled, if its other face neighbours are negative
+unfoldable pub walledIn : Sides → List ℤ → List ℕ → Bool
+walledIn s values gap = not (any (λ j. not (measuredNegative (valueAt values j))) (around s gap))
+
+-- every gap off the border is, whatever its other face neighbours are
+unfoldable pub offBorder : Sides → List ℤ → List ℕ → Bool
+offBorder s values gap = not (any (onBorder s) gap)
+
+-- it does not fill just the gaps that the request names
+abbrev pub OtherThanEnclosed : (Sides → List ℤ → ℕ → Bool) → Type 0
+OtherThanEnclosed fills = ((s : Sides) (values : List ℤ) (i : ℕ) → (fills s values i ≡ true) ↔ (Enclosed s values i)) → ⊥
+
+pub record WrongFills : Type 0 where
+  pub by-touching : OtherThanEnclosed (fillsBy touch enclosed)
+  pub at-the-border : OtherThanEnclosed (fillsBy shareFace walledIn)
+  pub beside-any-value : OtherThanEnclosed (fillsBy shareFace offBorder)

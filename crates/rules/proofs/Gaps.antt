@@ -1,0 +1,52 @@
+-- What CR 6 promises of begin: a grid without an enclosed gap is begun as before, and the filled voxels found in S are never lost.
+use mathlib.Core.Path.{_≡_, ap, _∙_}
+use mathlib.Core.Logic.{inl, inr}
+use mathlib.Core.Bool.{true}
+use mathlib.Core.List.{List}
+use Prim.Native.Nat.{ℕ}
+use native.Mathlib.Omega.{arith}
+use lib.Dec.{ltb}
+use lib.IntN.{ℤ, pos, negsuc}
+use Rattle.prelude.proofs.Bools.{two, and-true, not-both}
+use Rattle.prelude.proofs.Lists.{none-at}
+use Rattle.prelude.proofs.Ranges.{getD-map-range}
+use Rattle.rules.specs.declared.Sides.{Sides}
+use Rattle.rules.specs.Value.{isMissing}
+use Rattle.rules.specs.Grid.{size, voxels, missing, valueAt, distanceAt}
+use Rattle.rules.specs.Fill.{isFilled, filled}
+use Rattle.rules.specs.Begin.{isIn, inside, greatestFacing, workedAt, worked, begunOn, begun}
+use Rattle.rules.specs.Gaps.{BegunAsBefore, MeasuredAsBefore, FilledAreKept}
+use Rattle.rules.proofs.Fill.{filled-is-enclosed, filled-lt, filled-one, none-filled}
+use Rattle.rules.proofs.Demand.{handed, by-begin, demand-is-met}
+
+pub begun-as-before : BegunAsBefore
+unfolding begun
+begun-as-before s T values n none = ap (begunOn s T) (none-filled s values n none)
+
+pub measured-as-before : MeasuredAsBefore
+measured-as-before s T values n none =
+    begun-as-before s T values n
+    (λ i. elim (two (isFilled s values i)) [
+      | inl e ↦
+          let m = and-true (ltb i (size s)) (isMissing (valueAt values i)) (filled-is-enclosed s values i .0 e .missing) in
+          not-both (isMissing (valueAt values i)) (m .1) (none-at isMissing missing values none i (omega (arith, filled-lt s values i e)))
+      | inr e ↦ e
+    ])
+
+-- a filled voxel of S keeps its value, which is -1
+module _ (s : Sides) (values : List ℤ) (i : ℕ) (f : isFilled s values i ≡ true) (m : isIn (inside s (filled s values)) i ≡ true) where
+  abbrev used : List ℤ
+  used = filled s values
+
+  filled-worked : (T : ℕ) → distanceAt (handed s T used .dist) i ≡ negsuc 0
+  unfolding worked voxels workedAt
+  filled-worked T =
+      getD-map-range (workedAt s used (inside s used) (greatestFacing s used (inside s used))) (pos 0) (size s) i (filled-lt s values i f)
+      ∙ rw m (filled-one s values i f)
+
+pub filled-are-kept : FilledAreKept
+filled-are-kept s T values dist status r e i f m =
+    record {
+      worked = by-begin (λ g. distanceAt (g .dist) i ≡ negsuc 0) s T values dist status (λ a. filled-worked s values i f m T) r e;
+      kept = λ calls. demand-is-met s T values dist status r e calls .inside-kept i m;
+    }
