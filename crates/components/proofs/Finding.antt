@@ -15,7 +15,7 @@ use Rattle.cells.specs.Groups.{filter}
 use Rattle.prelude.proofs.Bools.{two, not-both, and-true}
 use Rattle.cells.proofs.Chains.{carry}
 use Rattle.rules.specs.declared.Sides.{Sides}
-use Rattle.rules.specs.Grid.{range, size, voxels, onBorder, touch, measuredNegative, valueAt, amount}
+use Rattle.rules.specs.Grid.{range, size, voxel, voxels, onBorder, touch, measuredNegative, valueAt, amount}
 use Rattle.rules.specs.Begin.{isIn, inside}
 use Rattle.rules.specs.Meaning.{negative, GroupOf, found}
 use Rattle.rules.proofs.Places.{Fit, fit}
@@ -24,9 +24,14 @@ use Rattle.rules.proofs.Inside.{negative-lt, touch-back, found-is-inside}
 use Rattle.values.specs.Values.{labelsOf}
 use Rattle.loops.specs.InPlace.{Each}
 use Rattle.loops.proofs.Orders.{split}
-use Rattle.components.specs.Flood.{labelled, touching, nearBy, Component, sizeOf, Searchable, Longest}
-use Rattle.components.specs.Work.{Accepted, Inner, Relabelled, Relabels, Found}
-use Rattle.components.proofs.Touched.{corner, offset-in, near-is, off-border}
+use Rattle.rules.proofs.Topology.Around.{Inner}
+use Rattle.rules.proofs.Topology.Start.{border-inner}
+use Rattle.floods.specs.Flood.{labelled, nearBy}
+use Rattle.floods.proofs.Positions.{corner, positions-in}
+use Rattle.gaps.specs.Work.{Accepted}
+use Rattle.components.specs.Search.{touching, Component, sizeOf, Searchable, Longest}
+use Rattle.components.specs.Work.{Relabelled, Relabels, Found}
+use Rattle.components.proofs.Touched.{few, near-is}
 
 module _ (s : Sides) (values : List ℤ) (dist status : ℕ) (A : Accepted s values dist status) where
   F : Fit s
@@ -41,11 +46,11 @@ module _ (s : Sides) (values : List ℤ) (dist status : ℕ) (A : Accepted s val
   abbrev near-by : ℕ → ℕ → Bool
   near-by = nearBy (touching (s .a) ab) back
 
-  inner : (k : ℕ) → negative s values k ≡ true → Inner s k
+  inner : (k : ℕ) → negative s values k ≡ true → Inner s (voxel s k)
   inner k y =
       let h = negative-lt s values k y in
       let m = and-true (ltb k (size s)) (measuredNegative (valueAt values k)) y .1 in
-      off-border s F k h
+      border-inner s k h
       (elim (two (onBorder s k)) [ inl e ↦ not-both (measuredNegative (valueAt values k)) m (A .border k h e) | inr e ↦ e ])
 
   labels-at : (k : ℕ) → getD (labelsOf values) k 0 ≡ cond (negative s values k) 1 0
@@ -87,13 +92,13 @@ module _ (s : Sides) (values : List ℤ) (dist status : ℕ) (A : Accepted s val
     pub searchable : (room : ℕ) → room ≡ size s → Searchable (touching (s .a) ab) back l room
     unfolding size
     searchable room r =
-        let few = mul-le-mul (mul-le-mul (F .a-high) (F .b-high)) (F .c-high) in
+        let most = mul-le-mul (mul-le-mul (F .a-high) (F .b-high)) (F .c-high) in
         record {
           same = r ∙ sym len;
           small = omega (arith, len);
           two = λ k. go (negative s values k) (at k);
           low = λ v q. omega (arith, corner s F v (inner v (one-negative v q)));
-          high = λ v q k h. omega (arith, offset-in s F v (inner v (one-negative v q)) k h, len);
+          high = λ v q k h. omega (arith, positions-in s F v (inner v (one-negative v q)) (range 0 27) few k h, len);
           turn = λ u v p q t.
               touch-is v u (one-negative v q) ∙ touch-back s u v (sym (touch-is u v (one-negative u p)) ∙ t);
           some = A .some;

@@ -1,10 +1,4 @@
-pub mod Signs
-pub mod Counting
-pub mod Pushes
-pub mod Offsets
-pub mod Flooding
-pub mod Spreading
+pub mod Touched
 pub mod Searching
 pub mod Relabelling
-pub mod Touched
 pub mod Finding

@@ -16,9 +16,10 @@ use Rattle.prelude.proofs.Lists.{mem-filter, filter-ext}
 use Rattle.cells.proofs.Chains.{last-member, append, follow, widen}
 use Rattle.rules.specs.Grid.{range}
 use Rattle.prelude.proofs.Ranges.{range-mem, mem-range}
-use Rattle.components.specs.Flood.{fillOf, labelled, untaken, Ready, Taken, Lists, Flooded, Component, sizeOf, Longest, nearBy, Floodable, Searchable}
-use Rattle.components.proofs.Counting.{Parts, left, right, none, count-parts, count-labels, mem-some}
-use Rattle.components.proofs.Pushes.{label-lt}
+use Rattle.floods.specs.Flood.{fillOf, labelled, untaken, Ready, Taken, Flooded, nearBy, Floodable}
+use Rattle.floods.proofs.Counting.{Parts, left, right, none, count-parts, count-labels, mem-some}
+use Rattle.floods.proofs.Pushes.{label-lt}
+use Rattle.components.specs.Search.{Lists, Component, sizeOf, Searchable, Longest}
 use Rattle.loops.specs.Searches.{First}
 use Rattle.loops.proofs.Orders.{split}
 

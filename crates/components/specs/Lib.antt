@@ -1,2 +1,2 @@
-pub mod Flood
+pub mod Search
 pub mod Work

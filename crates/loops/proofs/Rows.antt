@@ -1,12 +1,14 @@
 -- Rows of a grid: where they lie, the coordinates of their voxels, and what lies on the border.
 use mathlib.Core.Path.{_≡_, sym, ap, ap₂, _∙_}
-use mathlib.Core.Bool.{Bool, true, _||_}
-use Prim.Native.Nat.{ℕ, suc, _+_, _*_, _/_, _%_, _≤_, _<_}
+use mathlib.Core.Bool.{Bool, true, false, _||_}
+use Prim.Native.Nat.{ℕ, suc, _+_, _-_, _*_, _/_, _%_, _≤_, _<_}
 use native.Mathlib.Omega.{arith}
 use native.Mathlib.Numerals.{add-one}
 use native.Mathlib.Nat.{mul-le-mul, mul-le-mul-left, mul-suc, mul-comm, mul-assoc, mul-add, mul-one, add-comm}
 use native.Mathlib.Nat.{mod-lt, mod-eq-of-lt, div-eq-of-lt, div-lt-iff-lt-mul, div-div-eq-div-mul, add-mul-div-left, add-mul-mod-self-left}
 use lib.Dec.{eqb}
+use borrow.Author.Tests.{eq-eqb, ne-eqb}
+use Rattle.prelude.proofs.Bools.{or-one}
 use Rattle.rules.specs.declared.Sides.{Sides}
 use Rattle.rules.specs.Grid.{Voxel, fitSides, size, voxel, end, onBorder}
 use Rattle.rules.proofs.Places.{fit, voxel-eq}
@@ -66,6 +68,34 @@ module _ (s : Sides) where
       ap (λ (v : Voxel). end (s .a) (v .x) || (end (s .b) (v .y) || end (s .c) (v .z))) (row-voxel r x h)
       ∙ ap₂ (λ (p q : ℕ). end (s .a) x || ((eqb (r % s .b) 0 || eqb p (s .b)) || (eqb (r / s .b) 0 || eqb q (s .c))))
       (sym (add-one (r % s .b))) (sym (add-one (r / s .b)))
+
+  -- ---- which voxels of a row lie on the border
+
+  module _ (r : ℕ) where
+    in-row : (i : ℕ) → s .a * r ≤ i → i < s .a * r + s .a → onBorder s i ≡ end (s .a) (i - s .a * r) || edge r
+    in-row i l h =
+        ap (onBorder s) (let e : i ≡ s .a * r + (i - s .a * r) = omega arith in e) ∙ border-in-row r (i - s .a * r) (omega arith)
+
+    pub row-edge : edge r ≡ true → (i : ℕ) → s .a * r ≤ i → i < s .a * r + s .a → onBorder s i ≡ true
+    row-edge e i l h = in-row i l h ∙ ap (λ (t : Bool). end (s .a) (i - s .a * r) || t) e ∙ or-one (end (s .a) (i - s .a * r))
+
+    pub row-first : 0 < s .a → onBorder s (s .a * r) ≡ true
+    row-first w =
+        in-row (s .a * r) (omega arith) (omega arith)
+        ∙ ap (λ (t : Bool). (t || eqb (suc (s .a * r - s .a * r)) (s .a)) || edge r) (eq-eqb (s .a * r - s .a * r) 0 (omega arith))
+
+    pub row-last : (last : ℕ) → 0 < s .a → last + 1 ≡ s .a * r + s .a → onBorder s last ≡ true
+    row-last last w e =
+        in-row last (omega arith) (omega arith)
+        ∙ ap (λ (t : Bool). (eqb (last - s .a * r) 0 || t) || edge r) (eq-eqb (suc (last - s .a * r)) (s .a) (omega arith))
+        ∙ ap (λ (t : Bool). t || edge r) (or-one (eqb (last - s .a * r) 0))
+
+    pub row-middle : edge r ≡ false → (i : ℕ) → s .a * r < i → i + 1 < s .a * r + s .a → onBorder s i ≡ false
+    row-middle f i l h =
+        in-row i (omega arith) (omega arith)
+        ∙ ap₂ (λ (t u : Bool). (t || u) || edge r)
+        (ne-eqb (i - s .a * r) 0 (λ z. omega arith)) (ne-eqb (suc (i - s .a * r)) (s .a) (λ z. omega arith))
+        ∙ f
 
 -- one row more
 pub rows-more : (a r : ℕ) → a * (r + 1) ≡ a * r + a

@@ -1,26 +1,38 @@
--- `find`: labels, the search for the largest component, and its stretch of the work list.
+-- `find`: labels with the gaps filled, the search for the largest component, and its stretch of the work list.
 use mathlib.Core.Path.{_≡_, sym, _∙_, subst}
 use mathlib.Core.List.{List}
 use Prim.Native.Nat.{ℕ, _+_, _*_}
 use native.Mathlib.Omega.{arith}
 use native.Mathlib.Nat.{mul-le-mul}
+use lib.IntN.{ℤ}
 use lib.ListN.{length}
 use Rattle.rules.specs.Grid.{size}
 use Rattle.rules.proofs.Places.{fit}
-use Rattle.components.specs.Flood.{nearBy, touching, Searchable, Longest}
+use Rattle.rules.specs.Fill.{filled}
+use Rattle.floods.specs.Flood.{nearBy}
+use Rattle.gaps.specs.Work.{Accepted}
+use Rattle.gaps.proofs.Accepting.{accepted-filled}
+use Rattle.components.specs.Search.{touching, Searchable, Longest}
 use Rattle.components.proofs.Finding.{searchable, relabelled, relabels-found}
 use borrow.Author.Needs.{needs}
 use Rattle.components.proofs.find.Statement.{statement}
 use Rattle.components.proofs.find.Tie as tie
 
-labels-requires : tie.Need-labels-requires
-labels-requires c κs = search needs
+label-requires : tie.Need-label-requires
+label-requires c κs = search needs
 
-abbrev begun : tie.After-labels → tie.Start
-begun c = c .before .before .before
+abbrev begun : tie.After-label → tie.Start
+begun c = c .before .before .before .before
 
-abbrev labelled : tie.After-struct-known → tie.After-labels
-labelled c = c .before .before .before
+-- the values that count, with the gaps filled, and what holds of them
+abbrev used : tie.Start → List ℤ
+used s = filled (s .args .sides) (s .args .values .now)
+
+accepted : (s : tie.Start) → Accepted (s .args .sides) (used s) (length (s .args .dist .now)) (length (s .args .status .now))
+accepted s = accepted-filled (s .args .sides) (s .args .values .now) _ _ (s .pre)
+
+abbrev labelled : tie.After-struct-known → tie.After-label
+labelled c = c .before .before .before .before
 
 mul-ab : tie.Need-mul-ab
 mul-ab c = let s = begun (labelled c) in let F = fit (s .args .sides) (s .pre .fit) in omega (arith, mul-le-mul (F .a-high) (F .b-high))
@@ -47,23 +59,23 @@ largest-requires c κs =
     let e = labelled (t .before) in
     let s = begun e in
     let a = s .args in
-    subst (λ (o : List ℕ). Searchable o (1 + a .sides .a + a .sides .a * a .sides .b) (e .labels .last .0) (length (a .dist .now)))
+    subst (λ (o : List ℕ). Searchable o (1 + a .sides .a + a .sides .a * a .sides .b) (e .label .last .0) (length (e .label .last .1 .0)))
     (sym (t .touching .ensures))
-    (searchable (a .sides) (a .values .now) _ _ (s .pre) (e .labels .last .0) (e .labels .ensures) _ (s .pre .dist-len))
+    (searchable (a .sides) (used s) _ _ (accepted s) (e .label .last .0) (e .label .ensures) _ (e .label .kept .1 .0 ∙ s .pre .dist-len))
 
 clear-requires : tie.Need-clear-requires
 clear-requires c κs = search needs
 
 -- after the search
 longest : (c : tie.After-largest) → let t = offered (c .before) in let e = labelled (t .before) in let a = begun e .args in
-    Longest (nearBy (touching (a .sides .a) (a .sides .a * a .sides .b)) (1 + a .sides .a + a .sides .a * a .sides .b)) (e .labels .last .0)
+    Longest (nearBy (touching (a .sides .a) (a .sides .a * a .sides .b)) (1 + a .sides .a + a .sides .a * a .sides .b)) (e .label .last .0)
     (c .largest .last .1 .0)
     (c .largest .result .first) (c .largest .result .end)
 longest c =
     let t = offered (c .before) in
     let e = labelled (t .before) in
     let a = begun e .args in
-    subst (λ (o : List ℕ). Longest (nearBy o (1 + a .sides .a + a .sides .a * a .sides .b)) (e .labels .last .0) (c .largest .last .1 .0)
+    subst (λ (o : List ℕ). Longest (nearBy o (1 + a .sides .a + a .sides .a * a .sides .b)) (e .label .last .0) (c .largest .last .1 .0)
     (c .largest .result .first) (c .largest .result .end)) (t .touching .ensures) (c .largest .ensures)
 
 abbrev searched : tie.After-clear → tie.After-largest
@@ -74,7 +86,7 @@ cleared c = c .before .before .before .before
 
 -- the labels are as many as ever
 whole : (c : tie.After-largest) → let s = begun (labelled (offered (c .before) .before)) in length (c .largest .last .0) ≡ size (s .args .sides)
-whole c = let e = labelled (offered (c .before) .before) in c .largest .kept .0 ∙ e .labels .kept .0 ∙ begun e .pre .status-len
+whole c = let e = labelled (offered (c .before) .before) in c .largest .kept .0 ∙ e .label .kept .0 ∙ begun e .pre .status-len
 
 relabel-requires : tie.Need-relabel-requires
 relabel-requires c κs =
@@ -82,7 +94,7 @@ relabel-requires c κs =
     let r = searched d in
     let e = labelled (offered (r .before) .before) in
     let s = begun e in
-    relabelled (s .args .sides) (s .args .values .now) _ _ (s .pre) (e .labels .last .0) (e .labels .ensures) (r .largest .last .1 .0)
+    relabelled (s .args .sides) (used s) _ _ (accepted s) (e .label .last .0) (e .label .ensures) (r .largest .last .1 .0)
     (r .largest .result .first) (r .largest .result .end) (longest r) _ (d .clear .ensures .len ∙ whole r)
 
 same-length : tie.Need-same-length
@@ -98,7 +110,7 @@ returns c =
     let r = searched d in
     let e = labelled (offered (r .before) .before) in
     let s = begun e in
-    relabels-found (s .args .sides) (s .args .values .now) _ _ (s .pre) (e .labels .last .0) (e .labels .ensures) (r .largest .last .1 .0)
+    relabels-found (s .args .sides) (used s) _ _ (accepted s) (e .label .last .0) (e .label .ensures) (r .largest .last .1 .0)
     (r .largest .result .first) (r .largest .result .end) (longest r) (s .args .far) (r .largest .last .0) (d .clear .last .0) (n .relabel .last .0)
     (whole r) (d .clear .ensures) (n .relabel .ensures)
 
@@ -106,7 +118,7 @@ pub find-spec : {M : Type 1} → statement M
 find-spec =
     tie.close
     (tie.spec
-    labels-requires
+    label-requires
     mul-ab
     touching-requires
     add-back

@@ -1,12 +1,12 @@
 -- `touching`: the offsets of the places before p are made.
-use Prim.Native.Nat.{ℕ, _+_, _*_, _/_, _%_, _-_, _≤_, _<_}
+use Prim.Native.Nat.{ℕ, _*_, _/_, _%_, _-_, _≤_, _<_}
 use mathlib.Core.Path.{_≡_, refl, _∙_}
 use native.Mathlib.Omega.{arith}
 use native.Mathlib.Nat.{mul-le-mul}
 use lib.ListN.{length, getD, length-set}
 use Rattle.prelude.proofs.Ranges.{is-map-range}
 use Rattle.loops.proofs.Orders.{store-more}
-use Rattle.components.specs.Flood.{offsetOf}
+use Rattle.floods.specs.Flood.{offsetOf}
 use borrow.Author.Needs.{needs}
 use Rattle.components.proofs.touching.Statement.{statement}
 use Rattle.components.proofs.touching.Tie as tie

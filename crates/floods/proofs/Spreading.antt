@@ -1,5 +1,5 @@
 -- A flood whose neighbours are given by offsets.
-use mathlib.Core.Path.{_≡_, ap, _∙_, subst}
+use mathlib.Core.Path.{_≡_, ap, subst}
 use mathlib.Core.Bool.{false}
 use mathlib.Core.List.{List}
 use Prim.Native.Nat.{ℕ, _+_, _-_, _≤_, _<_}
@@ -7,9 +7,9 @@ use native.Mathlib.Omega.{arith}
 use lib.IntN.{pos}
 use lib.ListN.{length, getD}
 use Rattle.rules.specs.Grid.{isNegative}
-use Rattle.components.specs.Flood.{Fill, push, pushAll, shifted, nearBy, Pushable, Floodable, Flooded}
-use Rattle.components.proofs.Offsets.{near-mem, mem-near}
-use Rattle.components.proofs.Flooding.{State, start-state, turn-taken, turn-state, ended}
+use Rattle.floods.specs.Flood.{Fill, push, pushAll, shifted, nearBy, Pushable, Floodable, Flooded}
+use Rattle.floods.proofs.Offsets.{near-mem, mem-near}
+use Rattle.floods.proofs.Flooding.{State, start-state, turn-taken, turn-state, ended}
 
 module _ (offsets : List ℕ) (back : ℕ) (B : Fill) (seed : ℕ) where
   -- from B, with the entries before `at` done
@@ -18,6 +18,10 @@ module _ (offsets : List ℕ) (back : ℕ) (B : Fill) (seed : ℕ) where
 
   pub spread-start : Floodable offsets back B seed → Spread (push seed B) (B .end)
   spread-start F = start-state _ _ _ _ B seed (F .ready) (F .seeded)
+
+  -- the same state, said otherwise
+  pub spread-as : {f : Fill} {at : ℕ} (g : Fill) (next : ℕ) → f ≡ g → at ≡ next → Spread f at → Spread g next
+  spread-as {f} g next e h T = subst (λ (x : Fill). Spread x next) e (subst (λ (n : ℕ). Spread f n) h T)
 
   -- ---- a turn
 

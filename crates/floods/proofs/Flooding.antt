@@ -16,8 +16,8 @@ use Rattle.cells.proofs.Chains.{follow}
 use Rattle.prelude.proofs.Lists.{Mem, here, there, mem-cons}
 use Rattle.cells.proofs.Groups.{mem-none}
 use Rattle.rules.specs.Grid.{amount}
-use Rattle.components.specs.Flood.{Fill, pushed, push, pushAll, labelled, untaken, Ready, Taken, Flooded}
-use Rattle.components.proofs.Pushes.{push-yes, push-no, label-lt, pushed-count, has-room, pushed-ready}
+use Rattle.floods.specs.Flood.{Fill, pushed, push, pushAll, labelled, untaken, Ready, Taken, Flooded}
+use Rattle.floods.proofs.Pushes.{push-yes, push-no, label-lt, pushed-count, has-room, pushed-ready}
 
 -- an element after a store: the one stored, or another
 pub data Stored {A : Type 0} (l : List A) (d : A) (j : ℕ) (v : A) (i : ℕ) : Type 0 where

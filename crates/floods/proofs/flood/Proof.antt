@@ -1,13 +1,13 @@
 -- `flood`: whatever the labels were at the call, if the loop began in a state of their flood, it is in one now.
-use Prim.Native.Nat.{ℕ, _+_, _-_, _≤_, _<_}
-use mathlib.Core.Path.{_≡_, refl, sym, ap, _∙_, subst}
+use Prim.Native.Nat.{_+_, _-_, _≤_, _<_}
+use mathlib.Core.Path.{_≡_, refl, sym, subst}
 use native.Mathlib.Omega.{arith}
 use lib.ListN.{length}
-use Rattle.components.specs.Flood.{Fill, fillOf, push, pushAll, shifted, Pushable, Floodable}
-use Rattle.components.proofs.Pushes.{label-lt}
-use Rattle.components.proofs.Spreading.{Spread, spread-start, spread-turn, spread-ended, turn-in, turn-entry, turn-low, turn-pushable}
-use Rattle.components.proofs.flood.Statement.{statement}
-use Rattle.components.proofs.flood.Tie as tie
+use Rattle.floods.specs.Flood.{Fill, fillOf, push, pushAll, shifted, Pushable, Floodable}
+use Rattle.floods.proofs.Pushes.{label-lt}
+use Rattle.floods.proofs.Spreading.{Spread, spread-start, spread-as, spread-turn, spread-ended, turn-in, turn-entry, turn-low, turn-pushable}
+use Rattle.floods.proofs.flood.Statement.{statement}
+use Rattle.floods.proofs.flood.Tie as tie
 
 abbrev Inv-loop : tie.InvT-loop
 Inv-loop label₀ work₀ start seed offsets back end₀ at₀ label work end at =
@@ -120,8 +120,7 @@ loop-again c =
     let a = begun (pushed l) .args in
     let now = l .loop .inv B e F T in
     let g = pushAll (shifted (w .entry .result - a .back) (a .offsets .now)) (Now l) in
-    subst (λ (x : Fill). Spread (a .offsets .now) (a .back) B (a .seed) x (l .loop .at + 1)) {x = g}
-    (sym {b = g} (spread c .push-each .ensures))
+    spread-as (a .offsets .now) (a .back) B (a .seed) _ _ (sym {b = g} (spread c .push-each .ensures)) (omega arith)
     (spread-turn (a .offsets .now) (a .back) B (a .seed) F (Now l) (l .loop .at) now (t .loop-test .taken)
     (w .entry .result) (w .entry .ensures))
 

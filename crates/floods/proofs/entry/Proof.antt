@@ -3,10 +3,10 @@ use native.Mathlib.Omega.{arith}
 use lib.IntN.{pos}
 use lib.ListN.{getD}
 use borrow.Author.Needs.{needs, sfits-of}
-use Rattle.components.proofs.Signs.{index-of′}
+use Rattle.floods.proofs.Signs.{index-of′}
 use borrow.Author.Needs.{needs}
-use Rattle.components.proofs.entry.Statement.{statement}
-use Rattle.components.proofs.entry.Tie as tie
+use Rattle.floods.proofs.entry.Statement.{statement}
+use Rattle.floods.proofs.entry.Tie as tie
 
 mul-v : tie.Need-mul-v
 mul-v c = search needs

@@ -1,8 +1,8 @@
--- Floods with one work list. A label is 0 for a voxel that no flood may take, 1 before a flood takes it and 2 after. A voxel's neighbours are
--- those at some offsets from it: touching is one list of offsets, and any other way to be joined is another.
+-- Floods with one work list. A voxel has the label 1 before a flood takes it and 2 after; one with any other label no flood takes. A voxel's
+-- neighbours are those at some offsets from it: touching is one list of offsets, sharing a face is another.
 use mathlib.Core.Path.{_≡_}
 use mathlib.Core.Logic.{_⊎_}
-use mathlib.Core.Bool.{Bool, true, cond}
+use mathlib.Core.Bool.{Bool, cond}
 use mathlib.Core.List.{List, [], _∷_, map}
 use Prim.Native.Nat.{ℕ, _+_, _-_, _*_, _/_, _%_, _≤_, _<_}
 use lib.Dec.{eqb}
@@ -55,12 +55,12 @@ shifted base offsets = map (λ o. base + o) offsets
 unfoldable pub nearBy : List ℕ → ℕ → ℕ → ℕ → Bool
 nearBy offsets back v j = any (eqb j) (shifted (v - back) offsets)
 
--- the offset of neighbour p of 27: one lower, the same or one higher along each axis
+-- the offset of position p of 27: one lower, the same or one higher along each axis
 abbrev pub offsetOf : ℕ → ℕ → ℕ → ℕ
 offsetOf a ab p = p % 3 + p / 3 % 3 * a + p / 9 * ab
 
-abbrev pub touching : ℕ → ℕ → List ℕ
-touching a ab = map (offsetOf a ab) (range 0 27)
+abbrev pub offsetsOf : ℕ → ℕ → List ℕ → List ℕ
+offsetsOf a ab positions = map (offsetOf a ab) positions
 
 pub record Pushable (offsets : List ℕ) (base : ℕ) (f : Fill) : Type 0 where
   pub ready : Ready f
@@ -80,11 +80,6 @@ pub record Taken (l l′ : List ℕ) (i : ℕ) : Type 0 where
   pub was : getD l i 0 ≡ 1
   pub made : getD l′ i 0 ≡ 2
 
--- the work list from first up to end lists what a test finds
-pub record Lists (test : ℕ → Bool) (work : List ℤ) (first end : ℕ) : Type 0 where
-  pub listed : (k : ℕ) → first ≤ k → k < end → (i : ℕ) × (getD work k (pos 0) ≡ pos i) × (test i ≡ true)
-  pub whole : (i : ℕ) → test i ≡ true → (k : ℕ) × (first ≤ k) × (k < end) × (getD work k (pos 0) ≡ pos i)
-
 -- what a flood does: it takes the voxels that are linked to the seed by untaken ones, and lists them behind what the work list had
 pub record Flooded (near : ℕ → ℕ → Bool) (f g : Fill) (seed : ℕ) : Type 0 where
   pub len : length (g .labels) ≡ length (f .labels)
@@ -96,42 +91,3 @@ pub record Flooded (near : ℕ → ℕ → Bool) (f g : Fill) (seed : ℕ) : Typ
   pub listed : (k : ℕ) → f .end ≤ k → k < g .end → (i : ℕ) × (getD (g .work) k (pos 0) ≡ pos i) × (Taken (f .labels) (g .labels) i)
   pub queued : (i : ℕ) → Taken (f .labels) (g .labels) i → (k : ℕ) × (f .end ≤ k) × (k < g .end) × (getD (g .work) k (pos 0) ≡ pos i)
   pub counted : g .end + untaken (g .labels) ≡ f .end + untaken (f .labels)
-
--- ---- the largest component
-
--- of the indices below n, the test finds just those that are linked to v by members
-pub record Component (n : ℕ) (member : ℕ → Bool) (near : ℕ → ℕ → Bool) (v : ℕ) (test : ℕ → Bool) : Type 0 where
-  pub linked : (i : ℕ) → i < n → test i ≡ true → Linked member near v i
-  pub whole : (i : ℕ) → Linked member near v i → test i ≡ true
-
-abbrev pub sizeOf : ℕ → (ℕ → Bool) → ℕ
-sizeOf n test = length (filter test (range 0 n))
-
--- the test finds a component that none exceeds, and that exceeds every one with a smaller index
-pub record Largest (n : ℕ) (member : ℕ → Bool) (near : ℕ → ℕ → Bool) (test : ℕ → Bool) : Type 0 where
-  pub seed : ℕ
-  pub seeded : member seed ≡ true
-  pub component : Component n member near seed test
-  pub smallest : (i : ℕ) → i < n → test i ≡ true → seed ≤ i
-  pub largest : (v : ℕ) (other : ℕ → Bool) → member v ≡ true → Component n member near v other → sizeOf n other ≤ sizeOf n test
-  pub first : (v : ℕ) (other : ℕ → Bool) → member v ≡ true → Component n member near v other → v < seed → sizeOf n other < sizeOf n test
-
--- labels of 0 and 1, and neighbours both ways, where the search may start
-pub record Searchable (offsets : List ℕ) (back : ℕ) (l : List ℕ) (room : ℕ) : Type 0 where
-  pub same : room ≡ length l
-  pub small : length l ≤ 262144
-  pub two : (k : ℕ) → (getD l k 0 ≡ 0) ⊎ (getD l k 0 ≡ 1)
-  pub low : (v : ℕ) → getD l v 0 ≡ 1 → back ≤ v
-  pub high : (v : ℕ) → getD l v 0 ≡ 1 → (k : ℕ) → k < length offsets → v - back + getD offsets k 0 < length l
-  pub turn : (u v : ℕ) → getD l u 0 ≡ 1 → getD l v 0 ≡ 1 → nearBy offsets back u v ≡ true → nearBy offsets back v u ≡ true
-  pub some : ℕ
-  pub some-is : getD l some 0 ≡ 1
-
--- a stretch of the work list that lists the largest component of the voxels that were untaken
-pub record Longest (near : ℕ → ℕ → Bool) (l : List ℕ) (work : List ℤ) (first end : ℕ) : Type 0 where
-  pub order : first ≤ end
-  pub upto : end ≤ length work
-  pub test : ℕ → Bool
-  pub within : (i : ℕ) → test i ≡ true → i < length l
-  pub largest : Largest (length l) (labelled 1 l) near test
-  pub lists : Lists test work first end

@@ -1,7 +1,7 @@
 -- Neighbours by offsets: pushing them in turn, and which voxels they are.
 use mathlib.Core.Path.{_≡_, refl, sym, ap, _∙_, subst}
 use mathlib.Core.Bool.{true}
-use mathlib.Core.List.{List, [], _∷_, map}
+use mathlib.Core.List.{List, []}
 use Prim.Native.Nat.{ℕ, suc, _+_, _-_, _≤_, _<_}
 use native.Mathlib.Omega.{arith}
 use native.Mathlib.Numerals.{add-one}
@@ -9,10 +9,9 @@ use lib.Dec.{eqb}
 use lib.ListN.{length, getD, drop, drop-of-length-le}
 use lib.Seq.{drop-cons}
 use borrow.Author.Tests.{eq-eqb, eqb-true}
-use Rattle.cells.specs.Groups.{any}
 use Rattle.prelude.proofs.Lists.{Mem, any-true, true-any}
-use Rattle.components.specs.Flood.{Fill, push, pushAll, shifted, nearBy, Ready}
-use Rattle.components.proofs.Pushes.{push-ready, push-length}
+use Rattle.floods.specs.Flood.{Fill, push, pushAll, shifted, nearBy, Ready}
+use Rattle.floods.proofs.Pushes.{push-ready, push-length}
 
 -- ---- one after the other: k offsets have had their turn
 

@@ -1,13 +1,12 @@
 -- `push_each`: k offsets have had their turn.
 use Prim.Native.Nat.{_-_}
-use mathlib.Core.Path.{_∙_}
 use lib.ListN.{length}
-use Rattle.components.specs.Flood.{fillOf}
-use Rattle.components.proofs.Offsets.{Pushing, pushing-start, pushing-more, pushing-done}
+use Rattle.floods.specs.Flood.{fillOf}
+use Rattle.floods.proofs.Offsets.{Pushing, pushing-start, pushing-more, pushing-done}
 use native.Mathlib.Omega.{arith}
 use borrow.Author.Needs.{needs}
-use Rattle.components.proofs.push_each.Statement.{statement}
-use Rattle.components.proofs.push_each.Tie as tie
+use Rattle.floods.proofs.push_each.Statement.{statement}
+use Rattle.floods.proofs.push_each.Tie as tie
 
 abbrev Inv-loop : tie.InvT-loop
 Inv-loop label₀ work₀ end base offsets e₀ k₀ label work e k = Pushing offsets base (fillOf label₀ work₀ e₀) (fillOf label work e) k

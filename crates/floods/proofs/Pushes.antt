@@ -9,8 +9,8 @@ use lib.ListN.{length, getD, length-set}
 use lib.IntN.{pos}
 use borrow.Author.Tests.{eq-eqb, ne-eqb, eqb-true, eqb-false}
 use Rattle.prelude.proofs.Bools.{two}
-use Rattle.components.specs.Flood.{Fill, pushed, push, untaken, Ready}
-use Rattle.components.proofs.Counting.{count-set}
+use Rattle.floods.specs.Flood.{Fill, pushed, push, untaken, Ready}
+use Rattle.floods.proofs.Counting.{count-set}
 
 pub push-yes : (j : ℕ) (f : Fill) → getD (f .labels) j 0 ≡ 1 → push j f ≡ pushed j f
 unfolding push

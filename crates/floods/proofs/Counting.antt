@@ -1,7 +1,7 @@
 -- How many elements of a list pass a test.
 use mathlib.Core.Path.{_≡_, refl, sym, ap, _∙_, subst}
 use mathlib.Core.Logic.{⊎-elim}
-use mathlib.Core.Bool.{Bool, true, false, not}
+use mathlib.Core.Bool.{Bool, true, false}
 use mathlib.Core.List.{List, [], _∷_}
 use Prim.Native.Nat.{ℕ, zero, suc, _+_, _≤_, _<_}
 use native.Mathlib.Omega.{arith}
@@ -14,7 +14,7 @@ use Rattle.prelude.proofs.Bools.{two}
 use Rattle.prelude.proofs.Lists.{Mem, here, there}
 use Rattle.rules.specs.Grid.{range}
 use Rattle.prelude.proofs.Ranges.{range-mem, length-range}
-use Rattle.components.specs.Flood.{labelled, untaken}
+use Rattle.floods.specs.Flood.{labelled, untaken}
 
 -- one of p and q holds where r does, and neither where it does not
 pub data Parts : Bool → Bool → Bool → Type 0 where

@@ -1,0 +1,7 @@
+pub mod Counting
+pub mod Pushes
+pub mod Offsets
+pub mod Flooding
+pub mod Spreading
+pub mod Signs
+pub mod Positions
