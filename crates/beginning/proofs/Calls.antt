@@ -15,12 +15,13 @@ use Rattle.rules.specs.declared.Record.{Record}
 use Rattle.rules.specs.Value.{stray}
 use Rattle.rules.specs.Grid.{fitSides, size, range, voxels, measuredNegative, valueAt}
 use Rattle.rules.specs.Checks.{firstFailing}
-use Rattle.rules.specs.Begin.{newRecord, beginChecks, begun}
+use Rattle.rules.specs.Fill.{filled}
+use Rattle.rules.specs.Begin.{newRecord, beginChecks, begunOn, begun}
 use Rattle.rules.specs.Answer.{done, outcome, buffers}
 use Rattle.rules.proofs.Checks.{all-hold}
 use Rattle.prelude.proofs.Ranges.{any-below}
 use Rattle.rules.proofs.Boxes.{checked-border}
-use Rattle.components.specs.Work.{Accepted}
+use Rattle.gaps.specs.Work.{Accepted}
 use Rattle.beginning.specs.Work.{negativeAt, borderNegative, WorkedOut}
 
 module _ (s : Sides) (values dist : List ℤ) (status : List ℕ) where
@@ -78,7 +79,7 @@ module _ (s : Sides) (values dist : List ℤ) (status : List ℕ) where
       }
 
 -- what the work leaves is the rule's outcome
-pub begun-is : (s : Sides) (T : ℕ) (values d : List ℤ) (t : List ℕ) (r : Record) → r ≡ newRecord s T → WorkedOut s values d t
+pub begun-is : (s : Sides) (T : ℕ) (values d : List ℤ) (t : List ℕ) (r : Record) → r ≡ newRecord s T → WorkedOut s (filled s values) d t
     → outcome (done r) (buffers d t) ≡ begun s T values
-unfolding begun
+unfolding begun begunOn
 begun-is s T values d t r f w = λ i. outcome (done (f i)) (buffers (w .distances i) (w .statuses i))

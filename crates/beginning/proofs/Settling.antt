@@ -3,15 +3,17 @@ use mathlib.Core.Path.{_≡_, ap, _∙_, subst}
 use mathlib.Core.List.{List}
 use Prim.Native.Nat.{ℕ, _+_}
 use lib.IntN.{ℤ}
-use lib.ListN.{getD}
 use Rattle.rules.specs.declared.Sides.{Sides}
+use Rattle.rules.specs.Fill.{filled}
 use Rattle.rules.specs.Begin.{inside}
 use Rattle.rules.specs.Meaning.{SomeVoxels}
 use Rattle.rules.proofs.Places.{fit}
 use Rattle.rules.proofs.Distance.{inside-voxels, in-distance}
 use Rattle.values.specs.Values.{greatestBy, workedBy}
 use Rattle.values.proofs.Measuring.{greatest-facing, worked-is}
-use Rattle.components.specs.Work.{Accepted, Found}
+use Rattle.gaps.specs.Work.{Accepted}
+use Rattle.gaps.proofs.Accepting.{accepted-filled}
+use Rattle.components.specs.Work.{Found}
 use Rattle.distances.specs.Work.{Seeded, Measured}
 use Rattle.bounding_box.specs.declared.Bounds.{Bounds}
 use Rattle.bounding_box.specs.Bounds.{Enclosable, Enclosed, statusBy}
@@ -19,28 +21,31 @@ use Rattle.bounding_box.proofs.Settling.{status-is}
 use Rattle.beginning.specs.Work.{WorkedOut}
 
 module _ (s : Sides) (values : List ℤ) (n m : ℕ) (A : Accepted s values n m) where
-  some : SomeVoxels s (inside s values)
-  some = inside-voxels s values (A .some) (A .some-negative)
+  abbrev S : List ℕ
+  S = inside s (filled s values)
+
+  some : SomeVoxels s S
+  some = let B = accepted-filled s values n m A in inside-voxels s (filled s values) (B .some) (B .some-negative)
 
   -- where the sweeps start
-  pub seeded : (l : List ℕ) (far : ℕ) → far ≡ s .a + s .b + s .c → Found s (inside s values) far l → Seeded s (inside s values) l
-  seeded l far e f = record { fit = A .fit; filled = some; seeds = subst (λ (x : ℕ). Found s (inside s values) x l) e f }
+  pub seeded : (l : List ℕ) (far : ℕ) → far ≡ s .a + s .b + s .c → Found s S far l → Seeded s S l
+  seeded l far e f = record { fit = A .fit; filled = some; seeds = subst (λ (x : ℕ). Found s S x l) e f }
 
-  module _ (d : List ℕ) (D : Measured s (inside s values) d) where
+  module _ (d : List ℕ) (D : Measured s S d) where
     pub enclosable : Enclosable s d
     enclosable =
         let v = some .filled .0 in
         let e = some .filled .1 in
         let h = some .within v e in
-        record { fit = A .fit; len = D .len; some = v; some-in = h; some-listed = D .is v h ∙ in-distance s (inside s values) some v h e }
+        record { fit = A .fit; len = D .len; some = v; some-in = h; some-listed = D .is v h ∙ in-distance s S some v h e }
 
     pub worked-out : (M : ℕ) → M ≡ greatestBy values d → (dist : List ℤ) → dist ≡ workedBy M values d → (b : Bounds) → Enclosed s d b
-        → (status : List ℕ) → status ≡ statusBy s b d → WorkedOut s values dist status
+        → (status : List ℕ) → status ≡ statusBy s b d → WorkedOut s (filled s values) dist status
     worked-out M e dist f b B status g =
         record {
           distances =
               f
               ∙ ap (λ (k : ℕ). workedBy k values d) (e ∙ greatest-facing s values (A .len) some d (D .is))
               ∙ worked-is s values (A .len) some d (D .is);
-          statuses = g ∙ status-is s (fit s (A .fit)) (inside s values) some d (D .len) (D .is) b B;
+          statuses = g ∙ status-is s (fit s (A .fit)) S some d (D .len) (D .is) b B;
         }

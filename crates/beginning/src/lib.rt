@@ -1,4 +1,5 @@
-// Document 01's begin: the numbers 1, 2, 28, 3 and 4, then S, worked distances, box and status, all in the two lent buffers.
+// Document 01's begin: the numbers 1, 2, 28, 3 and 4 of the values as given; then gaps, S, worked distances, box and status, all in the two lent
+// buffers.
 use rules::Begun;
 use rules::Record;
 use rules::Sides;
@@ -7,11 +8,12 @@ ghost use Prim.Native.Nat.{_-_, _*_, _≤_};
 ghost use lib.ListN.{length};
 ghost use Rattle.cells.specs.Groups.{any};
 ghost use Rattle.rules.specs.Grid.{size, range};
+ghost use Rattle.rules.specs.Fill.{filled};
 ghost use Rattle.rules.specs.Checks.{firstFailing};
 ghost use Rattle.rules.specs.Begin.{newRecord, beginChecks, begin as beginOf};
 ghost use Rattle.rules.specs.Answer.{outcome, buffers, begunAnswer};
 ghost use Rattle.loops.specs.Rows.{Row};
-ghost use Rattle.components.specs.Work.{Accepted};
+ghost use Rattle.gaps.specs.Work.{Accepted};
 ghost use Rattle.beginning.specs.Work.{negativeAt, borderNegative, Sized, WorkedOut};
 
 // Whether a value from first up to end is measured and negative.
@@ -108,7 +110,7 @@ fn new_record(sides: Sides, allowed: u16) -> Record
 // The work on a grid that is not refused.
 fn work_out(dist: &mut [i32], status: &mut [u8], sides: Sides, values: &[i32])
     requires { ⌜ Accepted sides (now values) (length (now dist)) (length (now status)) ⌝ }
-    ensures { λ _. ⌜ WorkedOut sides (now (values .entry)) (now (dist .exit)) (now (status .exit)) ⌝ }
+    ensures { λ _. ⌜ WorkedOut sides (filled sides (now (values .entry))) (now (dist .exit)) (now (status .exit)) ⌝ }
 {
     let far = (sides.a + sides.b + sides.c) as u8;
     components::find(status, dist, sides, values, far);

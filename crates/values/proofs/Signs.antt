@@ -15,7 +15,7 @@ use Rattle.prelude.proofs.Bools.{two, and-zero, and-one, or-zero, both-ways}
 use Rattle.prelude.proofs.Signs.{below, not-below, turned}
 use Rattle.rules.specs.Value.{isMissing, beyond, stray, measuredNegative, measuredNonNegative, amount}
 use Rattle.rules.proofs.LongRange.{amount-high}
-use Rattle.values.specs.Values.{workedTo}
+use Rattle.values.specs.Values.{countedAs, workedTo}
 
 -- the missing mark by its bits
 mark-bits : (n : ℕ) → SFits w32 (negsuc n) → eqb (ofZ w32 (negsuc n)) 2147483648 ≡ eqb n 2147483647
@@ -85,7 +85,21 @@ in-range true v e h = let l = amount-high v e in omega arith
 
 -- ---- worked distances
 
-pub worked-in : (m : ℕ) (v : ℤ) (d : ℕ) → d ≡ 0 → workedTo m v d ≡ v
+-- the missing mark is the one value whose bits are 2^31
+pub missing-bits : (z : ℤ) → SFits w32 z → eqb (ofZ w32 z) 2147483648 ≡ isMissing z
+unfolding isMissing
+missing-bits (pos n) h = ne-eqb n 2147483648 (λ e. let l : n < 2 ^ 31 = h .sfits in let z : ⊥ = omega arith in z)
+missing-bits (negsuc n) h = mark-bits n h
+
+pub counted-gap : (z : ℤ) → SFits w32 z → ofZ w32 z ≡ 2147483648 → countedAs z ≡ negsuc 0
+unfolding countedAs
+counted-gap z h e = rw (sym (missing-bits z h) ∙ eq-eqb (ofZ w32 z) 2147483648 e)
+
+pub counted-value : (z : ℤ) → SFits w32 z → (ofZ w32 z ≡ 2147483648 → ⊥) → countedAs z ≡ z
+unfolding countedAs
+counted-value z h n = rw (sym (missing-bits z h) ∙ ne-eqb (ofZ w32 z) 2147483648 n)
+
+pub worked-in : (m : ℕ) (v : ℤ) (d : ℕ) → d ≡ 0 → workedTo m v d ≡ countedAs v
 unfolding workedTo
 worked-in m v d e = ap (workedTo m v) e
 

@@ -4,20 +4,26 @@ use mathlib.Core.Bool.{Bool, cond, _&&_}
 use mathlib.Core.List.{List, map}
 use Prim.Native.Nat.{ℕ, zero, suc, _+_, _≤_}
 use lib.Dec.{eqb}
-use lib.IntN.{ℤ, pos}
+use lib.IntN.{ℤ, pos, negsuc}
 use lib.ListN.{length, getD}
 use Rattle.cells.specs.Groups.{filter}
 use Rattle.rules.specs.Begin.{greatest}
-use Rattle.rules.specs.Grid.{range, voxel, voxels, measuredNegative, measuredNonNegative, amount, valueAt}
+use Rattle.rules.specs.Value.{isMissing}
+use Rattle.rules.specs.Grid.{range, measuredNegative, measuredNonNegative, amount, valueAt}
+
+-- the value that a voxel of S counts with: a missing one lies in a gap that is filled
+unfoldable pub countedAs : ℤ → ℤ
+countedAs v = cond (isMissing v) (negsuc 0) v
 
 -- the worked distance of a voxel of value v at d steps
 unfoldable pub workedTo : ℕ → ℤ → ℕ → ℤ
-workedTo m v zero = v
+workedTo m v zero = countedAs v
 workedTo m v (suc zero) = cond (measuredNonNegative v) v (pos m)
 workedTo m v (suc (suc d)) = pos (m + suc (suc d))
 
 -- ---- what each scan leaves
 
+-- 1 for a voxel that is measured negative, else 0: from such labels S is found
 unfoldable pub labelsOf : List ℤ → List ℕ
 labelsOf values = map (λ k. cond (measuredNegative (valueAt values k)) 1 0) (range 0 (length values))
 

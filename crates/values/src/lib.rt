@@ -1,4 +1,4 @@
-// What a measured value means, and the scans of the values: labels, M, the worked distances. Signed numbers stop here.
+// What a measured value means, and the scans of the values: number 28, M, the worked distances. Signed numbers stop here.
 ghost use mathlib.Core.Path.{_≡_};
 ghost use mathlib.Core.Bool.{false, cond};
 ghost use Prim.Native.Nat.{_≤_, _<_};
@@ -8,7 +8,7 @@ ghost use lib.Signed.{ltZ};
 ghost use lib.ListN.{length};
 ghost use Rattle.prelude.specs.Lists.{any};
 ghost use Rattle.rules.specs.Value.{beyond as beyondOf, stray, measuredNegative};
-ghost use Rattle.values.specs.Values.{labelsOf, greatestBy, workedTo, workedBy, Fillable};
+ghost use Rattle.values.specs.Values.{countedAs, greatestBy, workedTo, workedBy, Fillable};
 
 // Measured, and not from -bound to bound.
 pub fn beyond(v: i32, bound: u32) -> bool
@@ -39,26 +39,6 @@ pub fn negative(v: i32) -> bool
     ensures { λ r. ⌜ r ≡ measuredNegative v ⌝ }
 {
     (v < 0) & (v != -2147483648)
-}
-
-// 1 where the value is measured and negative, else 0.
-fn label_of(v: i32) -> u8
-    ensures { λ r. ⌜ r ≡ cond (measuredNegative v) 1 0 ⌝ }
-{
-    if negative(v) { 1 } else { 0 }
-}
-
-// The label of each voxel, before any flood.
-pub fn labels(status: &mut [u8], values: &[i32])
-    requires { ⌜ length (now status) ≡ length (now values) ⌝ }
-    ensures { λ _. ⌜ now (status .exit) ≡ labelsOf (now (values .entry)) ⌝ }
-{
-    let mut i = 0;
-    while i < values.len() {
-        let v = values[i];
-        status[i] = label_of(v);
-        i += 1;
-    }
 }
 
 // The value of a voxel 1 step from S, and 0 of any other.
@@ -97,13 +77,23 @@ pub fn greatest(values: &[i32], d: &[u8]) -> u32
     m as u32
 }
 
+// The value that a voxel of S counts with: a missing one lies in a gap that is filled.
+fn counted(v: i32) -> i32
+    ensures { λ r. ⌜ r ≡ countedAs v ⌝ }
+{
+    if v == -2147483648 {
+        return -1;
+    }
+    v
+}
+
 // The worked distance of a voxel of value v that is d steps from S.
 fn worked_at(v: i32, d: u8, m: u32) -> i32
     requires { ⌜ m ≤ 1000000000 ⌝ }
     ensures { λ r. ⌜ r ≡ workedTo m v d ⌝ }
 {
     if d == 0 {
-        return v;
+        return counted(v);
     }
     if d == 1 {
         if v < 0 {

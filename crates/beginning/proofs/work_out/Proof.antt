@@ -1,6 +1,8 @@
 -- `work_out` leaves what the rule says.
-use mathlib.Core.Path.{_≡_, _∙_}
 use native.Mathlib.Omega.{arith}
+use mathlib.Core.List.{List}
+use Prim.Native.Nat.{ℕ}
+use Rattle.rules.specs.Fill.{filled}
 use Rattle.rules.specs.Begin.{inside}
 use Rattle.rules.proofs.Places.{Fit, fit}
 use Rattle.distances.specs.Work.{Seeded, Measured}
@@ -36,19 +38,22 @@ measured c = c .before .before .before .before
 abbrev raised : tie.After-fill → tie.After-greatest
 raised c = c .before .before .before
 
+abbrev S : tie.Start → List ℕ
+S s = inside (s .args .sides) (filled (s .args .sides) (s .args .values .now))
+
 -- S is labelled
-labelled : (c : tie.After-find) → let s = begun c in Seeded (s .args .sides) (inside (s .args .sides) (s .args .values .now)) (c .find .last .0)
+labelled : (c : tie.After-find) → let s = begun c in Seeded (s .args .sides) (S s) (c .find .last .0)
 labelled c = let s = begun c in seeded (s .args .sides) (s .args .values .now) _ _ (s .pre) (c .find .last .0) _ (omega arith) (c .find .ensures)
 
 find-requires : tie.Need-find-requires
 find-requires c κs = search needs
 
 -- the distances to it
-distances : (c : tie.After-measure) → let a = begun (found c) .args in Measured (a .sides) (inside (a .sides) (a .values .now)) (c .measure .last .0)
-distances c = let a = begun (found c) .args in c .measure .ensures (inside (a .sides) (a .values .now)) (labelled (found c))
+distances : (c : tie.After-measure) → let s = begun (found c) in Measured (s .args .sides) (S s) (c .measure .last .0)
+distances c = c .measure .ensures (S (begun (found c))) (labelled (found c))
 
 measure-requires : tie.Need-measure-requires
-measure-requires c κs = let f = c .before .before .before .before in let a = begun f .args in (inside (a .sides) (a .values .now), labelled f)
+measure-requires c κs = let f = c .before .before .before .before in (S (begun f), labelled f)
 
 greatest-requires : tie.Need-greatest-requires
 greatest-requires c κs = search needs

@@ -1,18 +1,15 @@
 -- `any_beyond`: what is found before i, or stands from i on, is what stands in all.
-use Prim.Native.Nat.{ℕ, _+_, _-_, _≤_, _<_}
+use Prim.Native.Nat.{_-_, _≤_}
 use native.Mathlib.Omega.{arith}
-use native.Mathlib.Numerals.{add-one}
-use mathlib.Core.Path.{_≡_, refl, sym, _∙_, ap, ap₂}
-use mathlib.Core.List.{List}
-use mathlib.Core.Bool.{Bool, _||_}
+use mathlib.Core.Path.{_≡_, refl, _∙_, ap}
+use mathlib.Core.Bool.{_||_}
 use borrow.Author.Needs.{needs, sfits-of}
 use mir.Facts.{toZ-ofZ}
-use lib.ListN.{length, getD, drop, drop-of-length-le}
-use lib.Seq.{drop-cons}
-use Rattle.prelude.proofs.Bools.{or-zero, or-assoc}
-use lib.IntN.{ℤ, pos}
+use lib.ListN.{length, drop}
+use lib.IntN.{pos}
 use Rattle.prelude.specs.Lists.{any}
 use Rattle.rules.specs.Value.{beyond}
+use Rattle.loops.proofs.Below.{look-next, look-done}
 use Rattle.values.proofs.any_beyond.Statement.{statement}
 use Rattle.values.proofs.any_beyond.Tie as tie
 
@@ -21,15 +18,6 @@ Inv-loop values bound found₀ i₀ found i = (i ≤ length values) × ((found |
 
 abbrev μ-loop : tie.MeasureT-loop
 μ-loop values bound found₀ i₀ found i = length values - i
-
--- one element is looked at
-scan-next : {A : Type 0} (p : A → Bool) (xs : List A) (i : ℕ) (d : A) (found : Bool) {here : Bool} → i < length xs → here ≡ p (getD xs i d)
-    → ((found || here) || any p (drop (i + 1) xs)) ≡ (found || any p (drop i xs))
-unfolding any
-scan-next {A = A} p xs i d found {here} h e =
-    or-assoc found here (any p (drop (i + 1) xs))
-    ∙ ap₂ (λ (t : Bool) (k : ℕ). found || (t || any p (drop k xs))) e (add-one i)
-    ∙ ap (λ (rest : List A). found || any p rest) (sym (drop-cons xs i d h))
 
 loop-holds : tie.Need-loop-holds Inv-loop μ-loop
 loop-holds c = (omega arith, refl)
@@ -57,19 +45,16 @@ loop-again c =
     let a = l .before .args in
     let i = l .loop .i in (
       omega (arith, t .loop-test .taken),
-      scan-next (beyond (a .bound)) (a .values .now) i (pos 0) (l .loop .found) (t .loop-test .taken)
+      look-next (beyond (a .bound)) (a .values .now) i (pos 0) (l .loop .found) (t .loop-test .taken)
           (c .beyond .ensures ∙ ap (beyond (a .bound)) (toZ-ofZ (sfits-of (v .v .given))))
           ∙ l .loop .inv .1,
     )
 
 returns : tie.Need-returns Inv-loop μ-loop
-unfolding any
 returns c =
     let l = c .before .loop in
     let a = c .before .before .args in
-    sym (or-zero (l .found))
-    ∙ ap (λ (rest : List ℤ). l .found || any (beyond (a .bound)) rest) (sym (drop-of-length-le (a .values .now) (c .loop-test .left)))
-    ∙ l .inv .1
+    look-done (beyond (a .bound)) (a .values .now) (l .i) (l .found) (c .loop-test .left) ∙ l .inv .1
 
 pub any-beyond-spec : {M : Type 1} → statement M
 any-beyond-spec = tie.close (tie.spec Inv-loop μ-loop loop-holds mul-v shared-slice-copy-out-v beyond-requires add-i loop-less loop-again returns)

@@ -12,7 +12,7 @@ use lib.Dec.{eqb}
 use lib.ListN.{length, getD}
 use lib.IntN.{ℤ, pos}
 use Rattle.cells.specs.Groups.{filter}
-use Rattle.rules.proofs.LongRange.{none-stray}
+use Rattle.rules.proofs.Fit.{none-stray}
 use Rattle.rules.specs.Grid.{range, amount, missing, valueAt}
 use Rattle.rules.specs.Begin.{greatest}
 use Rattle.values.specs.Values.{counts, greatestBy}

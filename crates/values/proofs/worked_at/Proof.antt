@@ -1,16 +1,25 @@
 -- `worked_at` is the rule's number.
-use mathlib.Core.Path.{sym, _∙_}
+use mathlib.Core.Path.{sym, ap, _∙_}
 use native.Mathlib.Omega.{arith}
 use mir.Syntax.{w32}
 use mir.Facts.{toZ-ofZ, toZ-pos}
+use Rattle.values.specs.Values.{countedAs}
 use Rattle.values.proofs.Signs.{worked-in, worked-neg, worked-pos, worked-far}
 use Rattle.prelude.proofs.Signs.{sign}
-use borrow.Author.Needs.{needs}
+use borrow.Author.Needs.{needs, sfits-of}
 use Rattle.values.proofs.worked_at.Statement.{statement}
 use Rattle.values.proofs.worked_at.Tie as tie
 
+counted-requires : tie.Need-counted-requires
+counted-requires c κs = search needs
+
 returns : tie.Need-returns
-returns c = toZ-ofZ (c .before .fits .v) ∙ sym (worked-in _ _ _ (c .if1 .taken))
+returns c =
+    let s = c .before .before in
+    toZ-ofZ (sfits-of (c .counted .ok))
+    ∙ c .counted .ensures
+    ∙ ap countedAs (toZ-ofZ (s .fits .v))
+    ∙ sym (worked-in _ _ _ (c .before .if1 .taken))
 
 cast-result : tie.Need-cast-result
 cast-result c = search needs
@@ -35,4 +44,4 @@ returns-4 : tie.Need-returns-4
 returns-4 c = toZ-pos w32 (omega arith) ∙ sym (worked-far _ _ _ (c .before .if1 .left) (c .if2 .left))
 
 pub worked-at-spec : {M : Type 1} → statement M
-worked-at-spec = tie.close (tie.spec returns cast-result returns-2 returns-3 add-result cast-result-2 returns-4)
+worked-at-spec = tie.close (tie.spec counted-requires returns cast-result returns-2 returns-3 add-result cast-result-2 returns-4)

@@ -1,0 +1,4 @@
+pub mod Marking
+pub mod Draining
+pub mod Enclosing
+pub mod Accepting

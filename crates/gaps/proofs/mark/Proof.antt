@@ -1,0 +1,90 @@
+-- `mark`: the rows before this one are marked.
+use Prim.Native.Nat.{ℕ, _*_, _-_, _≤_}
+use mathlib.Core.Path.{_≡_, sym, ap, _∙_, subst}
+use native.Mathlib.Omega.{arith}
+use native.Mathlib.Nat.{mul-le-mul, mul-zero}
+use lib.ListN.{length}
+use borrow.Author.Needs.{needs}
+use Rattle.rules.proofs.Places.{fit}
+use Rattle.loops.specs.InPlace.{Each}
+use Rattle.loops.specs.Rows.{Row}
+use Rattle.loops.proofs.InPlace.{each-none, each-join}
+use Rattle.loops.proofs.Rows.{row-of, rows-more, rows-all}
+use Rattle.gaps.specs.Gaps.{markOf}
+use Rattle.gaps.proofs.mark.Statement.{statement}
+use Rattle.gaps.proofs.mark.Tie as tie
+
+abbrev Inv-loop : tie.InvT-loop
+Inv-loop label₀ values sides rows row₀ label row = (row ≤ rows) × Each 0 (λ k d. markOf sides values k) 0 (sides .a * row) label₀ label
+
+abbrev μ-loop : tie.MeasureT-loop
+μ-loop label₀ values sides rows row₀ label row = rows - row
+
+mul-rows : tie.Need-mul-rows Inv-loop μ-loop
+mul-rows c = let s = c .before .before in let F = fit (s .args .sides) (s .pre .fit) in omega (arith, mul-le-mul (F .b-high) (F .c-high))
+
+loop-holds : tie.Need-loop-holds Inv-loop μ-loop
+loop-holds c = let a = c .before .before .args in (omega arith, each-none _ _ _ _ _ (omega (arith, mul-zero (a .sides .a))))
+
+-- the row at hand
+row-at : (c : tie.In-loop Inv-loop μ-loop) → let l = c .before in Row (l .before .before .before .args .sides) (length (l .loop .label)) (l .loop .row)
+row-at c =
+    let l = c .before in
+    let s = l .before .before .before in
+    row-of (s .args .sides) (length (l .loop .label)) (l .loop .row) (s .pre .fit) (l .loop .inv .1 .len ∙ s .pre .same) (c .loop-test .taken)
+
+mark-row-requires : tie.Need-mark-row-requires Inv-loop μ-loop
+mark-row-requires c κs =
+    let t = c .before in
+    let l = t .before in
+    let s = l .before .before .before in
+    (row-at t, l .loop .inv .1 .len ∙ s .pre .same ∙ sym (s .pre .len))
+
+add-row : tie.Need-add-row Inv-loop μ-loop
+add-row c =
+    let t = c .before .before .before .before in
+    let s = t .before .before .before .before in
+    let F = fit (s .args .sides) (s .pre .fit) in
+    omega (arith, t .loop-test .taken, mul-le-mul (F .b-high) (F .c-high))
+
+loop-less : tie.Need-loop-less Inv-loop μ-loop
+loop-less c = search needs
+
+loop-again : tie.Need-loop-again Inv-loop μ-loop
+loop-again c =
+    let e = c .before .before in
+    let t = e .before .before in
+    let l = t .before in
+    let a = l .before .before .before .args in (
+      omega (arith, t .loop-test .taken),
+      subst (λ (n : ℕ). Each 0 (λ k d. markOf (a .sides) (a .values .now) k) 0 n (a .label .now) (e .mark-row .last .0))
+          (sym (rows-more (a .sides .a) (l .loop .row)))
+          (each-join 0 _ 0 _ _ (a .label .now) (l .loop .label) (e .mark-row .last .0) (omega arith) (omega arith) (l .loop .inv .1)
+          (e .mark-row .ensures)),
+    )
+
+same-length : tie.Need-same-length Inv-loop μ-loop
+same-length c = c .before .loop .inv .1 .len
+
+returns : tie.Need-returns Inv-loop μ-loop
+returns c =
+    let l = c .before in
+    let s = l .before .before .before in
+    let rows : l .loop .row ≡ s .args .sides .b * s .args .sides .c = omega (arith, l .loop .inv .0, c .loop-test .left) in
+    let all = ap (λ (n : ℕ). s .args .sides .a * n) rows ∙ rows-all (s .args .sides) in
+    record { len = l .loop .inv .1 .len ∙ s .pre .same; is = λ k h. l .loop .inv .1 .inside k (omega arith) (omega arith) }
+
+pub mark-spec : {M : Type 1} → statement M
+mark-spec =
+    tie.close
+    (tie.spec
+    Inv-loop
+    μ-loop
+    mul-rows
+    loop-holds
+    mark-row-requires
+    add-row
+    loop-less
+    loop-again
+    same-length
+    returns)
