@@ -1,4 +1,4 @@
-//! Sides, voxels, values and begin (document 01, "Grid and worked distances"; document 02, CR 5 for the range of values).
+//! Sides, voxels, values and begin (document 01, "Grid and worked distances"; document 02, CR 5 for the range of values and CR 6 for gaps).
 
 /// The mark of a missing point.
 pub const MISSING: i32 = -2_147_483_648;
@@ -103,6 +103,51 @@ fn negative(value: i32) -> bool {
     value < 0 && value != MISSING
 }
 
+/// What a filled gap counts as.
+const FILLED: i32 = -1;
+
+/// The groups of missing voxels joined by faces.
+fn gaps(sides: &Sides, values: &[i32]) -> Vec<Vec<usize>> {
+    let mut free: Vec<bool> = values.iter().map(|&v| v == MISSING).collect();
+    let mut gaps = Vec::new();
+    for seed in 0..values.len() {
+        if !free[seed] {
+            continue;
+        }
+        free[seed] = false;
+        let mut gap = vec![seed];
+        let mut work = vec![seed];
+        while let Some(v) = work.pop() {
+            for w in sides.face_neighbours(v).into_iter().flatten() {
+                if free[w] {
+                    free[w] = false;
+                    gap.push(w);
+                    work.push(w);
+                }
+            }
+        }
+        gaps.push(gap);
+    }
+    gaps
+}
+
+/// Whether no voxel of a gap is on the border, and every other face neighbour is measured negative. A missing face neighbour is of the gap itself.
+fn closed(sides: &Sides, values: &[i32], gap: &[usize]) -> bool {
+    let walled = |w: usize| values[w] == MISSING || negative(values[w]);
+    gap.iter().all(|&v| !sides.border(v) && sides.face_neighbours(v).into_iter().flatten().all(walled))
+}
+
+/// The values that begin works on. Every gap is looked at in the values as given: what is filled makes no other gap closed.
+fn with_gaps_filled(sides: &Sides, values: &[i32]) -> Vec<i32> {
+    let mut filled = values.to_vec();
+    for gap in gaps(sides, values) {
+        if closed(sides, values, &gap) {
+            gap.iter().for_each(|&v| filled[v] = FILLED);
+        }
+    }
+    filled
+}
+
 /// Step 1: the largest group of measured negative voxels joined by touching; of equal groups the one with the smallest index.
 fn inside(sides: &Sides, values: &[i32]) -> Vec<bool> {
     let n = sides.n();
@@ -172,7 +217,8 @@ pub fn begin(sides: Sides, t: u16, values: &[i32], dist: &mut [i32], status: &mu
     if !values.iter().any(|&v| negative(v)) {
         return Err(4);
     }
-    let s = inside(&sides, values);
+    let values = with_gaps_filled(&sides, values);
+    let s = inside(&sides, &values);
     let d = steps_to(&sides, &s);
     let facing = |i: usize| sides.face_neighbours(i).into_iter().flatten().any(|j| s[j]);
     let m = (0..n).filter(|&i| !s[i] && values[i] >= 0 && facing(i)).map(|i| i64::from(values[i])).max().unwrap_or(1).max(1);
