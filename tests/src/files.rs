@@ -1,7 +1,8 @@
-//! Grid files: whole ones, with patch records or without, and every kind of broken one; some with their layers in another order than rising, and some
-//! with layers of both widths.
+//! Grid files: whole ones, with patch records or without, and every kind of broken one; some with their layers in another order than rising, some
+//! with layers of both widths, and some with gaps that patches make or break.
 
-use crate::grids::{grid, stretched, Grid};
+use crate::gaps::gaps;
+use crate::grids::{grid, stretched, walled, Grid};
 use crate::random::Random;
 use crate::records::{bytes, narrowed, parts, second_byte, written_width};
 use crate::records::{LONGEST_INPUT, MISSING, NARROW, NARROW_MISSING, OUT_OF_RANGE, PATCH_LENGTH, WIDE};
@@ -232,4 +233,48 @@ pub fn file_of_both_widths(r: &mut Random, greatest_side: i64) -> Vec<u8> {
 /// The file of both widths that a seed names.
 pub fn wide_file(seed: u64, greatest_side: i64) -> Vec<u8> {
     file_of_both_widths(&mut Random::new(seed.rotate_left(16)), greatest_side)
+}
+
+// ---- files with gaps
+
+/// A patch that can make a gap, or open it, close it or measure it: a missing point in the wall, or a value to a voxel of a gap or beside one.
+fn patch_of_a_gap(r: &mut Random, sides: &Sides, values: &[i32]) -> Vec<u8> {
+    let all = gaps(sides, values);
+    let wall: Vec<usize> = (0..values.len()).filter(|&i| values[i] < 0 && !sides.border(i)).collect();
+    let within = |i: &usize| !sides.border(*i);
+    let of: Vec<usize> = all.iter().flat_map(|gap| gap.voxels.iter().copied()).filter(within).collect();
+    let beside: Vec<usize> = all.iter().flat_map(|gap| gap.beside.iter().map(|&(_, i)| i)).filter(within).collect();
+    let (voxels, value) = match r.below(4) {
+        0 => (wall, NARROW_MISSING),
+        1 => (of, r.pick(&[-7, -1, 0, 3, 32_767])),
+        2 => (beside.into_iter().filter(|&i| values[i] >= 0).collect(), r.pick(&[-3, -1])),
+        _ => (beside, r.pick(&[0, 5, NARROW_MISSING])),
+    };
+    match voxels.is_empty() {
+        true => Vec::new(),
+        false => patch(r.pick(&voxels) as u32, value),
+    }
+}
+
+/// A file of walls with gaps in them, its layers of either width, mostly with patches behind.
+pub fn file_of_walls(r: &mut Random, greatest_side: i64) -> Vec<u8> {
+    let mut g = walled(r, greatest_side);
+    let [a, b, c] = g.sides.map(|side| side as u64);
+    if r.chance(30) {
+        let factor = r.pick(&[40, 33_333, 1_000_000]);
+        g.values.iter_mut().filter(|value| **value != MISSING).for_each(|value| *value *= factor);
+    }
+    let wide = r.pick(&[0, 50, 100]);
+    let widths: Vec<usize> =
+        g.values.chunks(g.sides[0] * g.sides[1]).map(|layer| if r.chance(wide) { WIDE } else { written_width(layer) }).collect();
+    let mut file = file_of_widths(&g, widths.into_iter().enumerate());
+    while r.chance(60) {
+        file.extend(patch_of_a_gap(r, &Sides { a, b, c }, &g.values));
+    }
+    file
+}
+
+/// The file of walls that a seed names.
+pub fn walled_file(seed: u64, greatest_side: i64) -> Vec<u8> {
+    file_of_walls(&mut Random::new(seed.rotate_left(48)), greatest_side)
 }

@@ -1,4 +1,4 @@
-//! Grids of the kinds that carving meets: bodies with noise, thin walls, islands, pockets, ties, missing points.
+//! Grids of the kinds that carving meets: bodies with noise, thin walls, islands, pockets, ties, missing points, and thick walls with gaps in them.
 
 use crate::random::Random;
 use crate::records::{GREATEST, LEAST, MISSING};
@@ -88,4 +88,48 @@ pub fn stretched(r: &mut Random, greatest: i64) -> Grid {
         }
     }
     g
+}
+
+/// The forms of thick bodies: up to the border, round, in two parts, about a hollow of missing points, and with corners cut off.
+const BODIES: [&str; 6] = ["block", "ball", "halves", "hollow", "cut", "cut"];
+
+/// A thick body with so many in a hundred of its voxels missing, and few of 0 or more, and then some voxels that no shot reached, walled all around:
+/// some of its gaps are closed, others not.
+pub fn walled(r: &mut Random, greatest: i64) -> Grid {
+    let sides = [0; 3].map(|_| r.between(5, greatest.max(5)) as usize);
+    let (body, range) = (r.pick(&BODIES), r.pick(&[1, 4, 1000]));
+    let (missing, holes, outside) = (r.pick(&[3, 10, 20, 35]), r.pick(&[0, 0, 1, 3]), r.pick(&[0, 10, 50, 100]));
+    let middle = sides[0] / 2 + r.below(2) as usize;
+    let cuts = [0; 2].map(|_| sides.map(|side| r.between(1, side as i64 - 2) as usize));
+    let mut values = Vec::new();
+    for i in 0..sides[0] * sides[1] * sides[2] {
+        let v = [i % sides[0], i / sides[0] % sides[1], i / (sides[0] * sides[1])];
+        let depth = (0..3).map(|k| v[k].min(sides[k] - 1 - v[k])).min().unwrap_or(0);
+        let from_middle = (0..3).map(|k| 2.0 * v[k] as f64 / (sides[k] - 1) as f64 - 1.0).map(|x| x * x).sum::<f64>();
+        let within = match body {
+            _ if depth == 0 => false,
+            "ball" => from_middle < 0.9,
+            "halves" => v[0] != middle,
+            "cut" => !((0..3).all(|k| v[k] <= cuts[0][k]) || (0..3).all(|k| v[k] >= cuts[1][k])),
+            _ => true,
+        };
+        let (hollow, size) = (body == "hollow" && depth == 2, r.between(1, range) as i32);
+        values.push(match within {
+            true if hollow || r.chance(missing) => MISSING,
+            true if r.chance(holes) => size - 1,
+            true => -size,
+            false if r.chance(if depth == 0 { outside } else { outside / 4 }) => MISSING,
+            false => size - i32::from(r.chance(20)),
+        });
+    }
+    let [a, b, c] = sides.map(|side| side as u64);
+    let grid = Sides { a, b, c };
+    for _ in 0..r.pick(&[0, 1, 1, 3]) {
+        let gap = grid.index(sides.map(|side| r.between(2, side as i64 - 3))).expect("a voxel within the border");
+        values[gap] = MISSING;
+        for beside in grid.face_neighbours(gap).into_iter().flatten().filter(|_| r.chance(97)) {
+            values[beside] = if values[beside] == MISSING { MISSING } else { -1 - values[beside].abs() % 5 };
+        }
+    }
+    Grid { sides, allowed: r.pick(&[0, 1, 3, 65535]), values }
 }

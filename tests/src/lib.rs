@@ -5,6 +5,7 @@ pub mod conformance;
 pub mod demands;
 pub mod faults;
 pub mod files;
+pub mod gaps;
 pub mod grids;
 pub mod mutants;
 pub mod random;

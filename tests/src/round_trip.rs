@@ -3,7 +3,7 @@
 
 use crate::compare::{bears_on_the_file, read_kind, reference_lines, Script};
 use crate::conformance::kinds;
-use crate::files::{file, hex, layer, long_file, patched_file, wide_file};
+use crate::files::{file, hex, layer, long_file, patched_file, walled_file, wide_file};
 use crate::records::{contents, written_width};
 use reference::file::read;
 use reference::grid::Sides;
@@ -11,7 +11,7 @@ use reference::replay::Replay;
 use std::collections::BTreeSet;
 use std::path::Path;
 
-/// How many seeds name a file each, without patches, with them, and with layers of both widths; and how many a long one.
+/// How many seeds name a file each, without patches, with them, with layers of both widths, and with gaps; and how many a long one.
 const SEEDS: u64 = 1000;
 const LONG: u64 = 20;
 
@@ -51,7 +51,8 @@ fn of_seeds() -> impl Iterator<Item = Named> {
     let plain = (1..=SEEDS).map(move |seed| (format!("seed {seed}"), file(seed, greatest(seed))));
     let patched = (1..=SEEDS).map(move |seed| (format!("patched seed {seed}"), patched_file(seed, greatest(seed))));
     let wide = (1..=SEEDS).map(move |seed| (format!("wide seed {seed}"), wide_file(seed, greatest(seed))));
-    plain.chain(patched).chain(wide).chain((1..=LONG).map(|seed| (format!("long seed {seed}"), long_file(seed))))
+    let walled = (1..=SEEDS).map(move |seed| (format!("walled seed {seed}"), walled_file(seed, greatest(seed))));
+    plain.chain(patched).chain(wide).chain(walled).chain((1..=LONG).map(|seed| (format!("long seed {seed}"), long_file(seed))))
 }
 
 /// How many values a file has; nothing where it is refused.

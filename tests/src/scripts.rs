@@ -1,10 +1,11 @@
 //! Call scripts (docs/CALL-SCRIPTS.md). Those from seeds: lists of calls from begin, crafted records, unfit ones, finished grids, files read, patched,
-//! written, out of order and of both widths, blocks; each is made along with a run of the reference, so that it can choose voxels by what they are at that moment. And those
-//! written out, in the modules below: every fault, every worked case, and what chance leaves out.
+//! written, out of order and of both widths, walls with gaps, blocks; each is made along with a run of the reference, so that it can choose voxels by
+//! what they are at that moment. And those written out, in the modules below: every fault, every worked case, and what chance leaves out.
 
 pub mod cases;
 mod crafted;
 mod damage;
+mod filling;
 pub mod language;
 mod long;
 mod ordering;
@@ -18,18 +19,18 @@ mod writing;
 use crate::files::{file, hex};
 use crate::grids::{grid, Grid};
 use crate::random::Random;
-use crate::records::NARROW;
+use crate::records::{MISSING, NARROW};
 use reference::grid::{begin, Record, Sides};
 use reference::machine::{carve, finish, open, take};
 use std::fmt::{Display, Write};
 
 /// The kinds of scripts from seeds.
-pub const SEEDED: [&str; 12] =
-    ["lists", "takes", "openings", "crafted", "unfit", "crossings", "files", "orders", "patches", "writes", "widths", "blocks"];
+pub const SEEDED: [&str; 13] =
+    ["lists", "takes", "openings", "crafted", "unfit", "crossings", "files", "orders", "patches", "writes", "widths", "gaps", "blocks"];
 
 /// The kinds of scripts that are written out. What takes longest stands last.
-pub const WRITTEN: [&str; 11] =
-    ["cases", "language", "refusals", "damage", "ordering", "patching", "writing", "widening", "long", "points", "shapes"];
+pub const WRITTEN: [&str; 12] =
+    ["cases", "language", "refusals", "damage", "ordering", "patching", "writing", "widening", "filling", "long", "points", "shapes"];
 
 /// How many scripts of each seeded kind a second supplier is given.
 const GIVEN: u64 = 40;
@@ -38,7 +39,7 @@ const GIVEN: u64 = 40;
 pub fn conformance(kind: &str) -> Vec<String> {
     if SEEDED.contains(&kind) {
         // What carves needs room for ties and tunnels; the rest stays small.
-        let greatest = if ["lists", "takes", "openings", "crafted"].contains(&kind) { 9 } else { 5 };
+        let greatest = if ["lists", "takes", "openings", "crafted", "gaps"].contains(&kind) { 9 } else { 5 };
         return (1..=GIVEN).map(|seed| script(kind, seed, greatest)).collect();
     }
     let written = match kind {
@@ -49,6 +50,7 @@ pub fn conformance(kind: &str) -> Vec<String> {
         "ordering" => ordering::scripts(),
         "writing" => writing::scripts(),
         "widening" => widening::scripts(),
+        "filling" => filling::scripts(),
         "patching" => patching::scripts(),
         "long" => long::scripts(),
         "points" => points::scripts(),
@@ -75,6 +77,7 @@ pub fn script(kind: &str, seed: u64, greatest: i64) -> String {
         "patches" => m.patches(seed, greatest),
         "writes" => m.writes(seed, greatest),
         "widths" => m.widths(greatest),
+        "gaps" => m.gaps(greatest),
         "large" => m.large(),
         _ => m.blocks(),
     }
@@ -282,7 +285,7 @@ impl Maker {
         }
     }
 
-    /// A grid too large to list: a few lumps of negative voxels in an even field.
+    /// A grid too large to list: a few lumps of negative voxels in an even field, and walled gaps where there is room.
     fn large(&mut self) {
         let sides = Sides { a: self.r.pick(&[31, 33, 64]), b: self.r.pick(&[33, 40, 64]), c: self.r.pick(&[3, 32, 64]) };
         self.set(sides, 65535);
@@ -300,8 +303,17 @@ impl Maker {
                 v[axis] = (v[axis] + self.r.between(-1, 1)).clamp(1, side - 2);
             }
         }
+        for _ in 0..if sides.c > 4 { self.r.between(0, 3) } else { 0 } {
+            let v = [sides.a, sides.b, sides.c].map(|side| self.r.between(2, side as i64 - 3));
+            let gap = sides.index(v).expect("a voxel within the border");
+            let wall = sides.face_neighbours(gap).into_iter().flatten().map(|i| (i, -7));
+            for (i, value) in wall.chain([(gap, MISSING)]) {
+                values[i] = value;
+                self.say(format!("values set {i} {value}"));
+            }
+        }
         self.say("begin");
-        self.record = begin(sides, 65535, &values, &mut self.dist, &mut self.status).expect("no voxel of a walk is on the border");
+        self.record = begin(sides, 65535, &values, &mut self.dist, &mut self.status).expect("no negative voxel is on the border");
         let count = self.r.between(3, 12);
         self.calls(count, [50, 20, 28, 0]);
         self.and_finish();

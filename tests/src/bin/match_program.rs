@@ -4,7 +4,7 @@
 use std::collections::BTreeMap;
 use std::process::ExitCode;
 use tests::compare::line_of;
-use tests::files::{file, long_file, patched_file, wide_file};
+use tests::files::{file, long_file, patched_file, walled_file, wide_file};
 
 fn main() -> ExitCode {
     let args: Vec<String> = std::env::args().collect();
@@ -23,13 +23,15 @@ fn main() -> ExitCode {
     }
 }
 
-/// The file of a seed: with patches or without, with layers of both widths, and now and then about as long as the program takes.
+/// The file of a seed: with patches or without, with layers of both widths, with gaps, and now and then about as long as the program takes.
 fn drawn(seed: u64) -> Vec<u8> {
     let greatest = if seed.is_multiple_of(8) { 24 } else { 10 };
     if seed.is_multiple_of(37) {
         long_file(seed)
     } else if seed.is_multiple_of(5) {
         wide_file(seed, greatest)
+    } else if seed.is_multiple_of(4) {
+        walled_file(seed, greatest)
     } else if seed.is_multiple_of(3) {
         file(seed, greatest)
     } else {

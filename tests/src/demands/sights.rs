@@ -1,6 +1,7 @@
 //! What a call is about, besides its faults: the entries of `ALSO` that it meets if it is done.
 
-use super::{ordered, patched, wide};
+use super::{gaps, ordered, patched, wide};
+use crate::gaps::filled;
 use crate::records::{negative, written_length, written_width, GREATEST, LONGEST_INPUT, MISSING};
 use reference::file::read;
 use reference::grid::Sides;
@@ -69,7 +70,7 @@ fn different(s: &Sides) -> bool {
 }
 
 /// Groups of measured negative voxels joined by touching, in the order of their smallest index.
-fn groups(sides: &Sides, values: &[i32]) -> Vec<Vec<usize>> {
+pub(super) fn groups(sides: &Sides, values: &[i32]) -> Vec<Vec<usize>> {
     let mut free: Vec<bool> = values.iter().map(|&v| negative(v)).collect();
     let mut groups = Vec::new();
     for seed in 0..values.len() {
@@ -94,11 +95,13 @@ fn begin(state: &Replay) -> Vec<String> {
         return Vec::new();
     }
     let mut seen = wide::of_begin(state);
-    let groups = groups(sides, values);
+    seen.extend(gaps::of_values("begin", sides, values));
+    let measured = filled(sides, values);
+    let groups = groups(sides, &measured);
     let Some(largest) = groups.iter().map(Vec::len).max() else { return seen };
     let inside = groups.iter().find(|group| group.len() == largest).expect("the largest is one of them");
     let facing = |&i: &usize| sides.face_neighbours(i).into_iter().flatten();
-    let beside: Vec<i32> = inside.iter().flat_map(facing).map(|j| values[j]).filter(|&v| !negative(v)).collect();
+    let beside: Vec<i32> = inside.iter().flat_map(facing).map(|j| measured[j]).filter(|&v| !negative(v)).collect();
     let m = beside.iter().copied().filter(|&v| v >= 0).max();
     seen.extend(chosen(&[
         (m == Some(0), "begin: M raised to 1, a 0 beside S"),
@@ -127,7 +130,9 @@ fn carve(state: &Replay, limit: u64) -> Vec<String> {
 
 fn take(state: &Replay, index: u64) -> Vec<String> {
     let status = usize::try_from(index).ok().and_then(|i| state.status.get(i)).copied();
-    chosen(&[(status == Some(3), "take: pending"), (status == Some(1), "take: not pending")])
+    let mut seen = chosen(&[(status == Some(3), "take: pending"), (status == Some(1), "take: not pending")]);
+    seen.extend(gaps::of_take(state, index));
+    seen
 }
 
 fn finish(state: &Replay) -> Vec<String> {
@@ -223,6 +228,7 @@ fn file(call: &str, bytes: &[u8]) -> Vec<String> {
     seen.extend(ordered::of(call, &sides, bytes));
     seen.extend(patched::of(call, &sides, bytes));
     seen.extend(wide::of_file(call, &sides, bytes));
+    seen.extend(gaps::of_file(call, &sides, bytes));
     seen
 }
 
@@ -241,6 +247,7 @@ fn write(state: &Replay, lent: u64) -> Vec<String> {
     let own = is_of_the_state(state);
     let negatives = values.iter().filter(|&&v| negative(v)).count();
     let mut seen = wide::of_write(state, lent, own);
+    seen.extend(gaps::handed_on("write", sides, values));
     seen.extend(chosen(&[
         (lent == length, "write: lent exactly the length"),
         (lent == length + 1, "write: lent a byte more"),

@@ -1,5 +1,6 @@
 //! Grids on which begin's steps and the carving machine's choices can go wrong one at a time; and grids of the greatest sides.
 
+use super::filling::{greatest_gap, most_gaps};
 use crate::records::{written_length, GREATEST, LEAST, MISSING, WIDE};
 use reference::grid::Sides;
 
@@ -210,6 +211,6 @@ pub fn scripts() -> Vec<String> {
     let mut scripts: Vec<String> = SHAPES.iter().map(script).collect();
     scripts.extend(OPENINGS.iter().map(opening));
     scripts.extend([[64, 3, 5], [3, 64, 5], [5, 3, 64], [64, 33, 4], [4, 31, 64]].map(long));
-    scripts.extend([greatest(), greatest_values()]);
+    scripts.extend([greatest(), greatest_values(), greatest_gap(), most_gaps()]);
     scripts
 }

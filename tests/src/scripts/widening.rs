@@ -34,7 +34,7 @@ fn with(c: usize, changes: &[(usize, i32)]) -> Grid {
 }
 
 /// The file of a grid with layers of these widths, in rising z.
-fn file(g: &Grid, widths: &[usize]) -> Vec<u8> {
+pub(super) fn file(g: &Grid, widths: &[usize]) -> Vec<u8> {
     file_of_widths(g, widths.iter().copied().enumerate())
 }
 
@@ -62,12 +62,12 @@ fn given_lent(file: &[u8], lent: usize) -> String {
     format!("file {}\nvalues len {lent}\nvalues fill 77\nread\nprogram\nrawsides {a} {b} {c}\n{layers}", hex(file))
 }
 
-fn given(file: &[u8]) -> String {
+pub(super) fn given(file: &[u8]) -> String {
     given_lent(file, sides_of(file).n())
 }
 
 /// Every mixture of widths of c layers.
-fn mixtures(c: usize) -> impl Iterator<Item = Vec<usize>> {
+pub(super) fn mixtures(c: usize) -> impl Iterator<Item = Vec<usize>> {
     (0..1usize << c).map(move |word| (0..c).map(|z| if word >> z & 1 == 1 { WIDE } else { NARROW }).collect())
 }
 
