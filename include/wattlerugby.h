@@ -94,9 +94,9 @@
 /* ---- version */
 
 #define WATTLERUGBY_VERSION_MAJOR 0
-#define WATTLERUGBY_VERSION_MINOR 6
+#define WATTLERUGBY_VERSION_MINOR 7
 #define WATTLERUGBY_VERSION_PATCH 0
-#define WATTLERUGBY_VERSION "0.6.0"
+#define WATTLERUGBY_VERSION "0.7.0"
 
 #ifdef __cplusplus
 extern "C" {
@@ -188,7 +188,8 @@ enum {
 /* ---- values
  *
  * A value is measured, WATTLERUGBY_LEAST_VALUE to WATTLERUGBY_GREATEST_VALUE, or the mark of a missing range point. Negative is inside the
- * body. Any other number is refused with 28. All three are constants of type int32_t, in C and in C++, and may stand in an #if. */
+ * body. A missing point counts as outside, but in a gap behind the face as inside: see wattlerugby_begin. Any other number is refused with
+ * 28. All three are constants of type int32_t, in C and in C++, and may stand in an #if. */
 #define WATTLERUGBY_LEAST_VALUE (-1000000000)
 #define WATTLERUGBY_GREATEST_VALUE 1000000000
 #define WATTLERUGBY_MISSING (-2147483647 - 1)
@@ -250,9 +251,17 @@ typedef struct wattlerugby_begin_answer {
 
 /* Starts a grid from n measured values. Fills both other buffers, whatever they held.
  *
- * The inside is the largest group of measured negative voxels that touch; other negative voxels are discarded as noise. `dist` gets each
- * voxel's worked distance, negative exactly inside. `status` gets the smallest box that holds the inside as kept, with those voxels
- * pending from which carving starts, and all else as gone.
+ * No shot reaches the middle of a thick wall, so missing points are looked at first. A gap is a group of them joined by faces, with all that
+ * are joined to it. Where none of it lies on the grid's border, and every other voxel that shares a face with it is measured negative, it is
+ * a gap behind the face, and counts as measured with value -1. Gaps are looked for in the values as you lend them, and `values` is not
+ * written. Before version 0.7 every missing point counted as outside.
+ *
+ * The inside is the largest group of negative voxels that touch, gaps behind the face included; other negative voxels are discarded as
+ * noise, and with them the gaps that they close in. `dist` gets each voxel's worked distance, negative exactly inside. `status` gets the
+ * smallest box that holds the inside as kept, with those voxels pending from which carving starts, and all else as gone.
+ *
+ * So a missing point that counts as inside has the worked distance -1, and as all of the inside it is never lost, whatever calls follow. It
+ * is told by its value: before finish, the voxels of negative distance whose value is WATTLERUGBY_MISSING are these.
  *
  * `allowed` is how many openings you allow: 0 for a body without handles. Any number is taken.
  *
@@ -515,8 +524,9 @@ typedef struct wattlerugby_write_answer {
  * file with patches is written with their values in the layers.
  *
  * The layers are narrow where every measured value lies in -32767 to 32767, otherwise all of them are wide, whatever the width was in a file
- * that the values were read from. A missing point is written as the mark of that width, and a grid that begin would refuse with 3 or 4 is
- * written like any other. `file` may be longer than wattlerugby_written_length; its bytes past that stay as they were.
+ * that the values were read from. A missing point is written as the mark of that width, also where begin counts it as inside, and a grid
+ * that begin would refuse with 3 or 4 is written like any other. `file` may be longer than wattlerugby_written_length; its bytes past that
+ * stay as they were.
  *
  * Checks: 1, 2 (`values`), 28, 26. */
 wattlerugby_write_answer wattlerugby_write(

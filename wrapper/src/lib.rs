@@ -49,8 +49,8 @@ pub use grid::Grid;
 pub use refusal::Refusal;
 pub use surface::Points;
 
-/// The value of a missing range point. Measured values are [`LEAST_VALUE`] to [`GREATEST_VALUE`]; negative is inside the body. Any other value
-/// is refused with 28.
+/// The value of a missing range point, which counts as outside, but as inside in a gap behind the face: see [`begin`]. Measured values are
+/// [`LEAST_VALUE`] to [`GREATEST_VALUE`]; negative is inside the body. Any other value is refused with 28.
 pub const MISSING: i32 = i32::MIN;
 /// The least measured value.
 pub const LEAST_VALUE: i32 = -1_000_000_000;
@@ -259,7 +259,32 @@ fn done<T>(refusal: u8, answer: T) -> Result<T, Refusal> {
 
 /// Starts a grid from n measured values, and fills both other buffers with worked distances and status bytes.
 ///
+/// No shot reaches the middle of a thick wall, so missing points are looked at first. A gap is a group of them joined by faces, with all that
+/// are joined to it. Where none of it lies on the grid's border, and every other voxel that shares a face with it is measured negative, it is
+/// a gap behind the face, and counts as measured with value -1. The inside is then the largest group of negative voxels that touch.
+///
+/// So a missing point that counts as inside has the worked distance -1, and as all of the inside it is never lost, whatever calls follow.
+/// Before [`finish`] it is told by its value: of negative distance, and [`MISSING`].
+///
 /// Checks: 1, 2 (any of the three buffers), 28, 3, 4.
+///
+/// ```
+/// use wattlerugby::{Grid, Refusal, Sides, MISSING};
+///
+/// // a block of 3 x 3 x 3 voxels, and no shot reached its middle
+/// let sides = Sides { a: 5, b: 5, c: 5 };
+/// let inner = |i: usize| [i % 5, i / 5 % 5, i / 25].iter().all(|p| (1..4).contains(p));
+/// let mut values: Vec<i32> = (0..125).map(|i| if inner(i) { -7 } else { 7 }).collect();
+/// values[62] = MISSING;
+/// let mut grid = Grid::begin(sides, 9, &values)?;
+/// assert_eq!(grid.distances()[62], -1);
+/// assert_eq!(grid.take(62), Err(Refusal::INSIDE));
+///
+/// values[61] = 0; // with an outside voxel beside it, it counts as outside
+/// let grid = Grid::begin(sides, 9, &values)?;
+/// assert_eq!(grid.distances()[62], 7);
+/// # Ok::<(), wattlerugby::Refusal>(())
+/// ```
 pub fn begin(sides: Sides, allowed: u16, values: &[i32], dist: &mut [i32], status: &mut [u8]) -> Result<Record, Refusal> {
     // SAFETY: each pointer and length is one live slice's, the two mutable ones overlap nothing, and none is kept. So it is below.
     let r = unsafe {
@@ -466,8 +491,8 @@ pub fn written_length(sides: Sides, width: u8) -> Option<usize> {
 /// bytes and gives the same sides, T and values. Nothing in them is left to choice: a grid has one written form.
 ///
 /// The layers are all of [`written_width`], whatever the width was in a file that the values were read from. A missing point is written as the
-/// mark of that width, and a grid that [`begin`] would refuse with 3 or 4 is written like any other. `file` may be longer than
-/// [`written_length`]; its bytes past that stay as they were.
+/// mark of that width, also where [`begin`] counts it as inside, and a grid that [`begin`] would refuse with 3 or 4 is written like any other.
+/// `file` may be longer than [`written_length`]; its bytes past that stay as they were.
 ///
 /// Checks: 1, 2 (`values`), 28, 26.
 ///

@@ -6,7 +6,7 @@ mod generator;
 
 use std::path::{Path, PathBuf};
 use std::process::{Command, Stdio};
-use wattlerugby::{read_layer, Grid, Refusal, MISSING, WIDE};
+use wattlerugby::{patch, read, read_layer, Grid, Refusal, GONE, MISSING, WIDE};
 
 fn root() -> PathBuf {
     Path::new(env!("CARGO_MANIFEST_DIR")).join("..")
@@ -48,7 +48,7 @@ fn the_patched_pane() {
     let kept = |patches: &[&[u8]]| {
         let mut grid = Grid::from_file(&[&pane[..], &patches.concat()].concat()).expect("the sample is taken");
         grid.carve_to_the_end().expect("a begun grid is carved");
-        grid.status().iter().filter(|&&s| s != wattlerugby::GONE).count()
+        grid.status().iter().filter(|&&s| s != GONE).count()
     };
     let in_order: Vec<&[u8]> = patches.chunks(8).collect();
     let reversed: Vec<&[u8]> = in_order.iter().rev().copied().collect();
@@ -71,8 +71,37 @@ fn the_tunnel_is_wide() {
     }
     assert_eq!(start, file.len());
     let mut whole = vec![0; values.len()];
-    assert!(wattlerugby::read(&file, &mut whole).is_ok() && whole == values);
+    assert!(read(&file, &mut whole).is_ok() && whole == values);
     assert!(values.contains(&MISSING) && values.iter().max() > Some(&65_535) && values.iter().any(|&v| v < -32_768 && v != MISSING));
+}
+
+/// Of the wall's missing points those of the left gap are inside and those of the right one are carved out. Its line tells of a begin that
+/// counts them all as outside: there each has M, so it is what 5, the M of this grid, gives in their place.
+#[test]
+fn the_wall_has_a_gap_behind_its_face() {
+    let file = std::fs::read(root().join("samples/wall.grid")).expect("the sample can be read");
+    let mut values = vec![0; 16 * 11 * 9];
+    let (sides, allowed) = read(&file, &mut values).expect("the sample is read");
+    let carved = |values: &[i32]| {
+        let mut grid = Grid::begin(sides, allowed, values).expect("the sample is taken");
+        let distances = grid.distances().to_vec();
+        grid.carve_to_the_end().expect("a begun grid is carved");
+        (distances, grid)
+    };
+    let (distances, grid) = carved(&values);
+    let missing: Vec<usize> = (0..values.len()).filter(|&i| values[i] == MISSING).collect();
+    let (left, right): (Vec<usize>, Vec<usize>) = missing.iter().partition(|&&i| i % 16 < 9);
+    assert_eq!((left.len(), right.len()), (74, 45));
+    assert!(left.iter().all(|&i| distances[i] == -1 && grid.status()[i] != GONE));
+    assert!(right.iter().all(|&i| distances[i] >= 5 && grid.status()[i] == GONE));
+    let core = 5 + 16 * (5 + 11 * 4);
+    assert_eq!((values[core], distances[core]), (-25, -25));
+    let closed = [&file[..], &patch(11 + 16 * (5 + 11 * 6), -5)].concat();
+    let closed = Grid::from_file(&closed).expect("the sample with a patch is taken");
+    assert!(missing.iter().all(|&i| closed.distances()[i] == -1));
+    let (before, other) = carved(&values.iter().map(|&v| if v == MISSING { 5 } else { v }).collect::<Vec<_>>());
+    assert!(missing.iter().all(|&i| before[i] >= 5) && before[core] > 5);
+    assert_eq!((grid.record().examinations, other.record().examinations), (90, 108), "as samples/README.md says");
 }
 
 /// With T = 1 the torus ends for want of openings; with more allowed it gives the same record, and nothing is left to open.
