@@ -7,8 +7,8 @@ use wattlerugby::{Grid, Opened, Refusal, GONE, MISSING};
 /// Examinations between two looks at the clock. Each call of carve checks the whole grid, so fewer would cost more.
 const SLICE: u32 = 200_000;
 
-/// What a voxel is in pictures. The first five are of a carved grid, in the order of their numbers in `volume`; the others of one that
-/// is refused for its values.
+/// What a voxel is in pictures. The first six are of a carved grid, in the order of their numbers in `volume`; the others of one that is
+/// refused for its values.
 #[derive(Clone, Copy, Debug, PartialEq, Eq)]
 #[repr(u8)]
 pub enum Kind {
@@ -17,6 +17,8 @@ pub enum Kind {
     Filled,
     FilledMissing,
     Opened,
+    /// A missing range point that begin counts as inside.
+    Gap,
     Outside,
     Negative,
     Missing,
@@ -25,25 +27,27 @@ pub enum Kind {
 
 impl Kind {
     /// Every kind, by its number.
-    pub const ALL: [Kind; 9] = [
+    pub const ALL: [Kind; 10] = [
         Kind::Gone,
         Kind::Inside,
         Kind::Filled,
         Kind::FilledMissing,
         Kind::Opened,
+        Kind::Gap,
         Kind::Outside,
         Kind::Negative,
         Kind::Missing,
         Kind::NegativeOnBorder,
     ];
     /// The kinds of a carved grid and of a refused one, in the order of the key.
-    pub const CARVED: [Kind; 5] = [Kind::Inside, Kind::Filled, Kind::FilledMissing, Kind::Opened, Kind::Gone];
+    pub const CARVED: [Kind; 6] = [Kind::Inside, Kind::Gap, Kind::Filled, Kind::FilledMissing, Kind::Opened, Kind::Gone];
     pub const REFUSED: [Kind; 4] = [Kind::Negative, Kind::NegativeOnBorder, Kind::Missing, Kind::Outside];
 
     pub fn mark(self) -> char {
         match self {
             Kind::Gone | Kind::Outside => '.',
             Kind::Inside | Kind::Negative => '#',
+            Kind::Gap => '=',
             Kind::Filled => 'o',
             Kind::FilledMissing | Kind::Missing => '?',
             Kind::Opened => '+',
@@ -55,6 +59,7 @@ impl Kind {
         match self {
             Kind::Gone => "gone",
             Kind::Inside => "inside",
+            Kind::Gap => "gap counted as inside",
             Kind::Filled => "filled",
             Kind::FilledMissing => "filled, and the range point is missing",
             Kind::Opened => "opened",
@@ -70,6 +75,7 @@ impl Kind {
         match self {
             Kind::Gone | Kind::Outside => [0xE8, 0xEA, 0xED],
             Kind::Inside | Kind::Negative => [0x00, 0x72, 0xB2],
+            Kind::Gap => [0x56, 0xB4, 0xE9],
             Kind::Filled => [0xE6, 0x9F, 0x00],
             Kind::FilledMissing | Kind::Missing => [0xCC, 0x79, 0xA7],
             Kind::Opened => [0x00, 0x9E, 0x73],
@@ -134,6 +140,7 @@ impl<'a> Body<'a> {
 fn kinds(scan: &Scan, grid: &Grid, inside: &[bool], openings: &[Opened]) -> Vec<Kind> {
     let kind = |i: usize| match (grid.status()[i], inside[i], scan.values[i]) {
         (GONE, ..) => Kind::Gone,
+        (_, true, MISSING) => Kind::Gap,
         (_, true, _) => Kind::Inside,
         (_, false, MISSING) => Kind::FilledMissing,
         _ => Kind::Filled,

@@ -5,6 +5,7 @@ use crate::body::{Body, Kind};
 use crate::carve::{program_limit, PROGRAM_BYTES, PROGRAM_SIDE};
 use crate::file::{index_of, is_negative, is_value, record_length, width_at};
 use crate::file::{LayerRecord, Records, Scan, Source, HEADER, PATCH, PATCH_HEAD};
+use crate::gaps::{Gaps, Tally};
 use crate::{Answer, Failure, Status};
 use std::collections::BTreeSet;
 use wattlerugby::{read_layer, written_length, Refusal, Sides, GREATEST_VALUE, LEAST_VALUE, MISSING, NARROW, WIDE};
@@ -305,6 +306,7 @@ pub fn meaning(body: &Body) -> Vec<String> {
         let voxels = some(missing, "filled voxel");
         told.push(format!("The range point is missing in {voxels}: assumed there, not measured. Scan there again."));
     }
+    told.extend(gaps(body));
     let unseen = body.openings_over_missing();
     if unseen > 0 {
         told.push(format!(
@@ -317,6 +319,40 @@ pub fn meaning(body: &Body) -> Vec<String> {
         told.push(format!("{} measured negative apart from the largest group, and not counted as inside.", was(stray, "voxel")));
     }
     told
+}
+
+/// What missing range points count as, and why.
+fn gaps(body: &Body) -> Vec<String> {
+    let (found, mut told) = (Gaps::of(body), Vec::new());
+    if found.inside.points > 0 {
+        let gaps = some(found.inside.gaps, "gap");
+        told.push(format!("{} as inside, in {gaps} behind the face, closed in by voxels measured negative.", count(found.inside.points)));
+    }
+    let beside = found.first_beside.map_or(String::new(), |i| {
+        format!("beside a voxel measured outside, such as {}, with {}", body.scan.voxel(i), body.scan.values[i])
+    });
+    let mut reasons = vec![
+        (found.on_edge, "at the grid's edge"),
+        (found.beside_outside, &beside),
+        (found.discarded, "among negative voxels that are not counted as inside"),
+    ];
+    reasons.retain(|(tally, _)| tally.points > 0);
+    let place = |(tally, why): &(Tally, &str)| format!("in {} {why}", some(tally.gaps, "gap"));
+    match &reasons[..] {
+        [] => {}
+        [one] => told.push(format!("{} as outside, {}.", count(one.0.points), place(one))),
+        several => {
+            let each: Vec<String> = several.iter().map(|one| format!("{} {}", one.0.points, place(one))).collect();
+            let all = several.iter().map(|(tally, _)| tally.points).sum();
+            told.push(format!("{} as outside: {}.", count(all), each.join("; ")));
+        }
+    }
+    told
+}
+
+/// `1 missing range point counts`, `2 missing range points count`.
+fn count(points: usize) -> String {
+    some(points, "missing range point") + if points == 1 { " counts" } else { " count" }
 }
 
 /// `1 voxel was`, `2 voxels were`.

@@ -18,6 +18,13 @@ pub const COMMANDS: &[Command] = &[
 Shows what carving leaves of a grid, layer by layer, x to the right and y down, with a key and counts. Where the grid is refused
 for its values, these are shown in its place, with those that it is refused for marked.
 
+  #  inside                  blue         o  filled: kept, but not inside             orange
+  =  gap counted as inside   light blue   ?  filled, and the range point is missing   pink
+  .  gone                    grey         +  opened                                   green
+
+A gap counted as inside is a group of missing range points joined by faces, off the grid's edge, and every other voxel that shares a
+face with it is measured negative: no shot reaches the middle of a thick wall.
+
   --layer Z   that layer alone
   --png       a picture in place of text
   --scale N   pixels along a voxel in the picture, 1 to 32; chosen by the grid's size otherwise
@@ -30,7 +37,8 @@ for its values, these are shown in its place, with those that it is refused for 
         help: "wattle explain FILE [-o OUT]
 
 Says why a grid file is refused: the number, the byte, the layer, the patch or the voxel, and what to do. Where it is taken, says what
-its result means: how much was filled, whether range points are missing there, and what can be said about tunnels.
+its result means: how much was filled, whether range points are missing there, what can be said about tunnels; and how many missing
+points count as inside, since they lie in gaps behind the face, and why the others do not.
 ",
     },
     Command {
@@ -61,7 +69,7 @@ The carved grid as a volume, for ParaView, 3D Slicer and others, a voxel a sampl
   --field FIELD  values      as measured, -2147483648 where the range point is missing
                  distances   worked distances, negative in the body: its surface is the level 0
                  status      0 gone, 1 kept
-                 kinds       0 gone, 1 inside, 2 filled, 3 filled over a missing range point, 4 opened
+                 kinds       0 gone, 1 inside, 2 filled, 3 filled over a missing range point, 4 opened, 5 gap counted as inside
 
 Without --vtk or --nrrd, the ending of OUT decides.
 ",

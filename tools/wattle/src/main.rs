@@ -10,6 +10,7 @@ mod compare;
 mod deflate;
 mod explain;
 mod file;
+mod gaps;
 mod help;
 mod look;
 mod output;

@@ -51,7 +51,7 @@ fn pairs(body: &Body) -> Vec<(usize, usize)> {
 }
 
 /// A point is measured where its inner voxel is inside and its outer one's value is 0 or more; any other only says between which voxels
-/// the surface runs (docs/RESULT.md).
+/// the surface runs (docs/RESULT.md). No point lies beside a gap counted as inside: all that shares a face with it is inside too.
 fn basis(body: &Body, inner: usize, outer: usize) -> Kind {
     match (body.kinds[inner], body.scan.values[outer]) {
         (Kind::FilledMissing, _) | (_, MISSING) => Kind::FilledMissing,

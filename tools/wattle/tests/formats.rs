@@ -7,13 +7,35 @@ use std::path::{Path, PathBuf};
 use std::process::Command;
 use wattlerugby::{Sides, GREATEST_VALUE, LEAST_VALUE, MISSING};
 
-/// The samples that are carved, with what the library makes of them, a large flat grid with missing points and openings, and one with values up to
-/// the ends of their range.
+/// The samples that are carved, with what the library makes of them, a large flat grid with missing points and openings, one with values up to
+/// the ends of their range, and noise with many gaps.
 fn bodies(folder: &Path) -> Vec<(PathBuf, Carved)> {
     let mut files: Vec<PathBuf> = samples();
-    files.extend([flat(folder), far(folder)]);
+    files.extend([flat(folder), far(folder), noise(folder)]);
     let carved = |file: PathBuf| carved(&std::fs::read(&file).unwrap()).ok().map(|body| (file, body));
-    files.into_iter().filter_map(carved).collect()
+    let bodies: Vec<(PathBuf, Carved)> = files.into_iter().filter_map(carved).collect();
+    assert!((0..6).all(|kind| bodies.last().is_some_and(|(_, body)| body.count(kind) > 0)), "the noise has voxels of every kind");
+    bodies
+}
+
+/// 12 x 11 x 10 voxels of noise: off the border three in four are negative, and many missing.
+fn noise(folder: &Path) -> PathBuf {
+    let mut seed = common::Seed(3);
+    let values: Vec<i16> = (0..12 * 11 * 10)
+        .map(|_| match seed.below(100) {
+            0..=74 => -1 - seed.below(40) as i16,
+            75..=87 => i16::MIN,
+            _ => seed.below(40) as i16,
+        })
+        .collect();
+    let inner = |p: usize, side: usize| 0 < p && p + 1 < side;
+    let value = |x: usize, y: usize, z: usize| match inner(x, 12) && inner(y, 11) && inner(z, 10) {
+        true => values[x + 12 * (y + 11 * z)],
+        false => 25,
+    };
+    let name = folder.join("noise.grid");
+    std::fs::write(&name, common::grid_file([12, 11, 10], 3, value)).unwrap();
+    name
 }
 
 /// 64 x 5 x 3 voxels: a plate with holes, one of them over a missing range point.
@@ -198,6 +220,18 @@ fn points_are_all_crossings() {
         }
     }
     at_hand(&found, "PLY was read here alone, since python3 with vtk or meshio (python3-vtk9, python3-meshio) is not there");
+}
+
+/// All that shares a face with a gap counted as inside is inside too, so no point lies there.
+#[test]
+fn no_point_lies_beside_a_gap_counted_as_inside() {
+    for (file, body) in bodies(&common::folder("points-gaps")) {
+        let Sides { a, b, .. } = body.sides;
+        for i in (0..body.kinds.len()).filter(|&i| body.kinds[i] == 5) {
+            let beside = [i - 1, i + 1, i - a, i + a, i - a * b, i + a * b];
+            assert!(beside.iter().all(|&j| body.inside[j]), "voxel {i} of {}", file.display());
+        }
+    }
 }
 
 #[test]

@@ -29,8 +29,10 @@ fn it_tells_the_line_and_the_counts() {
         let line = text(&wattle(&["carve", path(&grid)]).stdout);
         assert!(page.contains(&format!("<p class=\"line\">{}", line.trim_end())), "{line}");
         if let Ok(body) = carved(&std::fs::read(&grid).unwrap()) {
-            let key = format!("</span>filled, and the range point is missing: {}</li>", body.count(3));
-            assert!(page.contains(&key), "{key}");
+            for (kind, name) in [(3, "filled, and the range point is missing"), (5, "gap counted as inside")] {
+                let key = format!("</span>{name}: {}</li>", body.count(kind));
+                assert!(page.contains(&key), "{key}");
+            }
         }
     }
     let refused = wattle(&["page", path(&common::sample("refused.grid"))]);
@@ -169,7 +171,7 @@ fn a_screenshot_has_the_colours() {
     open(browser, &folder, &file, "--window-size=1200,900", &format!("--screenshot={}", path(&shot)));
     let picture = common::png::parse(&std::fs::read(&shot).unwrap());
     assert_eq!(picture.width, 1200);
-    let [gone, inside, _, missing, _] = COLOURS.map(|colour| picture.count(colour));
+    let [gone, inside, _, missing, ..] = COLOURS.map(|colour| picture.count(colour));
     // z = 6 has 9 voxels filled over missing points, and 82 inside
     assert!(missing > 5000 && inside > 8 * missing && gone > 5 * missing, "{gone} {inside} {missing}");
 }

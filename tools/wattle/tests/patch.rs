@@ -54,10 +54,10 @@ fn a_patched_file_is_a_grid_file() {
     assert!(told.contains(" and 77\n"), "{told}");
     answer(&["rewrite", path(&twice), "-o", path(&plain)]);
     assert!(text(&answer(&["compare", path(&twice), path(&plain)])).starts_with("the same"));
-    for (grid, mark) in [(&once, '?'), (&twice, 'o')] {
+    for (grid, mark) in [(&once, '='), (&twice, 'o')] {
         let layer = text(&answer(&["look", "--layer", "5", path(grid)]));
         let row = layer.split_once("z = 5\n").unwrap().1.lines().nth(5).unwrap();
-        assert_eq!(row.chars().nth(5), Some(mark), "closed in on every side, it is filled: {layer}");
+        assert_eq!(row.chars().nth(5), Some(mark), "closed in on every side, missing it counts as inside, and as 77 it is filled: {layer}");
     }
 }
 

@@ -35,11 +35,11 @@ fn look_counts() {
     for grid in samples() {
         let Ok(body) = carved(&std::fs::read(&grid).unwrap()) else { continue };
         let shown = text(&answer(&["look", path(&grid)]));
-        let names = ["gone", "inside", "filled", "filled, and the range point is missing", "opened"];
+        let names = [". gone", "# inside", "o filled", "? filled, and the range point is missing", "+ opened", "= gap counted as inside"];
         for (kind, name) in names.iter().enumerate() {
-            let entry = format!(" {name}: {}", body.count(kind as u8));
+            let entry = format!("{name}: {}", body.count(kind as u8));
             let key = shown.lines().nth(3).unwrap();
-            assert!(key.split("   ").any(|e| e.ends_with(&entry)), "{entry} is not in {key}");
+            assert!(key.split("   ").any(|e| e == entry), "{entry} is not in {key}");
         }
     }
     let shown = text(&wattle(&["look", path(&common::sample("refused.grid"))]).stdout);
@@ -87,7 +87,13 @@ fn explain_says_what_a_result_means() {
     assert_eq!([sphere.0, torus.0, glass.0, refused.0], [0, 0, 0, 1]);
     assert!(sphere.1.contains("T is 0, so the body is closed") && sphere.1.contains("9 voxels were filled"), "{}", sphere.1);
     assert!(torus.1.contains("(14)") && torus.1.contains("1 tunnel or more"), "{}", torus.1);
-    assert!(glass.1.contains("missing in 13 filled voxels"), "{}", glass.1);
+    assert!(glass.1.contains("missing in 9 filled voxels"), "{}", glass.1);
+    assert!(
+        glass.1.contains("- 4 missing range points count as inside, in 1 gap behind the face, closed in by voxels measured negative.\n"),
+        "{}",
+        glass.1
+    );
+    assert!(glass.1.contains("- 117 missing range points count as outside, in 2 gaps at the grid's edge.\n"), "{}", glass.1);
     let place = "12 negative voxels lie on the grid's edge (12 at x = 0). The first is voxel (0, 5, 4), index 636, with -2: byte 1294, in layer z = 4.";
     assert!(refused.1.contains("refused 3") && refused.1.contains(place), "{}", refused.1);
     let file = std::fs::read(common::sample("refused.grid")).unwrap();

@@ -149,7 +149,7 @@ pub fn carved(file: &[u8]) -> Result<Carved, Refusal> {
     grid.finish()?;
     let kind = |i: usize| match (grid.status()[i] != GONE, inside[i]) {
         (false, _) => u8::from(opened.contains(&i)) * 4,
-        (true, true) => 1,
+        (true, true) => 1 + u8::from(values[i] == MISSING) * 4,
         (true, false) => 2 + u8::from(values[i] == MISSING),
     };
     let kinds = (0..values.len()).map(kind).collect();
@@ -187,5 +187,6 @@ impl Carved {
     }
 }
 
-/// The colours of kinds 0 to 4, and what no voxel is drawn with.
-pub const COLOURS: [[u8; 3]; 5] = [[0xE8, 0xEA, 0xED], [0, 0x72, 0xB2], [0xE6, 0x9F, 0], [0xCC, 0x79, 0xA7], [0, 0x9E, 0x73]];
+/// The colours of kinds 0 to 5.
+pub const COLOURS: [[u8; 3]; 6] =
+    [[0xE8, 0xEA, 0xED], [0, 0x72, 0xB2], [0xE6, 0x9F, 0], [0xCC, 0x79, 0xA7], [0, 0x9E, 0x73], [0x56, 0xB4, 0xE9]];
