@@ -2,7 +2,7 @@
 
 use crate::clock;
 use crate::race::Order;
-use crate::types::{begun, size, Carved, Machine, Opened, Record, Refused, Sides, Taken, Value, Values};
+use crate::types::{begun, size, Carved, Machine, Opened, Record, Refused, Sides, Taken, Value, Values, MISSING};
 use std::time::{Duration, Instant};
 
 type Answer<T> = Result<T, Refused>;
@@ -26,6 +26,19 @@ impl Calls {
     pub const fn of<M: Machine>() -> Self {
         let begin: Begin = |sides, allowed, values, dist, status| M::begin(sides, allowed, M::Value::lent(values), dist, status);
         Calls { name: M::NAME, begin, carve: M::carve, take: M::take, open: M::open, finish: M::finish }
+    }
+
+    /// Whether begin fills gaps behind the face, as it does since document 02's CR 6: one missing voxel between six negative ones tells.
+    pub fn fills_gaps(&self) -> bool {
+        let mut values = vec![1; 125];
+        for i in [37, 57, 61, 63, 67, 87] {
+            values[i] = -1;
+        }
+        values[62] = MISSING;
+        let case = Case { sides: Sides { a: 5, b: 5, c: 5 }, allowed: 0, values: values.into() };
+        let mut state = State::blank(&case);
+        begin(self, &case, &mut state, &mut Log::default());
+        state.dist[62] == -1
     }
 }
 
@@ -107,6 +120,23 @@ pub fn whole(calls: &Calls, case: &Case, state: &mut State, log: &mut Log) {
 
 pub type Run = fn(&Calls, &Case, &mut State, &mut Log);
 
+/// What a run answered, and what it left.
+type Outcome = Option<(Log, State)>;
+
+/// The first run says what is wanted, and every later one must come to the same.
+fn compare(wanted: &mut Outcome, log: &Log, state: &State, name: &str) {
+    let (answers, after) = wanted.get_or_insert_with(|| (log.clone(), state.clone()));
+    assert!(answers == log, "{name}: other answers");
+    assert!(after == state, "{name}: other buffers");
+}
+
+/// An implementation that leaves gaps behind the face as they are, and a grid's values without them. On the grid as it is, it comes to something else
+/// by its rule, and is timed alone; with the gaps filled it must come to what all others do.
+pub struct Apart {
+    pub entrant: usize,
+    pub filled: Case,
+}
+
 pub const ROUNDS: usize = 9;
 const AT_LEAST: Duration = Duration::from_millis(300);
 
@@ -115,37 +145,48 @@ pub struct Race<'a> {
     case: &'a Case,
     start: &'a State,
     run: Run,
+    apart: Option<&'a Apart>,
     /// The least time of each implementation so far, in ns.
     pub times: Vec<f64>,
     order: Order,
     state: State,
     log: Log,
-    outcome: Option<(Log, State)>,
+    outcome: Outcome,
+    outcome_apart: Outcome,
 }
 
 impl<'a> Race<'a> {
-    pub fn new(entrants: usize, case: &'a Case, start: &'a State, run: Run) -> Self {
+    pub fn new(entrants: usize, case: &'a Case, start: &'a State, run: Run, apart: Option<&'a Apart>) -> Self {
         let log = Log { carved: Vec::with_capacity(1 << 12), opened: Vec::with_capacity(1 << 12), refused: None };
         let (times, order) = (vec![f64::INFINITY; entrants], Order::of(entrants));
-        Race { case, start, run, times, order, state: start.clone(), log, outcome: None }
+        Race { case, start, run, apart, times, order, state: start.clone(), log, outcome: None, outcome_apart: None }
     }
 
-    /// Every implementation once; all must answer and leave the same.
+    /// Every implementation once; all must answer and leave the same, but for one that is set apart.
     pub fn round(&mut self, all: &[Calls]) {
         for k in self.order.drawn() {
-            let (calls, least) = (&all[k], &mut self.times[k]);
-            self.state.set(self.start);
-            self.log.carved.clear();
-            self.log.opened.clear();
-            self.log.refused = None;
-            self.case.values.warm();
-            let from = clock::now();
-            (self.run)(calls, self.case, &mut self.state, &mut self.log);
-            *least = least.min(clock::since(from));
-            let (answers, after) = self.outcome.get_or_insert_with(|| (self.log.clone(), self.state.clone()));
-            assert!(*answers == self.log, "{}: other answers", calls.name);
-            assert!(*after == self.state, "{}: other buffers", calls.name);
+            let calls = &all[k];
+            let apart = self.apart.filter(|apart| apart.entrant == k);
+            if let (Some(apart), None) = (apart, &self.outcome_apart) {
+                self.time(calls, &apart.filled);
+                compare(&mut self.outcome, &self.log, &self.state, calls.name);
+            }
+            self.times[k] = self.times[k].min(self.time(calls, self.case));
+            let wanted = if apart.is_some() { &mut self.outcome_apart } else { &mut self.outcome };
+            compare(wanted, &self.log, &self.state, calls.name);
         }
+    }
+
+    /// The time of one run from the start, in ns.
+    fn time(&mut self, calls: &Calls, case: &Case) -> f64 {
+        self.state.set(self.start);
+        self.log.carved.clear();
+        self.log.opened.clear();
+        self.log.refused = None;
+        case.values.warm();
+        let from = clock::now();
+        (self.run)(calls, case, &mut self.state, &mut self.log);
+        clock::since(from)
     }
 
     /// What every run answered.
@@ -155,8 +196,8 @@ impl<'a> Race<'a> {
 }
 
 /// A race of nine rounds or more.
-pub fn contest<'a>(all: &[Calls], case: &'a Case, start: &'a State, run: Run) -> Race<'a> {
-    let mut race = Race::new(all.len(), case, start, run);
+pub fn contest<'a>(all: &[Calls], case: &'a Case, start: &'a State, run: Run, apart: Option<&'a Apart>) -> Race<'a> {
+    let mut race = Race::new(all.len(), case, start, run, apart);
     let began = Instant::now();
     let mut rounds = 0;
     while rounds < ROUNDS || (began.elapsed() < AT_LEAST && rounds < 1000) {

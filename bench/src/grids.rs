@@ -1,4 +1,4 @@
-//! The grids that are measured: a sphere, a torus and white noise, each fitted to the sides.
+//! The grids that are measured: a sphere, a torus and white noise, and those with gaps behind the face, each fitted to the sides.
 
 use crate::types::{narrowed, size, Sides, MISSING};
 use wattlerugby::patch;
@@ -24,17 +24,60 @@ pub enum Shape {
     Sphere,
     Torus,
     Noise,
+    /// Noise with every point measured.
+    Measured,
+    /// Noise full of gaps, many of them enclosed.
+    Gapped,
+    /// A closed shell of negative voxels, nothing measured within.
+    Closed,
+    /// The same with a hole in the shell, so that nothing is enclosed.
+    Holed,
 }
 
 impl Shape {
+    /// The grids of every table but those of gaps.
     pub const ALL: [Shape; 3] = [Shape::Sphere, Shape::Torus, Shape::Noise];
+    /// Without a missing point.
+    pub const WHOLE: [Shape; 3] = [Shape::Sphere, Shape::Torus, Shape::Measured];
+    /// Full of missing points.
+    pub const GAPS: [Shape; 3] = [Shape::Gapped, Shape::Closed, Shape::Holed];
+
+    /// The shape of a name.
+    pub fn named(name: &str) -> Option<Shape> {
+        [Shape::ALL, Shape::WHOLE, Shape::GAPS].into_iter().flatten().find(|shape| shape.name() == name)
+    }
 
     pub fn name(self) -> &'static str {
         match self {
             Shape::Sphere => "sphere",
             Shape::Torus => "torus",
             Shape::Noise => "noise",
+            Shape::Measured => "measured noise",
+            Shape::Gapped => "gapped noise",
+            Shape::Closed => "closed cavity",
+            Shape::Holed => "holed cavity",
         }
+    }
+}
+
+/// So many in 100 measured negative, so many missing.
+fn noise(random: &mut Random, negative: u64, missing: u64) -> i32 {
+    match random.below(100) {
+        p if p < negative => -1 - random.below(1000) as i32,
+        p if p < negative + missing => MISSING,
+        _ => random.below(1000) as i32,
+    }
+}
+
+/// The shell is a sixteenth of the side thick, and so is what lies around it: at sides 16, 32 and 64 each kind of voxel has the same share of the grid,
+/// so that a time for each voxel can be compared.
+fn cavity([x, y, z]: [f64; 3], hole: bool) -> i32 {
+    let out = x.abs().max(y.abs()).max(z.abs());
+    // a sixteenth wide, through the shell's low face
+    let shaft = (0.0..0.12).contains(&x) && (0.0..0.12).contains(&y) && (-0.89..0.0).contains(&z);
+    match ((out - 0.89) * 3000.0) as i32 {
+        _ if out < 0.76 || hole && shaft => MISSING,
+        v => v,
     }
 }
 
@@ -43,12 +86,12 @@ fn value(shape: Shape, [x, y, z]: [f64; 3], random: &mut Random) -> i32 {
     match shape {
         Shape::Sphere => (((x * x + y * y + z * z).sqrt() - 0.8) * 3000.0) as i32,
         Shape::Torus => ((((x * x + y * y).sqrt() - 0.6).hypot(z) - 0.3) * 3000.0) as i32,
-        // 3 in 10 measured negative, 1 in 20 missing
-        Shape::Noise => match random.below(100) {
-            0..30 => -1 - random.below(1000) as i32,
-            30..35 => MISSING,
-            _ => random.below(1000) as i32,
-        },
+        Shape::Noise => noise(random, 30, 5),
+        Shape::Measured => noise(random, 30, 0),
+        // few are not negative, so that many small gaps are enclosed; the great one that so many missing points make is open
+        Shape::Gapped => noise(random, 57, 40),
+        Shape::Closed => cavity([x, y, z], false),
+        Shape::Holed => cavity([x, y, z], true),
     }
 }
 

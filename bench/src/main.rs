@@ -3,6 +3,7 @@
 //! what to divide a count of instructions.
 
 mod files;
+mod gaps;
 mod locals;
 mod patches;
 mod singles;
@@ -10,9 +11,9 @@ mod stacks;
 mod ways;
 
 use bench::archive;
-use bench::contest::{begin, carve, contest, turns, whole, Calls, Case, Log, Race, Run, State, ROUNDS};
+use bench::contest::{begin, carve, contest, turns, whole, Apart, Calls, Case, Log, Race, Run, State, ROUNDS};
 use bench::grids::{pending, values, Distances, Shape};
-use bench::plain::Plain;
+use bench::plain::{filled, Plain};
 use bench::tuned::Tuned;
 use bench::types::{size, Sides, Values};
 use singles::Took;
@@ -60,6 +61,20 @@ fn named(Sides { a, b, c }: Sides) -> String {
 
 fn case(sides: Sides, shape: Shape) -> Case {
     Case { sides, allowed: ALLOWED, values: values(sides, shape).into() }
+}
+
+/// Whether another archive is given that is from before document 02's CR 6.
+fn before_leaves_gaps() -> bool {
+    ALL.get(BEFORE).is_some_and(|before| !before.fills_gaps())
+}
+
+/// The other archive, on a grid of which its begin makes something else by rule: one with gaps behind the face.
+fn apart(case: &Case) -> Option<Apart> {
+    if !before_leaves_gaps() {
+        return None;
+    }
+    let values = filled(case.sides, &case.values.wide);
+    (values != case.values.wide).then(|| Apart { entrant: BEFORE, filled: Case { values: values.into(), ..*case } })
 }
 
 /// The state that runs lead to from a grid's values.
@@ -126,14 +141,25 @@ fn against_all(times: &[f64]) -> String {
     format!("{:.digits$}{ratios}", times[0])
 }
 
+/// Behind a ratio to the other archive that has other answers.
+fn mark(apart: bool) -> &'static str {
+    if apart {
+        "*"
+    } else {
+        ""
+    }
+}
+
 /// Times a part on a grid and prints its cell.
 fn measure(part: &Part, sides: Sides, shape: Shape) -> Found {
     let case = case(sides, shape);
     let start = after(&case, part.before);
-    let race = contest(&ALL, &case, &start, part.run);
+    // from a state on, all go by the same rules
+    let apart = if part.before.is_empty() { apart(&case) } else { None };
+    let race = contest(&ALL, &case, &start, part.run, apart.as_ref());
     let unit = (part.unit)(race.log());
     let times: Vec<f64> = race.times.iter().map(|t| t / unit).collect();
-    print!(" {}{} |", (part.count)(race.log()), against_all(&times));
+    print!(" {}{}{} |", (part.count)(race.log()), against_all(&times), mark(apart.is_some()));
     Found { word: part.word, sides, shape, times }
 }
 
@@ -168,7 +194,7 @@ fn growth() -> f64 {
     for shape in Shape::ALL {
         let cases = [GRIDS[0], LARGEST].map(|sides| case(sides, shape));
         let starts = [0, 1].map(|k| after(&cases[k], &[begin]));
-        let [mut small, mut large] = [0, 1].map(|k| Race::new(ALL.len(), &cases[k], &starts[k], carve));
+        let [mut small, mut large] = [0, 1].map(|k| Race::new(ALL.len(), &cases[k], &starts[k], carve, None));
         for _ in 0..5 * ROUNDS {
             (0..4).for_each(|_| small.round(&ALL));
             large.round(&ALL);
@@ -191,7 +217,7 @@ fn worst_case() -> Option<f64> {
     for distances in Distances::ALL {
         let case = Case { sides: LARGEST, allowed: 0, values: Values::default() };
         let start = crafted(LARGEST, distances);
-        let race = contest(&ALL, &case, &start, carve);
+        let race = contest(&ALL, &case, &start, carve, None);
         let times: Vec<f64> = race.times.iter().map(|t| t / examinations(race.log())).collect();
         println!("| {} | {} | {} |", distances.name(), race.log().examined(), against_all(&times));
         most = times.get(BEFORE).map(|before| (times[0] / before).max(most.unwrap_or(0.0)));
@@ -218,8 +244,20 @@ fn against_plain(found: &[Found], word: &'static str, shapes: &[Shape], most: f6
 /// A change makes no call slower, beyond what a run tells.
 const NOT_SLOWER: f64 = 1.15;
 
+/// What CR 6 may cost begin where no point is missing.
+const GAPS_LOOKED_FOR: f64 = 1.3;
+
+/// What is asked of begin against the other archive: of one that leaves gaps, on grids without a missing point alone.
+fn most_of_begin() -> f64 {
+    if before_leaves_gaps() {
+        GAPS_LOOKED_FOR
+    } else {
+        NOT_SLOWER
+    }
+}
+
 /// Ours to the other archive's, on the largest grid: for a part, or for a single call.
-fn against_before(found: &[Found], took: &[Took], word: &str, shapes: &[Shape]) -> Vec<Demand> {
+fn against_before(found: &[Found], took: &[Took], word: &str, shapes: &[Shape], most: f64) -> Vec<Demand> {
     let part = |shape: Shape| found.iter().find(|f| f.word == word && f.sides == LARGEST && f.shape == shape).map(|f| &f.times);
     let single = |shape: Shape| took.iter().find(|t| t.word == word && t.sides == LARGEST && t.shape == shape).map(|t| &t.times);
     let measured = |&shape: &Shape| {
@@ -228,7 +266,7 @@ fn against_before(found: &[Found], took: &[Took], word: &str, shapes: &[Shape]) 
             (_, Some(times)) => (times[0], *times.get(1)?),
             _ => return None,
         };
-        Some(Demand(format!("{word}, {} {}, ours/before", named(LARGEST), shape.name()), ours / before, NOT_SLOWER))
+        Some(Demand(format!("{word}, {} {}, ours/before", named(LARGEST), shape.name()), ours / before, most))
     };
     shapes.iter().filter_map(measured).collect()
 }
@@ -238,13 +276,12 @@ fn once(word: &str, shape: &str, side: &str, before: bool) {
     let side = side.parse().expect("a side");
     let sides = Sides { a: side, b: side, c: side };
     let calls = &ALL[if before { BEFORE } else { 0 }];
-    let named = Shape::ALL.into_iter().find(|s| s.name() == shape);
     if let Some(distances) = Distances::ALL.into_iter().find(|d| word == "crafted" && d.name() == shape) {
         let (mut state, mut log) = (crafted(sides, distances), Log::default());
         carve(calls, &Case { sides, allowed: 0, values: Values::default() }, &mut state, &mut log);
         return println!("{} {}", size(sides), log.examined());
     }
-    let case = case(sides, named.expect("sphere, torus or noise"));
+    let case = case(sides, Shape::named(shape).expect("a shape by its name"));
     let Some(part) = PARTS.iter().find(|part| part.word == word) else {
         assert!(singles::once(word, case, usize::from(before)), "there is no part {word}");
         return;
@@ -278,25 +315,36 @@ fn main() {
         "Processor time, least of {ROUNDS} rounds or more, or as told; every implementation once a round, in an order drawn anew, all answers and \
          buffers equal."
     );
+    if before_leaves_gaps() {
+        println!(
+            "\nThe other archive is from before document 02's CR 6 and leaves gaps behind the face as they are. On a grid with such gaps its begin and its \
+             whole run come to something else by rule: a ratio marked * is of times alone, of answers that are not compared. What it makes of the \
+             same grid with the gaps filled is compared."
+        );
+    }
     let mut demands = Vec::new();
     let parts: Vec<&Part> = PARTS.iter().filter(|part| wanted(part.word)).collect();
     let found = if parts.is_empty() { Vec::new() } else { measure_all(&parts) };
     let took = if wanted("single") { singles::measure(case) } else { Vec::new() };
     if wanted("begin") {
-        demands.extend(against_before(&found, &took, "begin", &Shape::ALL));
+        let shapes = if before_leaves_gaps() { &[Shape::Sphere, Shape::Torus] } else { &Shape::ALL[..] };
+        demands.extend(against_before(&found, &took, "begin", shapes, most_of_begin()));
         demands.extend(against_plain(&found, "begin", &[Shape::Sphere, Shape::Noise], 0.5));
     }
+    if wanted("gaps") {
+        demands.extend(gaps::measure());
+    }
     if wanted("carve") {
-        demands.extend(against_before(&found, &took, "carve", &Shape::ALL));
+        demands.extend(against_before(&found, &took, "carve", &Shape::ALL, NOT_SLOWER));
         demands.extend(against_plain(&found, "carve", &Shape::ALL, 0.8));
         demands.push(Demand("carve, growth".into(), growth(), 1.3));
     }
     if wanted("turns") {
-        demands.extend(against_before(&found, &took, "turns", &[Shape::Noise]));
+        demands.extend(against_before(&found, &took, "turns", &[Shape::Noise], NOT_SLOWER));
     }
     if wanted("single") {
         for word in ["check", "open", "finish", "points", "read", "write"] {
-            demands.extend(against_before(&found, &took, word, &Shape::ALL));
+            demands.extend(against_before(&found, &took, word, &Shape::ALL, NOT_SLOWER));
         }
         let points = took.iter().filter(|t| t.word == "points" && t.sides == LARGEST);
         let each = points.map(|t| 1e3 * t.times[0] / (3 * size(LARGEST)) as f64).fold(0.0, f64::max);

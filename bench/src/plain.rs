@@ -68,6 +68,40 @@ impl Voxels for Sides {
     }
 }
 
+/// The values with the gaps behind the face filled: a group of missing voxels joined by faces, none on the border, whose other face neighbours are all
+/// measured negative, has -1.
+pub fn filled(sides: Sides, values: &[i32]) -> Vec<i32> {
+    let mut filled = values.to_vec();
+    let mut seen = vec![false; values.len()];
+    for seed in 0..values.len() {
+        if seen[seed] || values[seed] != MISSING {
+            continue;
+        }
+        seen[seed] = true;
+        let mut group = vec![seed];
+        let mut enclosed = true;
+        let mut at = 0;
+        while at < group.len() {
+            enclosed &= !sides.border(group[at]);
+            for j in sides.facing(group[at]) {
+                if values[j] != MISSING {
+                    enclosed &= values[j] < 0;
+                } else if !seen[j] {
+                    seen[j] = true;
+                    group.push(j);
+                }
+            }
+            at += 1;
+        }
+        if enclosed {
+            for i in group {
+                filled[i] = -1;
+            }
+        }
+    }
+    filled
+}
+
 /// The largest group of measured negative voxels joined by touching; of equal ones the first.
 fn inside(sides: Sides, values: &[i32]) -> Vec<bool> {
     let mut seen = vec![false; values.len()];
@@ -218,8 +252,9 @@ impl Machine for Plain {
         if !values.iter().any(|&v| negative(v)) {
             return Err(4);
         }
-        let inside = inside(sides, values);
-        fill_distances(values, &steps(sides, &inside), dist);
+        let values = filled(sides, values);
+        let inside = inside(sides, &values);
+        fill_distances(&values, &steps(sides, &inside), dist);
         fill_status(sides, &inside, status);
         Ok(begun(sides, allowed))
     }

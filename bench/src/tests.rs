@@ -1,16 +1,16 @@
 //! The two Rust implementations against the reference, on small grids and on random calls; the local tests, and the race.
 
-use crate::contest::Calls;
+use crate::contest::{begin, contest, Apart, Calls, Case, State};
 use crate::file::{read, write, Chunked, Indexed, Way};
 use crate::grids;
 use crate::grids::{blocks, inner, lengthened, patches, statuses, values, Random, Shape};
 use crate::local::searched::{both, by_cells, by_frontiers, touched};
 use crate::local::{joined, passes, ranked, Whole};
 use crate::neighbourhood::{gather, kept_bits};
-use crate::plain::Plain;
+use crate::plain::{filled, Plain};
 use crate::race::{median, race, Contestant};
 use crate::tuned::Tuned;
-use crate::types::{begun, size, Record, Sides, Value, Values, MISSING};
+use crate::types::{begun, size, Carved, Machine, Opened, Record, Refused, Sides, Taken, Value, Values, MISSING};
 use reference::{grid, local, machine};
 use std::cell::RefCell;
 use std::collections::BTreeSet;
@@ -34,12 +34,14 @@ const EDGES: [i32; 12] =
     [32_767, 32_768, -32_767, -32_768, 1_000_000_000, -1_000_000_000, 1_000_000_001, -1_000_000_001, i32::MAX, MISSING, MISSING + 1, 0];
 
 fn random_values(random: &mut Random, sides: Sides) -> Vec<i32> {
-    let dense = random.below(60);
+    let missing = [5, 20, 40][random.below(3) as usize];
+    // every third grid has so few voxels that are not negative that gaps are enclosed
+    let dense = if random.below(3) == 0 { 97 - missing } else { random.below(60) };
     let scale = [1, 3, 1000, 32_767, 1_000_000_000][random.below(5) as usize];
     let mut values: Vec<i32> = (0..size(sides))
         .map(|_| match random.below(100) {
             p if p < dense => -1 - random.below(scale) as i32,
-            p if p > 94 => MISSING,
+            p if p >= 100 - missing => MISSING,
             _ => random.below(scale + 1) as i32,
         })
         .collect();
@@ -142,6 +144,334 @@ fn plain_as_the_reference() {
 #[test]
 fn tuned_as_the_reference() {
     (0..3000).for_each(|seed| play(&Calls::of::<Tuned>(), seed));
+}
+
+type Place = [usize; 3];
+
+fn index(sides: Sides, [x, y, z]: Place) -> usize {
+    x + sides.a * (y + sides.b * z)
+}
+
+/// The six places that share a face with an inner one.
+fn around([x, y, z]: Place) -> [Place; 6] {
+    [[x - 1, y, z], [x + 1, y, z], [x, y - 1, z], [x, y + 1, z], [x, y, z - 1], [x, y, z + 1]]
+}
+
+/// A grid with gaps, drawn by hand, and which voxels are filled.
+struct Drawn {
+    what: &'static str,
+    sides: [usize; 3],
+    /// The value of every place that is not named.
+    others: i32,
+    negative: Vec<Place>,
+    missing: Vec<Place>,
+    filled: Vec<Place>,
+}
+
+impl Drawn {
+    fn sides(&self) -> Sides {
+        let [a, b, c] = self.sides;
+        Sides { a, b, c }
+    }
+
+    fn given(&self) -> Vec<i32> {
+        let mut values = vec![self.others; size(self.sides())];
+        self.negative.iter().for_each(|&at| values[index(self.sides(), at)] = -7);
+        // a missing voxel may be named among the face neighbours of another
+        self.missing.iter().for_each(|&at| values[index(self.sides(), at)] = MISSING);
+        values
+    }
+
+    fn by_hand(&self) -> Vec<i32> {
+        let mut values = self.given();
+        self.filled.iter().for_each(|&at| values[index(self.sides(), at)] = -1);
+        values
+    }
+}
+
+/// The places of a cube from low to high.
+fn cube(low: usize, high: usize) -> Vec<Place> {
+    let side = low..=high;
+    side.clone().flat_map(|z| side.clone().flat_map(move |y| (low..=high).map(move |x| [x, y, z]))).collect()
+}
+
+fn drawn() -> Vec<Drawn> {
+    let middle = [2, 2, 2];
+    let line = |length: usize| (1..=length).map(|x| [x, 1, 1]);
+    let core = [3, 3, 3];
+    let not_core = |places: Vec<Place>| places.into_iter().filter(|&at| at != core).collect::<Vec<_>>();
+    let pair = [[2, 2, 2], [3, 2, 2]];
+    let by_edge = [[2, 2, 2], [3, 3, 2]];
+    let beyond_the_line = [4, 4, 2];
+    vec![
+        Drawn {
+            what: "one voxel between six negative ones",
+            sides: [5, 5, 5],
+            others: 4,
+            negative: around(middle).into(),
+            missing: vec![middle],
+            filled: vec![middle],
+        },
+        Drawn {
+            what: "one of the six is 0",
+            sides: [5, 5, 5],
+            others: 0,
+            negative: around(middle)[1..].into(),
+            missing: vec![middle],
+            filled: vec![],
+        },
+        Drawn {
+            what: "nothing else is measured",
+            sides: [5, 5, 5],
+            others: MISSING,
+            negative: around(middle).into(),
+            missing: vec![middle],
+            filled: vec![middle],
+        },
+        Drawn {
+            what: "one of the six is missing, and joined to the border",
+            sides: [5, 5, 5],
+            others: MISSING,
+            negative: around(middle)[..5].into(),
+            missing: vec![middle],
+            filled: vec![],
+        },
+        Drawn {
+            what: "two joined by a face",
+            sides: [6, 5, 5],
+            others: 4,
+            negative: pair.map(around).concat(),
+            missing: pair.into(),
+            filled: pair.into(),
+        },
+        Drawn {
+            what: "two joined by a face, the second open",
+            sides: [6, 5, 5],
+            others: 4,
+            negative: [&around(pair[0])[..], &around(pair[1])[..5]].concat(),
+            missing: pair.into(),
+            filled: vec![],
+        },
+        Drawn {
+            what: "two that share an edge alone, the second open",
+            sides: [6, 6, 5],
+            others: 4,
+            negative: [&around(by_edge[0])[..], &around(by_edge[1])[..5]].concat(),
+            missing: by_edge.into(),
+            filled: vec![by_edge[0]],
+        },
+        Drawn {
+            what: "a gap around a core, which only the filled voxels join to the rest",
+            sides: [7, 7, 7],
+            others: 4,
+            negative: cube(1, 5),
+            missing: not_core(cube(2, 4)),
+            filled: not_core(cube(2, 4)),
+        },
+        Drawn {
+            what: "six and a filled one are more than a line of six",
+            sides: [8, 7, 5],
+            others: 4,
+            negative: line(6).chain(around(beyond_the_line)).collect(),
+            missing: vec![beyond_the_line],
+            filled: vec![beyond_the_line],
+        },
+        Drawn {
+            what: "six and a filled one are no more than a line of seven, which is first",
+            sides: [9, 7, 5],
+            others: 4,
+            negative: line(7).chain(around(beyond_the_line)).collect(),
+            missing: vec![beyond_the_line],
+            filled: vec![beyond_the_line],
+        },
+    ]
+}
+
+/// What begin answers and leaves.
+type Begun = (Result<grid::Record, Refused>, Vec<i32>, Vec<u8>);
+
+fn begun_by(calls: &Calls, sides: Sides, values: &[i32]) -> Begun {
+    let (mut dist, mut status) = (vec![7; values.len()], vec![7; values.len()]);
+    let answer = (calls.begin)(sides, 3, &values.to_vec().into(), &mut dist, &mut status);
+    (answer.map(theirs), dist, status)
+}
+
+fn begun_by_the_reference(sides: Sides, values: &[i32]) -> Begun {
+    let (mut dist, mut status) = (vec![7; values.len()], vec![7; values.len()]);
+    let answer = grid::begin(theirs(begun(sides, 3)).sides, 3, values, &mut dist, &mut status);
+    (answer, dist, status)
+}
+
+/// Begin of a grid with gaps is that of the grid filled by hand.
+#[test]
+fn gaps_drawn_by_hand() {
+    for drawn in drawn() {
+        let (sides, given, by_hand) = (drawn.sides(), drawn.given(), drawn.by_hand());
+        assert_eq!(filled(sides, &given), by_hand, "{}", drawn.what);
+        let expected = begun_by_the_reference(sides, &by_hand);
+        assert!(expected.0.is_ok(), "{}", drawn.what);
+        assert_eq!(begun_by_the_reference(sides, &given), expected, "{}", drawn.what);
+        for calls in [Calls::of::<Plain>(), Calls::of::<Tuned>()] {
+            assert_eq!(begun_by(&calls, sides, &given), expected, "{}: {}", calls.name, drawn.what);
+        }
+    }
+}
+
+/// The worked distances at the gap of the last three grids: inside at -1, and M + d where the group is discarded.
+#[test]
+fn distances_of_filled_gaps() {
+    let told = ["gap around a core", "line of six", "line of seven"].map(|what| {
+        let drawn = drawn().into_iter().find(|drawn| drawn.what.contains(what)).expect("it is drawn");
+        let (_, dist, status) = begun_by(&Calls::of::<Tuned>(), drawn.sides(), &drawn.given());
+        let at = index(drawn.sides(), drawn.filled[0]);
+        (dist[at], status[at])
+    });
+    // from (4, 4, 2) to the line at y = 1, z = 1 there are 4 steps
+    assert_eq!(told, [(-1, 1), (-1, 1), (4 + 4, 0)]);
+}
+
+/// No gap counts for the checks: without a measured negative voxel it is 4, and the border has none.
+#[test]
+fn gaps_and_the_checks() {
+    let sides = Sides { a: 4, b: 4, c: 4 };
+    let all_missing = vec![MISSING; 64];
+    let mut one_missing = vec![5; 64];
+    one_missing[21] = MISSING;
+    let mut on_the_border = all_missing.clone();
+    on_the_border[0] = -1;
+    for calls in [Calls::of::<Plain>(), Calls::of::<Tuned>()] {
+        for (values, number) in [(&all_missing, 4), (&one_missing, 4), (&on_the_border, 3)] {
+            assert_eq!(begun_by(&calls, sides, values), (Err(number), vec![7; 64], vec![7; 64]), "{}", calls.name);
+        }
+    }
+}
+
+/// The rule the other way round: what is on the border or beside a measured non-negative voxel is open, and so is all that shares a face with what is open,
+/// looked at again and again until nothing changes; missing voxels that are left are filled.
+fn filled_until_nothing_changes(sides: Sides, values: &[i32]) -> Vec<i32> {
+    let their_sides = theirs(begun(sides, 0)).sides;
+    let mut open = vec![false; values.len()];
+    loop {
+        let was = open.clone();
+        for i in (0..values.len()).filter(|&i| values[i] == MISSING) {
+            let beside = |j: usize| if values[j] == MISSING { was[j] } else { values[j] >= 0 };
+            open[i] = was[i] || their_sides.border(i) || their_sides.face_neighbours(i).into_iter().flatten().any(beside);
+        }
+        if open == was {
+            break;
+        }
+    }
+    (0..values.len()).map(|i| if values[i] == MISSING && !open[i] { -1 } else { values[i] }).collect()
+}
+
+#[test]
+fn random_gaps_as_the_reference() {
+    let mut random = Random(6);
+    let (mut closed, mut left) = (0, 0);
+    for seed in 0..3000 {
+        // an enclosed gap needs sides of 5
+        let mut side = || 5 + random.below(6) as usize;
+        let sides = Sides { a: side(), b: side(), c: side() };
+        let given = random_values(&mut random, sides);
+        let wanted = filled_until_nothing_changes(sides, &given);
+        assert_eq!(filled(sides, &given), wanted, "{seed}");
+        assert_eq!(filled(sides, &wanted), wanted, "{seed}: filled once, no gap is left");
+        let expected = begun_by_the_reference(sides, &wanted);
+        for calls in [Calls::of::<Plain>(), Calls::of::<Tuned>()] {
+            assert_eq!(begun_by(&calls, sides, &given), expected, "{} {seed}", calls.name);
+        }
+        closed += usize::from(wanted != given && expected.0.is_ok());
+        left += usize::from(wanted.contains(&MISSING) && expected.0.is_ok());
+    }
+    assert!(closed > 300 && left > 300, "both are met: {closed} grids with filled gaps, {left} with others");
+}
+
+/// The grids that are measured for gaps have what their names say, and a cavity the same shares at every side.
+#[test]
+fn measured_grids_with_gaps() {
+    let count = |values: &[i32], wanted: fn(i32) -> bool| values.iter().filter(|&&v| wanted(v)).count();
+    let missing = |values: &[i32]| count(values, |v| v == MISSING);
+    for side in [16, 32, 64] {
+        let sides = Sides { a: side, b: side, c: side };
+        let told = |shape: Shape| {
+            let given = values(sides, shape);
+            assert_eq!(Shape::named(shape.name()), Some(shape));
+            assert!(!i16::lent(&given.clone().into()).is_empty(), "16 bits hold it");
+            (missing(&given), missing(&given) - missing(&filled(sides, &given)))
+        };
+        assert_eq!(Shape::WHOLE.map(told), [(0, 0); 3]);
+        let scale = (side / 16).pow(3);
+        assert_eq!(told(Shape::Closed), (12 * 12 * 12 * scale, 12 * 12 * 12 * scale));
+        assert_eq!(told(Shape::Holed), ((12 * 12 * 12 + 1) * scale, 0));
+        let shell = count(&values(sides, Shape::Closed), |v| v < 0 && v != MISSING);
+        assert_eq!(shell, (14 * 14 * 14 - 12 * 12 * 12) * scale);
+        let (gaps, closed) = told(Shape::Gapped);
+        let inner = (side - 2).pow(3);
+        assert!((38 * inner..42 * inner).contains(&(100 * gaps)) && 100 * closed > gaps, "{gaps} of {inner}, {closed} filled");
+    }
+}
+
+/// By the rule from before document 02's CR 6, as far as a race can tell: something else where a point is missing, and the same where none is.
+struct Earlier;
+
+impl Machine for Earlier {
+    const NAME: &'static str = "earlier";
+    type Value = i32;
+
+    fn begin(sides: Sides, allowed: u16, values: &[i32], dist: &mut [i32], status: &mut [u8]) -> Result<Record, Refused> {
+        let outside: Vec<i32> = values.iter().map(|&v| if v == MISSING { 1 } else { v }).collect();
+        Plain::begin(sides, allowed, &outside, dist, status)
+    }
+
+    fn carve(given: Record, dist: &[i32], status: &mut [u8], limit: u32) -> Result<Carved, Refused> {
+        Plain::carve(given, dist, status, limit)
+    }
+
+    fn take(given: Record, dist: &[i32], status: &mut [u8], index: usize) -> Result<Taken, Refused> {
+        Plain::take(given, dist, status, index)
+    }
+
+    fn open(given: Record, dist: &[i32], status: &mut [u8]) -> Result<Opened, Refused> {
+        Plain::open(given, dist, status)
+    }
+
+    fn finish(given: Record, dist: &mut [i32], status: &[u8]) -> Result<Record, Refused> {
+        Plain::finish(given, dist, status)
+    }
+}
+
+#[test]
+fn who_fills_gaps() {
+    let told = [Calls::of::<Plain>(), Calls::of::<Tuned>(), Calls::of::<Earlier>()].map(|calls| calls.fills_gaps());
+    assert_eq!(told, [true, true, false]);
+}
+
+/// A race on the first grid that was drawn, the last entrant set apart with these values, or not.
+fn race_apart(values: Option<fn(&Drawn) -> Vec<i32>>) {
+    let all = [Calls::of::<Plain>(), Calls::of::<Tuned>(), Calls::of::<Earlier>()];
+    let drawn = &drawn()[0];
+    let case = |values: Vec<i32>| Case { sides: drawn.sides(), allowed: 0, values: values.into() };
+    let apart = values.map(|values| Apart { entrant: 2, filled: case(values(drawn)) });
+    let given = case(drawn.given());
+    let race = contest(&all, &given, &State::blank(&given), begin, apart.as_ref()).times;
+    assert!(race.iter().all(|time| time.is_finite()));
+}
+
+#[test]
+fn set_apart_on_a_grid_with_gaps() {
+    race_apart(Some(Drawn::by_hand));
+}
+
+#[test]
+#[should_panic = "other buffers"]
+fn not_set_apart_on_a_grid_with_gaps() {
+    race_apart(None);
+}
+
+#[test]
+#[should_panic = "other buffers"]
+fn set_apart_with_a_gap_left() {
+    race_apart(Some(Drawn::given));
 }
 
 /// Values of which none, some or all need more than 16 bits; in some grids one is at the edge of a range, or out of it.

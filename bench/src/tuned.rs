@@ -35,6 +35,51 @@ fn rows(sides: Sides, mut row: impl FnMut(usize, bool)) {
     }
 }
 
+/// The label of a missing voxel before it is known whether its gap is enclosed.
+const GAP: u8 = 4;
+
+/// Labels 1 for the measured negative voxels and those of enclosed gaps, 0 for all others; the work list is `work`.
+fn label_negative(sides: Sides, values: &[i32], label: &mut [u8], work: &mut Vec<u32>) {
+    let mut any = 0;
+    for (l, &v) in label.iter_mut().zip(values) {
+        *l = if v == MISSING { GAP } else { u8::from(v < 0) };
+        any |= *l;
+    }
+    if any & GAP == 0 {
+        return;
+    }
+    // no negative voxel is on the border, and a gap that reaches it is open
+    rows(sides, |at, outer| {
+        let row = &mut label[at..at + sides.a];
+        if outer {
+            row.fill(0);
+        } else {
+            (row[0], row[sides.a - 1]) = (0, 0);
+        }
+    });
+    let (a, layer) = (sides.a as isize, (sides.a * sides.b) as isize);
+    let facing = [-layer, -a, -1, 1, a, layer];
+    work.clear();
+    for i in 0..label.len() {
+        if label[i] == GAP && facing.iter().any(|&o| label[i.wrapping_add_signed(o)] == 0) {
+            label[i] = 0;
+            work.push(i as u32);
+        }
+    }
+    while let Some(i) = work.pop() {
+        for o in facing {
+            let j = (i as usize).wrapping_add_signed(o);
+            if label[j] == GAP {
+                label[j] = 0;
+                work.push(j as u32);
+            }
+        }
+    }
+    for l in label {
+        *l = u8::from(*l != 0);
+    }
+}
+
 /// Gives `new` to the voxels of label `old` linked to the seed, none of them on the border; the work list is `work`.
 fn flood(label: &mut [u8], work: &mut Vec<u32>, near: &[isize; 26], seed: usize, old: u8, new: u8) -> usize {
     work.clear();
@@ -93,7 +138,9 @@ fn fill_distances(values: &[i32], steps: &[u8], dist: &mut [i32]) {
     for ((out, &value), &d) in dist.iter_mut().zip(values).zip(steps) {
         let own = (d == 0) | (d == 1) & (value >= 0);
         let far = m + if d == 1 { 0 } else { i32::from(d) };
-        *out = if own { value } else { far };
+        // inside, what is missing is an enclosed gap
+        let near = if value == MISSING { -1 } else { value };
+        *out = if own { near } else { far };
     }
 }
 
@@ -219,11 +266,9 @@ impl Machine for Tuned {
         if !any(values) {
             return Err(4);
         }
-        for (s, &v) in status.iter_mut().zip(values) {
-            *s = u8::from(negative(v));
-        }
         let near = touching(sides);
         let mut work = Vec::with_capacity(n);
+        label_negative(sides, values, status, &mut work);
         let (mut most, mut seed) = (0, 0);
         for i in 0..n {
             if status[i] == 1 {
