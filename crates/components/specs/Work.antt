@@ -1,4 +1,4 @@
--- What the work on a grid may go by, where no check of begin fails, and what the search for S leaves.
+-- What the search for S leaves.
 use mathlib.Core.Path.{_≡_}
 use mathlib.Core.Bool.{cond}
 use mathlib.Core.List.{List}

@@ -6,13 +6,13 @@ use mathlib.Core.List.{List}
 use Prim.Native.Nat.{ℕ, _+_, _-_, _*_, _<_}
 use native.Mathlib.Omega.{arith}
 use native.Mathlib.Nat.{mul-le-mul}
-use lib.Dec.{eqb, ltb}
+use lib.Dec.{eqb}
 use lib.IntN.{ℤ, negsuc}
 use lib.ListN.{length, getD}
-use borrow.Author.Tests.{eq-eqb, eqb-true, lt-ltb, ltb-true}
+use borrow.Author.Tests.{eq-eqb, eqb-true}
 use Rattle.cells.specs.Linked.{Linked, stay, step}
 use Rattle.cells.proofs.Chains.{first-member, last-member, reverse, follow, carry}
-use Rattle.prelude.proofs.Bools.{two, and-true, true-and, not-both}
+use Rattle.prelude.proofs.Bools.{two, not-both}
 use Rattle.prelude.proofs.Lists.{Mem, any-true, true-any}
 use Rattle.prelude.proofs.Ranges.{is-map-range}
 use Rattle.rules.specs.declared.Sides.{Sides}
@@ -23,7 +23,7 @@ use Rattle.rules.specs.Gaps.{missingAt, InGap, Enclosed}
 use Rattle.rules.proofs.Places.{Fit, fit}
 use Rattle.rules.proofs.InsideLeast.{mem-map, map-mem}
 use Rattle.rules.proofs.Neighbours.{face-at-position, position-face}
-use Rattle.rules.proofs.Fill.{filled-is-enclosed, filled-at, length-filled}
+use Rattle.rules.proofs.Fill.{missing-parts, missing-from, filled-is-enclosed, filled-at, length-filled}
 use Rattle.rules.proofs.Topology.Around.{Inner}
 use Rattle.rules.proofs.Topology.Removal.{face-turn, face-taxicab}
 use Rattle.rules.proofs.Topology.Start.{border-inner}
@@ -146,7 +146,7 @@ module _ (s : Sides) (values : List ℤ) (dist status : ℕ) (A : Accepted s val
 
   gap-member : (u : ℕ) → getD L u 0 ≡ 1 → missingAt s values u ≡ true
   gap-member u e =
-      let g = gap-is u e in true-and (ltb u (size s)) (isMissing (valueAt values u)) (lt-ltb u (size s) (g .below)) (g .absent)
+      let g = gap-is u e in missing-from s values u (g .below) (g .absent)
 
   in-gap : {u v : ℕ} → Linked one near u v → InGap s values u v
   in-gap c = carry (λ u. u) (λ u m. gap-member u (is-one u m)) (λ u v m n j. near-face u v (is-one u m) j) c
@@ -166,8 +166,7 @@ module _ (s : Sides) (values : List ℤ) (dist status : ℕ) (A : Accepted s val
       let c = reverse (face-turn s) (in-gap (R .linked)) in
       ⊎-elim
       (λ m.
-      let there = true-and (ltb v (size s)) (isMissing (valueAt values v)) (lt-ltb v (size s) (w .1)) m in
-      let e = gap-one v (w .1) (E .off-border v (step c (w .2) there)) m in
+      let e = gap-one v (w .1) (E .off-border v (step c (w .2) (missing-from s values v (w .1) m))) m in
       let t = w .3 in
       let z : ⊥ = omega arith in z)
       (λ m. go v (w .1) m (getD L v 0) (w .3) (said v (w .1)))
@@ -187,13 +186,13 @@ module _ (s : Sides) (values : List ℤ) (dist status : ℕ) (A : Accepted s val
     not-three u v c f t = none (record { from = u; open-at = open-face u v (is-one u (last-member c)) f t; linked = turned c })
 
     chain : (j : ℕ) → InGap s values k j → Linked one near k j
-    chain j c = follow (λ z. Linked one near k z) (λ u v p f m. next u v p f (and-true (ltb v (size s)) (isMissing (valueAt values v)) m)) c
+    chain j c = follow (λ z. Linked one near k z) (λ u v p f m. next u v p f (missing-parts s values v m)) c
         (stay (eq-eqb (getD L k 0) 1 e))
       where
-        next : (u v : ℕ) → Linked one near k u → shareFace s u v ≡ true → (ltb v (size s) ≡ true) × (isMissing (valueAt values v) ≡ true)
+        next : (u v : ℕ) → Linked one near k u → shareFace s u v ≡ true → (v < size s) × (isMissing (valueAt values v) ≡ true)
             → Linked one near k v
         next u v p f m =
-            let h = ltb-true v (size s) (m .0) in
+            let h = m .0 in
             elim (two (onBorder s v)) [
               | inl b ↦ absurd (not-three u v p f (M .is v h ∙ ap (λ (t : Bool). cond t 3 (kindOf (valueAt values v))) b))
               | inr b ↦ step p (face-near u v (is-one u (last-member p)) f) (eq-eqb (getD L v 0) 1 (gap-one v h b (m .1)))
@@ -237,7 +236,7 @@ module _ (s : Sides) (values : List ℤ) (dist status : ℕ) (A : Accepted s val
         stayed x e q (rim b) = as-given k h (λ E. not-both (onBorder s k) b (E .off-border k (stay (E .missing)))) (A .border k h b)
         stayed x e q (inner b (negative m)) =
             sym (used k h false (not-filled k (λ E. not-both (isMissing (valueAt values k))
-            (and-true (ltb k (size s)) (isMissing (valueAt values k)) (E .missing) .1) (negative-measured (valueAt values k) m)))
+            (missing-parts s values k (E .missing) .1) (negative-measured (valueAt values k) m)))
             ∙ ap (λ (t : Bool). cond {A = ℕ} t 1 0) m)
         stayed x e q (inner b (missing m)) =
             sym (used k h true (filled-is-enclosed s values k .1
@@ -245,7 +244,7 @@ module _ (s : Sides) (values : List ℤ) (dist status : ℕ) (A : Accepted s val
             ∙ unfold measuredNegative isMissing in refl)
         stayed x e q (inner b (other m o)) =
             as-given k h
-            (λ E. not-both (isMissing (valueAt values k)) (and-true (ltb k (size s)) (isMissing (valueAt values k)) (E .missing) .1) o) m
+            (λ E. not-both (isMissing (valueAt values k)) (missing-parts s values k (E .missing) .1) o) m
 
         taken : Taken L l k → Reached (faces (s .a) ab) back L k → settledOf (getD l k 0) ≡ cond (measuredNegative (valueAt (filled s values) k)) 1 0
         taken t R = ap settledOf (t .made) ∙ as-given k h (reached-open k R) (missing-not (valueAt values k) (gap-is k (t .was) .absent))

@@ -13,7 +13,8 @@ use Rattle.rules.specs.Status.{keptByte, pendingByte, woken, rested, isK
 use Rattle.rules.specs.Status.{statusWithout, without, examine, carving, openable}
 use Rattle.rules.specs.Machine.{isInside, outside, farther, unfitCounts, unfitVoxel, unfit, wrongLength, carved, carve, taken, take, toOpen, opened}
 use Rattle.rules.specs.Machine.{openNext, closed, closedAt, finishedOf, finish}
-use Rattle.rules.specs.Cases.{start, carvedTo, ended, caseA, plate, valuesC, caseC, layerD, valuesD, caseD, valuesArc, arc, bar, cube, wall, walled, hollow}
+use Rattle.rules.specs.Cases.{start, carvedTo, ended, caseA, plate, valuesC, caseC, layerD, valuesD, caseD, valuesArc, arc, bar, cube}
+use Rattle.rules.specs.Cases.{wall, walled, hollow}
 use Rattle.rules.specs.Cases.{CaseA, CaseD, Bar, Numbers, LongTunnels, BehindTheFace}
 
 -- ---- all that a case computes with: to unfold `all-rules` is to unfold the rules

@@ -27,6 +27,17 @@ use Rattle.rules.proofs.Inside.{voxels-mem, mem-voxels, isIn-mem, mem-i
 use Rattle.rules.proofs.Fit.{Beginnable, none-stray}
 use Rattle.rules.proofs.Topology.Removal.{face-turn}
 
+-- ---- a missing voxel
+
+module _ (s : Sides) (values : List ℤ) (i : ℕ) where
+  pub missing-parts : missingAt s values i ≡ true → (i < size s) × (isMissing (valueAt values i) ≡ true)
+  missing-parts e =
+      let r = and-true (ltb i (size s)) (isMissing (valueAt values i)) e in
+      (ltb-true i (size s) (r .0), r .1)
+
+  pub missing-from : i < size s → isMissing (valueAt values i) ≡ true → missingAt s values i ≡ true
+  missing-from h m = true-and (ltb i (size s)) (isMissing (valueAt values i)) (lt-ltb i (size s) h) m
+
 -- ---- a group of missing voxels is enclosed exactly if each of its voxels is
 
 module _ (s : Sides) (values : List ℤ) where
@@ -39,12 +50,12 @@ module _ (s : Sides) (values : List ℤ) where
   void-member : (i : ℕ) → Mem i voids → member i ≡ true
   void-member i m =
       let r = filter-mem (λ i. isMissing (valueAt values i)) (voxels s) i m in
-      true-and (ltb i (size s)) (isMissing (valueAt values i)) (lt-ltb i (size s) (voxels-mem s i (r .0))) (r .1)
+      missing-from s values i (voxels-mem s i (r .0)) (r .1)
 
   member-void : (i : ℕ) → member i ≡ true → Mem i voids
   member-void i e =
-      let r = and-true (ltb i (size s)) (isMissing (valueAt values i)) e in
-      mem-filter (λ i. isMissing (valueAt values i)) (voxels s) i (mem-voxels s i (ltb-true i (size s) (r .0))) (r .1)
+      let r = missing-parts s values i e in
+      mem-filter (λ i. isMissing (valueAt values i)) (voxels s) i (mem-voxels s i (r .0)) (r .1)
 
   abbrev all : List (List ℕ)
   all = groups (shareFace s) voids
@@ -72,7 +83,7 @@ module _ (s : Sides) (values : List ℤ) where
         none : isIn gap j ≡ false
         none =
             elim (two (isIn gap j)) [
-              | inl e ↦ not-both (isMissing (valueAt values j)) (and-true (ltb j (size s)) (isMissing (valueAt values j)) (is-missing j (isIn-mem gap j e)) .1) n
+              | inl e ↦ not-both (isMissing (valueAt values j)) (missing-parts s values j (is-missing j (isIn-mem gap j e)) .1) n
               | inr e ↦ e
             ]
 
@@ -96,7 +107,8 @@ module _ (s : Sides) (values : List ℤ) where
                 | inl m ↦ inl m
                 | inr m ↦
                     inr (not-false _
-                    (any-false (λ j. not (measuredNegative (valueAt values j))) (around s gap) (not-true _ (p .1)) n (mem-around j n (gap-whole i j a l) h f m)))
+                    (any-false (λ j. not (measuredNegative (valueAt values j))) (around s gap) (not-true _ (p .1)) n
+                    (mem-around j n (gap-whole i j a l) h f m)))
               ];
         }
 
@@ -107,14 +119,14 @@ module _ (s : Sides) (values : List ℤ) where
         (ap not (false-any (onBorder s) gap (λ j b. E .off-border j (in-gap i j a b))))
         (ap not (false-any (λ j. not (measuredNegative (valueAt values j))) (around s gap) (λ j m. ap not (negative-around j (around-mem j m)))))
       where
-        negative-around : (j : ℕ) → (j < size s) × (isIn gap j ≡ false) × ((n : ℕ) × (Mem n gap) × (shareFace s n j ≡ true)) → measuredNegative (valueAt values j) ≡ true
+        negative-around : (j : ℕ) → (j < size s) × (isIn gap j ≡ false) × ((n : ℕ) × (Mem n gap) × (shareFace s n j ≡ true))
+            → measuredNegative (valueAt values j) ≡ true
         negative-around j r =
             let n = r .2 .0 in
             let l = in-gap i n a (r .2 .1) in
             elim (E .walled n j l (r .0) (r .2 .2)) [
               | inl m ↦
-                  let there = true-and (ltb j (size s)) (isMissing (valueAt values j)) (lt-ltb j (size s) (r .0)) m in
-                  not-both (isIn gap j) (mem-isIn gap j (gap-whole i j a (step l (r .2 .2) there))) (r .1)
+                  not-both (isIn gap j) (mem-isIn gap j (gap-whole i j a (step l (r .2 .2) (missing-from s values j (r .0) m)))) (r .1)
               | inr m ↦ m
             ]
 
@@ -152,7 +164,7 @@ module _ (s : Sides) (values : List ℤ) where
   filled-at i h = getD-map-range (λ i. cond (isFilled s values i) (negsuc 0) (valueAt values i)) missing (size s) i h
 
   pub filled-lt : (i : ℕ) → isFilled s values i ≡ true → i < size s
-  filled-lt i e = ltb-true i (size s) (and-true (ltb i (size s)) (isMissing (valueAt values i)) (filled-enclosed s values i e .missing) .0)
+  filled-lt i e = missing-parts s values i (filled-enclosed s values i e .missing) .0
 
   pub filled-one : (i : ℕ) → isFilled s values i ≡ true → valueAt (filled s values) i ≡ negsuc 0
   filled-one i e = filled-at i (filled-lt i e) ∙ ap (λ (t : Bool). cond t (negsuc 0) (valueAt values i)) e
@@ -177,18 +189,16 @@ module _ (s : Sides) (values : List ℤ) where
   still-missing : (i : ℕ) → missingAt s (filled s values) i ≡ true → (missingAt s values i ≡ true) × (isFilled s values i ≡ false)
   unfolding isMissing
   still-missing i e =
-      let r = and-true (ltb i (size s)) (isMissing (valueAt (filled s values) i)) e in
-      let h = ltb-true i (size s) (r .0) in
+      let r = missing-parts s (filled s values) i e in
       elim (two (isFilled s values i)) [
         | inl f ↦ not-both (isMissing (negsuc 0)) (ap isMissing (sym (filled-one s values i f)) ∙ r .1) refl
-        | inr f ↦ (true-and (ltb i (size s)) (isMissing (valueAt values i)) (r .0) (ap isMissing (sym (filled-other s values i h f)) ∙ r .1), f)
+        | inr f ↦ (missing-from s values i (r .0) (ap isMissing (sym (filled-other s values i (r .0) f)) ∙ r .1), f)
       ]
 
   open-missing : (i : ℕ) → isFilled s values i ≡ false → missingAt s values i ≡ true → missingAt s (filled s values) i ≡ true
   open-missing i f m =
-      let r = and-true (ltb i (size s)) (isMissing (valueAt values i)) m in
-      true-and (ltb i (size s)) (isMissing (valueAt (filled s values) i)) (r .0)
-      (ap isMissing (filled-other s values i (ltb-true i (size s) (r .0)) f) ∙ r .1)
+      let r = missing-parts s values i m in
+      missing-from s (filled s values) i (r .0) (ap isMissing (filled-other s values i (r .0) f) ∙ r .1)
 
   -- a gap is filled whole or not at all
   along : (i j : ℕ) → InGap s values i j → isFilled s values i ≡ false → isFilled s values j ≡ false
@@ -221,7 +231,7 @@ module _ (s : Sides) (values : List ℤ) where
         missing = r .0;
         off-border = λ j l. E .off-border j (same-gap i j (r .1) l);
         walled = λ j n l h f. elim (two (isFilled s values n)) [
-          | inl e ↦ inl (and-true (ltb n (size s)) (isMissing (valueAt values n)) (filled-enclosed s values n e .missing) .1)
+          | inl e ↦ inl (missing-parts s values n (filled-enclosed s values n e .missing) .1)
           | inr e ↦
               let same = filled-other s values n h e in
               ⊎-elim (λ m. inl (ap isMissing (sym same) ∙ m)) (λ m. inr (ap (λ (v : ℤ). measuredNegative v) (sym same) ∙ m))

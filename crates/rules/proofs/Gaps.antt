@@ -5,9 +5,8 @@ use mathlib.Core.Bool.{true}
 use mathlib.Core.List.{List}
 use Prim.Native.Nat.{ℕ}
 use native.Mathlib.Omega.{arith}
-use lib.Dec.{ltb}
 use lib.IntN.{ℤ, pos, negsuc}
-use Rattle.prelude.proofs.Bools.{two, and-true, not-both}
+use Rattle.prelude.proofs.Bools.{two, not-both}
 use Rattle.prelude.proofs.Lists.{none-at}
 use Rattle.prelude.proofs.Ranges.{getD-map-range}
 use Rattle.rules.specs.declared.Sides.{Sides}
@@ -16,7 +15,7 @@ use Rattle.rules.specs.Grid.{size, voxels, missing, valueAt, distanceAt}
 use Rattle.rules.specs.Fill.{isFilled, filled}
 use Rattle.rules.specs.Begin.{isIn, inside, greatestFacing, workedAt, worked, begunOn, begun}
 use Rattle.rules.specs.Gaps.{BegunAsBefore, MeasuredAsBefore, FilledAreKept}
-use Rattle.rules.proofs.Fill.{filled-is-enclosed, filled-lt, filled-one, none-filled}
+use Rattle.rules.proofs.Fill.{missing-parts, filled-is-enclosed, filled-lt, filled-one, none-filled}
 use Rattle.rules.proofs.Demand.{handed, by-begin, demand-is-met}
 
 pub begun-as-before : BegunAsBefore
@@ -28,8 +27,8 @@ measured-as-before s T values n none =
     begun-as-before s T values n
     (λ i. elim (two (isFilled s values i)) [
       | inl e ↦
-          let m = and-true (ltb i (size s)) (isMissing (valueAt values i)) (filled-is-enclosed s values i .0 e .missing) in
-          not-both (isMissing (valueAt values i)) (m .1) (none-at isMissing missing values none i (omega (arith, filled-lt s values i e)))
+          let m = missing-parts s values i (filled-is-enclosed s values i .0 e .missing) in
+          not-both (isMissing (valueAt values i)) (m .1) (none-at isMissing missing values none i (omega (arith, m .0)))
       | inr e ↦ e
     ])
 

@@ -21,7 +21,7 @@ use Rattle.rules.specs.Meaning.{SomeVoxels}
 use Rattle.prelude.proofs.Ranges.{range-mem}
 use Rattle.rules.proofs.Inside.{inside-members}
 use Rattle.rules.proofs.Distance.{facing-eqb, distance-tells, worked-by-distance}
-use Rattle.rules.proofs.Fill.{filled-is-enclosed, filled-one, filled-other}
+use Rattle.rules.proofs.Fill.{missing-parts, filled-is-enclosed, filled-one, filled-other}
 use Rattle.loops.proofs.Below.{map-same, map-ext}
 use Rattle.values.specs.Values.{countedAs, counts, greatestBy, workedTo, workedBy}
 
@@ -89,7 +89,7 @@ module _ (s : Sides) (values : List ℤ) where
   counts-as k h =
       elim (two (isFilled s values k)) [
         | inl e ↦
-            subst₂ Counts (sym (is-mark (valueAt values k) (and-true (ltb k (size s)) (isMissing (valueAt values k)) (filled-is-enclosed s values k .0 e .missing) .1)))
+            subst₂ Counts (sym (is-mark (valueAt values k) (missing-parts s values k (filled-is-enclosed s values k .0 e .missing) .1)))
             (sym (filled-one s values k e)) in-gap
         | inr e ↦ subst (λ (u : ℤ). Counts (valueAt values k) u) (sym (filled-other s values k h e)) (given (valueAt values k))
       ]
