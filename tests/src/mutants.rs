@@ -159,11 +159,9 @@ fn compile(folder: &Path) -> Result<PathBuf, String> {
     Ok(program)
 }
 
-/// The conformance scripts, what is quick first: a mutant is done with at the first file that tells it apart.
+/// The conformance scripts, by kind.
 pub fn given(folder: &Path) -> Result<Vec<(&'static str, Vec<Script>)>, String> {
-    let (last, first): (Vec<&str>, Vec<&str>) = WRITTEN.into_iter().partition(|kind| ["long", "points", "shapes"].contains(kind));
-    let kinds = first.into_iter().chain(SEEDED).chain(last);
-    kinds.map(|kind| read_kind(folder, kind).map(|scripts| (kind, scripts))).collect()
+    WRITTEN.into_iter().chain(SEEDED).map(|kind| read_kind(folder, kind).map(|scripts| (kind, scripts))).collect()
 }
 
 /// A kind of scripts on which a tool's answers are not the wanted ones. Those that begin as its name does are likely to tell, and come first.
