@@ -1,6 +1,7 @@
 -- Rows of a grid: where they lie, the coordinates of their voxels, and what lies on the border.
-use mathlib.Core.Path.{_≡_, sym, ap, ap₂, _∙_}
+use mathlib.Core.Path.{_≡_, sym, ap, ap₂, _∙_, subst}
 use mathlib.Core.Bool.{Bool, true, false, _||_}
+use mathlib.Core.List.{List}
 use Prim.Native.Nat.{ℕ, suc, _+_, _-_, _*_, _/_, _%_, _≤_, _<_}
 use native.Mathlib.Omega.{arith}
 use native.Mathlib.Numerals.{add-one}
@@ -12,7 +13,9 @@ use Rattle.prelude.proofs.Bools.{or-one}
 use Rattle.rules.specs.declared.Sides.{Sides}
 use Rattle.rules.specs.Grid.{Voxel, fitSides, size, voxel, end, onBorder}
 use Rattle.rules.proofs.Places.{fit, voxel-eq}
+use Rattle.loops.specs.InPlace.{Each}
 use Rattle.loops.specs.Rows.{Row}
+use Rattle.loops.proofs.InPlace.{each-join}
 
 module _ (s : Sides) where
   pub row-voxel : (r x : ℕ) → x < s .a → voxel s (s .a * r + x) ≡ record { x = x; y = r % s .b; z = r / s .b }
@@ -52,6 +55,9 @@ module _ (s : Sides) where
         z-in = div-lt-iff-lt-mul b-pos .1 (omega (arith, mul-comm (s .b) (s .c)));
         last = omega (arith, row-in r h);
       }
+
+  pub rows-few : fitSides s ≡ true → s .b * s .c ≤ 4096
+  rows-few e = let F = fit s e in omega (arith, mul-le-mul (F .b-high) (F .c-high))
 
   -- all rows
   pub rows-all : s .a * (s .b * s .c) ≡ size s
@@ -100,3 +106,9 @@ module _ (s : Sides) where
 -- one row more
 pub rows-more : (a r : ℕ) → a * (r + 1) ≡ a * r + a
 rows-more a r = omega (arith, mul-add a r 1, mul-one a)
+
+-- a pass over the rows before this one, and over this one
+pub each-row : {A : Type 0} (d : A) (f : ℕ → A → A) (a r : ℕ) (l l′ l″ : List A) → Each d f 0 (a * r) l l′
+    → Each d f (a * r) (a * r + a) l′ l″ → Each d f 0 (a * (r + 1)) l l″
+each-row d f a r l l′ l″ E F =
+    subst (λ (n : ℕ). Each d f 0 n l l″) (sym (rows-more a r)) (each-join d f 0 (a * r) (a * r + a) l l′ l″ (omega arith) (omega arith) E F)

@@ -2,12 +2,11 @@
 use mathlib.Core.Path.{_≡_, sym, ap, _∙_}
 use Prim.Native.Nat.{ℕ, _*_, _-_, _≤_}
 use native.Mathlib.Omega.{arith}
-use native.Mathlib.Nat.{mul-le-mul, mul-zero}
+use native.Mathlib.Nat.{mul-zero}
 use Rattle.cells.specs.Groups.{any}
-use Rattle.rules.specs.Grid.{range, size}
-use Rattle.rules.proofs.Places.{fit}
+use Rattle.rules.specs.Grid.{range}
 use Rattle.prelude.proofs.Ranges.{any-run-none, scan-join}
-use Rattle.loops.proofs.Rows.{row-of, rows-more, rows-all}
+use Rattle.loops.proofs.Rows.{row-of, rows-more, rows-all, rows-few}
 use Rattle.beginning.specs.Work.{borderNegative}
 use borrow.Author.Needs.{needs}
 use Rattle.beginning.proofs.border_negative.Statement.{statement}
@@ -22,8 +21,7 @@ abbrev μ-loop : tie.MeasureT-loop
 mul-rows : tie.Need-mul-rows Inv-loop μ-loop
 mul-rows c =
     let s = c .before in
-    let F = fit (s .args .sides) (s .pre .sides) in
-    omega (arith, mul-le-mul (F .b-high) (F .c-high))
+    omega (arith, rows-few (s .args .sides) (s .pre .sides))
 
 loop-holds : tie.Need-loop-holds Inv-loop μ-loop
 loop-holds c = let a = c .before .args .sides .a in (omega arith, sym (any-run-none _ _ (a * 0) (mul-zero a)))
@@ -38,8 +36,7 @@ add-row : tie.Need-add-row Inv-loop μ-loop
 add-row c =
     let t = c .before in
     let s = t .before .before .before in
-    let F = fit (s .args .sides) (s .pre .sides) in
-    omega (arith, t .loop-test .taken, mul-le-mul (F .b-high) (F .c-high))
+    omega (arith, t .loop-test .taken, rows-few (s .args .sides) (s .pre .sides))
 
 loop-less : tie.Need-loop-less Inv-loop μ-loop
 loop-less c = search needs

@@ -2,11 +2,10 @@
 use Prim.Native.Nat.{ℕ, _*_, _-_, _≤_}
 use lib.ListN.{length}
 use native.Mathlib.Omega.{arith}
-use native.Mathlib.Nat.{mul-le-mul, mul-zero}
-use Rattle.rules.proofs.Places.{Fit, fit}
+use native.Mathlib.Nat.{mul-zero}
 use mathlib.Core.Path.{sym, subst}
 use Rattle.loops.specs.Rows.{Row}
-use Rattle.loops.proofs.Rows.{row-of}
+use Rattle.loops.proofs.Rows.{row-of, rows-few}
 use Rattle.bounding_box.specs.declared.Bounds.{Bounds}
 use Rattle.bounding_box.specs.Bounds.{Bounded}
 use Rattle.bounding_box.proofs.Bounding.{bounded-none, bounded-more, bounded-all}
@@ -21,7 +20,7 @@ abbrev μ-loop : tie.MeasureT-loop
 μ-loop d sides b₀ rows row₀ b row = rows - row
 
 mul-rows : tie.Need-mul-rows Inv-loop μ-loop
-mul-rows c = let s = c .before .before in let F = fit (s .args .sides) (s .pre .fit) in omega (arith, mul-le-mul (F .b-high) (F .c-high))
+mul-rows c = let s = c .before .before in omega (arith, rows-few (s .args .sides) (s .pre .fit))
 
 loop-holds : tie.Need-loop-holds Inv-loop μ-loop
 loop-holds c =
@@ -40,8 +39,7 @@ add-row : tie.Need-add-row Inv-loop μ-loop
 add-row c =
     let t = c .before in
     let s = t .before .before .before .before in
-    let F = fit (s .args .sides) (s .pre .fit) in
-    omega (arith, t .loop-test .taken, mul-le-mul (F .b-high) (F .c-high))
+    omega (arith, t .loop-test .taken, rows-few (s .args .sides) (s .pre .fit))
 
 loop-less : tie.Need-loop-less Inv-loop μ-loop
 loop-less c = search needs

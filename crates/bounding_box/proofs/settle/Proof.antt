@@ -1,15 +1,14 @@
 -- `settle`: the rows before this one are done.
 use Prim.Native.Nat.{ℕ, _*_, _-_, _≤_}
-use mathlib.Core.Path.{_≡_, refl, sym, ap, _∙_, subst}
+use mathlib.Core.Path.{_≡_, refl, ap, _∙_}
 use native.Mathlib.Omega.{arith}
-use native.Mathlib.Nat.{mul-le-mul, mul-zero}
-use lib.ListN.{length, getD}
+use native.Mathlib.Nat.{mul-zero}
+use lib.ListN.{length}
 use Rattle.rules.specs.Grid.{voxel}
-use Rattle.rules.proofs.Places.{Fit, fit}
 use Rattle.loops.specs.InPlace.{Each}
 use Rattle.loops.specs.Rows.{Row}
-use Rattle.loops.proofs.InPlace.{each-none, each-join, each-all}
-use Rattle.loops.proofs.Rows.{row-of, rows-more, rows-all}
+use Rattle.loops.proofs.InPlace.{each-none, each-all}
+use Rattle.loops.proofs.Rows.{row-of, rows-all, rows-few, each-row}
 use Rattle.bounding_box.specs.Bounds.{statusIn, statusBy}
 use borrow.Author.Needs.{needs}
 use Rattle.bounding_box.proofs.settle.Statement.{statement}
@@ -22,7 +21,7 @@ abbrev μ-loop : tie.MeasureT-loop
 μ-loop status₀ b sides rows row₀ status row = rows - row
 
 mul-rows : tie.Need-mul-rows Inv-loop μ-loop
-mul-rows c = let s = c .before .before in let F = fit (s .args .sides) (s .pre .fit) in omega (arith, mul-le-mul (F .b-high) (F .c-high))
+mul-rows c = let s = c .before .before in omega (arith, rows-few (s .args .sides) (s .pre .fit))
 
 loop-holds : tie.Need-loop-holds Inv-loop μ-loop
 loop-holds c = let a = c .before .before .args in (omega arith, each-none _ _ _ _ _ (omega (arith, mul-zero (a .sides .a))))
@@ -41,8 +40,7 @@ add-row : tie.Need-add-row Inv-loop μ-loop
 add-row c =
     let t = c .before .before .before .before in
     let s = t .before .before .before .before in
-    let F = fit (s .args .sides) (s .pre .fit) in
-    omega (arith, t .loop-test .taken, mul-le-mul (F .b-high) (F .c-high))
+    omega (arith, t .loop-test .taken, rows-few (s .args .sides) (s .pre .fit))
 
 loop-less : tie.Need-loop-less Inv-loop μ-loop
 loop-less c = search needs
@@ -54,10 +52,7 @@ loop-again c =
     let l = t .before in
     let a = l .before .before .before .args in (
       omega (arith, t .loop-test .taken),
-      subst (λ (n : ℕ). Each 0 (λ k d. statusIn (a .b) (voxel (a .sides) k) d) 0 n (a .status .now) (e .settle-row .last .0))
-          (sym (rows-more (a .sides .a) (l .loop .row)))
-          (each-join 0 _ 0 _ _ (a .status .now) (l .loop .status) (e .settle-row .last .0) (omega arith) (omega arith) (l .loop .inv .1)
-          (e .settle-row .ensures)),
+      each-row 0 _ (a .sides .a) (l .loop .row) (a .status .now) (l .loop .status) (e .settle-row .last .0) (l .loop .inv .1) (e .settle-row .ensures),
     )
 
 same-length : tie.Need-same-length Inv-loop μ-loop

@@ -1,15 +1,14 @@
 -- `mark`: the rows before this one are marked.
 use Prim.Native.Nat.{ℕ, _*_, _-_, _≤_}
-use mathlib.Core.Path.{_≡_, sym, ap, _∙_, subst}
+use mathlib.Core.Path.{_≡_, sym, ap, _∙_}
 use native.Mathlib.Omega.{arith}
-use native.Mathlib.Nat.{mul-le-mul, mul-zero}
+use native.Mathlib.Nat.{mul-zero}
 use lib.ListN.{length}
 use borrow.Author.Needs.{needs}
-use Rattle.rules.proofs.Places.{fit}
 use Rattle.loops.specs.InPlace.{Each}
 use Rattle.loops.specs.Rows.{Row}
-use Rattle.loops.proofs.InPlace.{each-none, each-join}
-use Rattle.loops.proofs.Rows.{row-of, rows-more, rows-all}
+use Rattle.loops.proofs.InPlace.{each-none}
+use Rattle.loops.proofs.Rows.{row-of, rows-all, rows-few, each-row}
 use Rattle.gaps.specs.Gaps.{markOf}
 use Rattle.gaps.proofs.mark.Statement.{statement}
 use Rattle.gaps.proofs.mark.Tie as tie
@@ -21,7 +20,7 @@ abbrev μ-loop : tie.MeasureT-loop
 μ-loop label₀ values sides rows row₀ label row = rows - row
 
 mul-rows : tie.Need-mul-rows Inv-loop μ-loop
-mul-rows c = let s = c .before .before in let F = fit (s .args .sides) (s .pre .fit) in omega (arith, mul-le-mul (F .b-high) (F .c-high))
+mul-rows c = let s = c .before .before in omega (arith, rows-few (s .args .sides) (s .pre .fit))
 
 loop-holds : tie.Need-loop-holds Inv-loop μ-loop
 loop-holds c = let a = c .before .before .args in (omega arith, each-none _ _ _ _ _ (omega (arith, mul-zero (a .sides .a))))
@@ -44,8 +43,7 @@ add-row : tie.Need-add-row Inv-loop μ-loop
 add-row c =
     let t = c .before .before .before .before in
     let s = t .before .before .before .before in
-    let F = fit (s .args .sides) (s .pre .fit) in
-    omega (arith, t .loop-test .taken, mul-le-mul (F .b-high) (F .c-high))
+    omega (arith, t .loop-test .taken, rows-few (s .args .sides) (s .pre .fit))
 
 loop-less : tie.Need-loop-less Inv-loop μ-loop
 loop-less c = search needs
@@ -57,10 +55,7 @@ loop-again c =
     let l = t .before in
     let a = l .before .before .before .args in (
       omega (arith, t .loop-test .taken),
-      subst (λ (n : ℕ). Each 0 (λ k d. markOf (a .sides) (a .values .now) k) 0 n (a .label .now) (e .mark-row .last .0))
-          (sym (rows-more (a .sides .a) (l .loop .row)))
-          (each-join 0 _ 0 _ _ (a .label .now) (l .loop .label) (e .mark-row .last .0) (omega arith) (omega arith) (l .loop .inv .1)
-          (e .mark-row .ensures)),
+      each-row 0 _ (a .sides .a) (l .loop .row) (a .label .now) (l .loop .label) (e .mark-row .last .0) (l .loop .inv .1) (e .mark-row .ensures),
     )
 
 same-length : tie.Need-same-length Inv-loop μ-loop
