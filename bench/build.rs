@@ -1,6 +1,6 @@
 //! The archive of another commit, where WATTLERUGBY_BEFORE names its folder: a copy with every name prefixed, so that one program holds both
-//! and times them in the same rounds. WATTLERUGBY_BEFORE_BITS says how many bits a value has in its interface, which it does not tell: 32, or 16
-//! before document 02's CR 5. WATTLERUGBY_SHIFT is for main.rs.
+//! and times them in the same rounds. WATTLERUGBY_BEFORE_BITS says how many bits a value has in its interface, which plain names do not tell: 32, or
+//! 16 before document 02's CR 5. WATTLERUGBY_SHIFT is for main.rs.
 
 use std::path::{Path, PathBuf};
 use std::process::Command;
@@ -16,7 +16,7 @@ fn main() {
     println!("cargo:rerun-if-changed={}", archive.display());
     let out = PathBuf::from(std::env::var("OUT_DIR").expect("cargo names a folder to write to"));
     let names = exported(&archive);
-    let renamed: String = names.iter().map(|name| format!("{name} before_{name}\n")).collect();
+    let renamed: String = names.iter().map(|name| format!("{name} before_{}\n", call(name))).collect();
     let list = out.join("names");
     std::fs::write(&list, renamed).expect("the names can be written");
     run(Command::new("objcopy").arg(format!("--redefine-syms={}", list.display())).arg(&archive).arg(out.join("libbefore.a")));
@@ -29,11 +29,17 @@ fn main() {
         Ok(other) => panic!("WATTLERUGBY_BEFORE_BITS is 16 or 32, not {other}"),
     }
     // the calls that an older archive has not
-    for call in ["points", "write"] {
-        if names.contains(&format!("wattlerugby_{call}")) {
-            println!("cargo:rustc-cfg=before_{call}");
+    for newer in ["points", "write"] {
+        if names.iter().any(|name| call(name) == format!("wattlerugby_{newer}")) {
+            println!("cargo:rustc-cfg=before_{newer}");
         }
     }
+}
+
+/// The call that a symbol is of, where archive.rs declares its form: the plain ones and those of 0.6. A symbol of another form keeps its number,
+/// and is not linked.
+fn call(symbol: &str) -> &str {
+    symbol.strip_suffix("_6").unwrap_or(symbol)
 }
 
 fn exported(archive: &Path) -> Vec<String> {

@@ -18,6 +18,7 @@
  *     wattlerugby_write     values out as a grid file; wattlerugby_written_width and wattlerugby_written_length say how long it is
  *     wattlerugby_local_test   the test by which a voxel may go, on its own
  *     wattlerugby_reason    a refusal number as text
+ *     wattlerugby_version_number   the version of the archive that is linked; WATTLERUGBY_VERSION_NUMBER is the header's
  *
  * THE STANDARD LOOP
  *
@@ -98,15 +99,35 @@
 #define WATTLERUGBY_VERSION_PATCH 0
 #define WATTLERUGBY_VERSION "0.7.0"
 
+/* The version as one number, 7000 for 0.7.0: the later of two versions has the greater one. It may stand in an #if, where it is 0 with
+ * a header that does not have it yet. */
+#define WATTLERUGBY_VERSION_NUMBER \
+    (WATTLERUGBY_VERSION_MAJOR * 1000000u + WATTLERUGBY_VERSION_MINOR * 1000u + WATTLERUGBY_VERSION_PATCH)
+
+/* ---- symbols
+ *
+ * A call that takes or answers something else than it first did has a symbol of its own, which ends in the second number of the version
+ * that changed it last. So where a program makes a call that its header and the archive have in different forms, the linker refuses it and
+ * names that symbol; otherwise the call would run, and read past a buffer. Write the plain names: these lines map them. */
+#define wattlerugby_begin wattlerugby_begin_6
+#define wattlerugby_read wattlerugby_read_6
+#define wattlerugby_read_layer wattlerugby_read_layer_6
+#define wattlerugby_write wattlerugby_write_6
+
 #ifdef __cplusplus
 extern "C" {
 #endif
 
-/* The version of this header, which is that of the archive it was installed with: the archive holds none of its own. */
+/* The version of this header as text. */
 static inline const char *wattlerugby_version(void)
 {
     return WATTLERUGBY_VERSION;
 }
+
+/* The version of the archive that is linked, where WATTLERUGBY_VERSION_NUMBER is the header's. The two may differ where every call that the
+ * program makes has the same form in both. Such a call may still decide otherwise, as begin does since 0.7: a program that relies on that
+ * asks for 7000 or more. Never refused. */
+uint32_t wattlerugby_version_number(void);
 
 /* ---- numbers */
 

@@ -32,13 +32,21 @@
 //! # Ok::<(), wattlerugby::Refusal>(())
 //! ```
 //!
-//! The library is the archive that `rt staticlib capi` writes, for x86-64 Linux: build.rs looks for it in the folder that the variable
-//! `WATTLERUGBY_ARCHIVE` names (as libwattlerugby.a or libcapi.a), otherwise in target/staticlib. `cargo doc` and `cargo check` need none.
-//! Rounding must be to nearest, as it is where nobody changed it.
+//! The library is the archive that `rt staticlib capi` writes: build.rs looks for it in the folder that the variable `WATTLERUGBY_ARCHIVE`
+//! names (as libwattlerugby.a or libcapi.a), otherwise in target/staticlib. `cargo doc` and `cargo check` need none. The archive is for x86-64
+//! Linux, and so is this crate: for any other target it does not compile. An archive of another version, in which a call takes or answers
+//! something else, does not link; [`archive_version`] tells which one is linked. Rounding must be to nearest, as it is where nobody changed
+//! it.
 //!
 //! What a result means is told in docs/RESULT.md, and the rules in docs/RULES.md.
 
 #![warn(missing_docs)]
+
+#[cfg(not(all(target_arch = "x86_64", target_os = "linux", target_pointer_width = "64")))]
+compile_error!(
+    "the proved library is an archive for x86-64 Linux with 64-bit pointers, and links into nothing else; \
+     README.md says what can be done on other machines"
+);
 
 mod grid;
 pub mod raw;
@@ -48,6 +56,32 @@ mod surface;
 pub use grid::Grid;
 pub use refusal::Refusal;
 pub use surface::Points;
+
+/// The version of this crate: major, minor and patch, so that versions compare by `<`.
+pub const VERSION: (u32, u32, u32) =
+    (number(env!("CARGO_PKG_VERSION_MAJOR")), number(env!("CARGO_PKG_VERSION_MINOR")), number(env!("CARGO_PKG_VERSION_PATCH")));
+
+const fn number(digits: &str) -> u32 {
+    match u32::from_str_radix(digits, 10) {
+        Ok(number) => number,
+        Err(_) => panic!("a part of a version is a number"),
+    }
+}
+
+/// The version of the archive that is linked, as it answers itself, where [`VERSION`] is this crate's. The two may differ where every call has
+/// the same form in both.
+///
+/// ```
+/// use wattlerugby::{archive_version, VERSION};
+///
+/// assert_eq!(archive_version(), VERSION);
+/// assert!(archive_version() >= (0, 7, 0)); // since then gaps behind the face count as inside
+/// ```
+pub fn archive_version() -> (u32, u32, u32) {
+    // SAFETY: a number alone crosses.
+    let number = unsafe { raw::wattlerugby_version_number() };
+    (number / 1_000_000, number / 1_000 % 1_000, number % 1_000)
+}
 
 /// The value of a missing range point, which counts as outside, but as inside in a gap behind the face: see [`begin`]. Measured values are
 /// [`LEAST_VALUE`] to [`GREATEST_VALUE`]; negative is inside the body. Any other value is refused with 28.

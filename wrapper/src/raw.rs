@@ -106,7 +106,11 @@ pub struct WriteAnswer {
     pub length: usize,
 }
 
+// The symbols are those that the header maps the names to.
 extern "C" {
+    pub fn wattlerugby_version_number() -> u32;
+
+    #[link_name = "wattlerugby_begin_6"]
     pub fn wattlerugby_begin(
         sides: Sides,
         allowed: u16,
@@ -161,10 +165,13 @@ extern "C" {
         out_len: usize,
     ) -> PointsAnswer;
 
+    #[link_name = "wattlerugby_read_6"]
     pub fn wattlerugby_read(file: *const u8, file_len: usize, values: *mut i32, values_len: usize) -> ReadAnswer;
 
+    #[link_name = "wattlerugby_read_layer_6"]
     pub fn wattlerugby_read_layer(sides: Sides, file: *const u8, file_len: usize, start: usize) -> ReadLayerAnswer;
 
+    #[link_name = "wattlerugby_write_6"]
     pub fn wattlerugby_write(
         sides: Sides,
         allowed: u16,

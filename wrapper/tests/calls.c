@@ -435,11 +435,16 @@ static int finished_bytes(void)
 
 /* ---- numbers: each name with its number and text, then what any other number says */
 
+#if WATTLERUGBY_VERSION_NUMBER < 7000
+#error "the version is a number that the preprocessor compares"
+#endif
+
 #define NUMBER(name) printf("%s %u %s\n", #name, (unsigned)WATTLERUGBY_##name, wattlerugby_reason(WATTLERUGBY_##name))
 
 static void numbers(void)
 {
-    printf("version %s\n", wattlerugby_version());
+    printf("version %s, %u, of the archive %u\n", wattlerugby_version(), (unsigned)WATTLERUGBY_VERSION_NUMBER,
+           (unsigned)wattlerugby_version_number());
     NUMBER(SIDE);
     NUMBER(LENGTH);
     NUMBER(BORDER_NEGATIVE);

@@ -1,20 +1,14 @@
 //! The header against this package's declarations and numbers, and what C programs print over it, the example among them.
 
+mod common;
+
+use common::{archive, root};
 use std::mem::{offset_of, size_of};
-use std::path::{Path, PathBuf};
+use std::path::Path;
 use std::process::Command;
 use wattlerugby::raw::*;
-use wattlerugby::{write, written_length, written_width, Grid, LocalTest, Point, Refusal, Sides};
-use wattlerugby::{GREATEST_VALUE, LEAST_VALUE, LONGEST_FILE, MISSING, NARROW, NARROW_MISSING, WIDE};
-
-fn root() -> PathBuf {
-    Path::new(env!("CARGO_MANIFEST_DIR")).join("..")
-}
-
-fn archive() -> PathBuf {
-    let folder = option_env!("WATTLERUGBY_ARCHIVE").map_or_else(|| root().join("target/staticlib"), PathBuf::from);
-    folder.join("libcapi.a")
-}
+use wattlerugby::{archive_version, write, written_length, written_width, Grid, LocalTest, Point, Refusal, Sides};
+use wattlerugby::{GREATEST_VALUE, LEAST_VALUE, LONGEST_FILE, MISSING, NARROW, NARROW_MISSING, VERSION, WIDE};
 
 /// Compiles a C file against the header and the archive, with every warning an error, and gives what it prints when run.
 fn printed(compiler: &str, language: &[&str], source: &Path, name: &str, arguments: &[&str]) -> String {
@@ -94,9 +88,12 @@ fn calls() {
     }
 }
 
+/// The version has five places: Cargo.toml here and that of wattle, the header in numbers and as text, and the archive, which answers it.
 #[test]
 fn version_and_numbers() {
-    let mut ours = vec![concat!("version ", env!("CARGO_PKG_VERSION")).to_string()];
+    let (version, (major, minor, patch)) = (env!("CARGO_PKG_VERSION"), VERSION);
+    let number = major * 1_000_000 + minor * 1_000 + patch;
+    let mut ours = vec![format!("version {version}, {number}, of the archive {number}")];
     ours.extend(Refusal::ALL.iter().map(|r| format!("{} {} {}", r.name().expect("it has a name"), r.0, r.reason())));
     ours.push(format!("255 {}", Refusal(255).reason()));
     ours.push(format!("longest file {LONGEST_FILE}"));
@@ -106,9 +103,9 @@ fn version_and_numbers() {
     for header in printed_by_each(&source, "numbers", &["numbers"]) {
         assert_eq!(header.lines().collect::<Vec<_>>(), ours);
     }
-    let text = std::fs::read_to_string(root().join("include/wattlerugby.h")).expect("the header can be read");
-    let number = |part: &str| text.lines().find_map(|l| l.strip_prefix(&format!("#define WATTLERUGBY_VERSION_{part} "))).expect("a number");
-    assert_eq!([number("MAJOR"), number("MINOR"), number("PATCH")].join("."), env!("CARGO_PKG_VERSION"));
+    assert_eq!(archive_version(), VERSION);
+    let wattle = std::fs::read_to_string(root().join("tools/wattle/Cargo.toml")).expect("Cargo.toml of wattle can be read");
+    assert!(wattle.contains(&format!("\nversion = \"{version}\"\n")), "wattle has the version {version} too");
 }
 
 /// The header's lengths, the wrapper's and those that write answers: lent so many bytes it writes, and one less is refused.

@@ -1,11 +1,10 @@
 //! docs/RULES.md and docs/RESULT.md cite definitions as `File.name`: each is in the specs, and each rule cites one.
 
+mod common;
+
+use common::root;
 use std::collections::HashMap;
 use std::path::{Path, PathBuf};
-
-fn root() -> PathBuf {
-    Path::new(env!("CARGO_MANIFEST_DIR")).join("..")
-}
 
 fn text(path: &Path) -> String {
     std::fs::read_to_string(path).unwrap_or_else(|e| panic!("{} cannot be read: {e}", path.display()))

@@ -1,16 +1,13 @@
 //! samples/ is what its generator writes, and the program carve prints the lines that stand there.
 
+mod common;
 #[allow(dead_code)]
 #[path = "../examples/samples.rs"]
 mod generator;
 
-use std::path::{Path, PathBuf};
+use common::root;
 use std::process::{Command, Stdio};
 use wattlerugby::{patch, read, read_layer, Grid, Refusal, GONE, MISSING, WIDE};
-
-fn root() -> PathBuf {
-    Path::new(env!("CARGO_MANIFEST_DIR")).join("..")
-}
 
 #[test]
 fn files_and_pictures() {

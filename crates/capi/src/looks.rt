@@ -57,21 +57,21 @@ pub extern "C" fn wattlerugby_points(
 }
 
 #[no_mangle]
-pub extern "C" fn wattlerugby_read(file: &[u8], values: &mut [i32]) -> ReadReply
+pub extern "C" fn wattlerugby_read_6(file: &[u8], values: &mut [i32]) -> ReadReply
     ensures { λ r. ⌜ returned r (now (values .exit)) ≡ writtenOut readStruct (read (now (file .entry)) (now (values .entry))) ⌝ }
 {
     look_replies::read_answer(gridfile::read(file, values))
 }
 
 #[no_mangle]
-pub extern "C" fn wattlerugby_read_layer(sides: Sides, file: &[u8], start: usize) -> LayerReply
+pub extern "C" fn wattlerugby_read_layer_6(sides: Sides, file: &[u8], start: usize) -> LayerReply
     ensures { λ r. ⌜ r ≡ layerStruct (readLayer sides (now (file .entry)) start) ⌝ }
 {
     look_replies::layer_answer(layers::layer(sides, file, start))
 }
 
 #[no_mangle]
-pub extern "C" fn wattlerugby_write(
+pub extern "C" fn wattlerugby_write_6(
     sides: Sides,
     allowed: u16,
     values: &[i32],

@@ -15,7 +15,7 @@ use replies::TakeAnswer;
 use rules::Sides;
 
 #[no_mangle]
-pub extern "C" fn wattlerugby_begin(
+pub extern "C" fn wattlerugby_begin_6(
     sides: Sides,
     allowed: u16,
     values: &[i32],
