@@ -1,9 +1,10 @@
 -- Values that are neither in the range nor the missing mark: those of a record by index, and none among values of two bytes.
-use mathlib.Core.Path.{_≡_, refl, ap, _∙_}
-use mathlib.Core.Bool.{Bool, false, _||_}
-use mathlib.Core.List.{List, [], _∷_, map}
+use mathlib.Core.Path.{_≡_, ap, _∙_}
+use mathlib.Core.Bool.{false}
+use mathlib.Core.List.{List}
 use Prim.Native.Nat.{ℕ, _*_}
 use Rattle.prelude.specs.Lists.{any, range}
+use Rattle.prelude.proofs.Lists.{any-map}
 use Rattle.prelude.proofs.Ranges.{below-none}
 use Rattle.rules.specs.declared.Sides.{Sides}
 use Rattle.rules.specs.Value.{stray}
@@ -11,11 +12,6 @@ use Rattle.words.specs.Words.{valueOf, valuesOf}
 use Rattle.words.proofs.Widening.{widening}
 use Rattle.layers.specs.declared.LayerSpan.{LayerSpan}
 use Rattle.layers.specs.Layer.{area, stretch, valuesIn}
-
-any-map : {A : Type 0} (p : A → Bool) (f : ℕ → A) (xs : List ℕ) → any p (map f xs) ≡ any (λ x. p (f x)) xs
-unfolding any
-any-map p f [] = refl
-any-map p f (x ∷ xs) = ap (λ (t : Bool). p (f x) || t) (any-map p f xs)
 
 pub strays-by-index :
     (width count : ℕ) (bytes : List ℕ) → any stray (valuesOf width count bytes) ≡ any (λ k. stray (valueOf width bytes (width * k))) (range 0 count)

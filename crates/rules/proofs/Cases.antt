@@ -8,14 +8,17 @@ use Rattle.rules.specs.Grid.{neighbourhoodOf, neighbourhood}
 use Rattle.rules.specs.Checks.{unless}
 use Rattle.rules.specs.Fill.{gaps, around, enclosed, enclosedGaps, inSome, filledIn, filled}
 use Rattle.rules.specs.Begin.{least, greatest, isIn, negatives, larger, largest, inside, facing, greatestFacing, distance, workedAt, worked, inBox}
-use Rattle.rules.specs.Begin.{exposed, statusAt, startStatus, begunOn, begun, begin}
+use Rattle.rules.specs.Begin.{exposed, waitsFirst, statusAt, startStatus, begunOn, begun, begin}
+use Rattle.rules.specs.Marks.{pinnedMark, hurriedMark, marked, strayMark, wrongMarks, noMarks}
 use Rattle.rules.specs.Status.{keptByte, pendingByte, woken, rested, isKept, isPending, anyPending, testAt, prefer, foremost, firstOf, removable}
-use Rattle.rules.specs.Status.{statusWithout, without, examine, carving, openable}
-use Rattle.rules.specs.Machine.{isInside, outside, farther, unfitCounts, unfitVoxel, unfit, wrongLength, carved, carve, taken, take, toOpen, opened}
-use Rattle.rules.specs.Machine.{openNext, closed, closedAt, finishedOf, finish}
-use Rattle.rules.specs.Cases.{start, carvedTo, ended, caseA, plate, valuesC, caseC, layerD, valuesD, caseD, valuesArc, arc, bar, cube}
-use Rattle.rules.specs.Cases.{wall, walled, hollow}
-use Rattle.rules.specs.Cases.{CaseA, CaseD, Bar, Numbers, LongTunnels, BehindTheFace}
+use Rattle.rules.specs.Status.{statusWithout, without, goes, examine, carving, openable}
+use Rattle.rules.specs.Machine.{isInside, outside, mayGo, farther, sooner, unfitCounts, unfitVoxel, unfit, wrongLength, carved, carve, taken, take}
+use Rattle.rules.specs.Machine.{toOpen, opened, openNext, closed, closedAt, finishedOf, finish}
+use Rattle.rules.specs.Cases.{startWith, carvedWith, start, carvedTo, plainCarve, plainTake, plainOpen, ended}
+use Rattle.rules.specs.Cases.{caseA, plate, valuesC, caseC, layerD, valuesD, caseD, valuesArc, arc, bar, cube}
+use Rattle.rules.specs.Cases.{wall, walled, hollow, markAt, markD, begunD, deep, rod, barOf, markBar}
+use Rattle.rules.specs.Cases.{CaseA, CaseD, Bar, Numbers, LongTunnels, BehindTheFace, Pinned, Hurried, PinnedAndHurried}
+use Rattle.rules.specs.Cases.{HurriedDeep, MarksLater, MarkNumbers}
 
 -- ---- all that a case computes with: to unfold `all-rules` is to unfold the rules
 
@@ -36,23 +39,27 @@ unfolding gaps around enclosed enclosedGaps inSome filledIn filled
 fill-rules = tt
 
 unfoldable begin-rules : Unit {0}
-unfolding measuring-rules fill-rules distance workedAt worked inBox exposed statusAt startStatus begunOn begun begin
+unfolding measuring-rules fill-rules distance workedAt worked inBox exposed waitsFirst statusAt startStatus begunOn begun begin
 begin-rules = tt
 
 unfoldable status-rules : Unit {0}
-unfolding keptByte pendingByte woken rested isKept isPending anyPending testAt statusWithout without examine carving openable
+unfolding keptByte pendingByte woken rested isKept isPending anyPending testAt statusWithout without goes examine carving openable
 status-rules = tt
 
 unfoldable order-rules : Unit {0}
-unfolding prefer foremost firstOf removable isInside outside farther
+unfolding prefer foremost firstOf removable isInside outside mayGo farther sooner pinnedMark hurriedMark marked strayMark wrongMarks noMarks
 order-rules = tt
 
 unfoldable call-rules : Unit {0}
 unfolding unfitCounts unfitVoxel unfit wrongLength carved carve taken take toOpen opened openNext closed closedAt finishedOf finish
 call-rules = tt
 
+unfoldable case-calls : Unit {0}
+unfolding startWith carvedWith start carvedTo plainCarve plainTake plainOpen ended
+case-calls = tt
+
 unfoldable worked-cases : Unit {0}
-unfolding start carvedTo ended caseA plate valuesC caseC layerD valuesD caseD valuesArc arc bar cube wall walled hollow
+unfolding case-calls caseA plate valuesC caseC layerD valuesD caseD valuesArc arc bar cube wall walled hollow markAt markD begunD deep rod barOf markBar
 worked-cases = tt
 
 unfoldable pub all-rules : Unit {0}
@@ -104,3 +111,80 @@ long-tunnels =
 pub behind-the-face : BehindTheFace
 unfolding all-rules
 behind-the-face = record { inside = (refl, refl); held = refl; open-face = (refl, refl); two-gaps = (refl, refl); border = refl }
+
+pub pinned-case : Pinned
+unfolding all-rules
+pinned-case =
+    record {
+      begun = refl;
+      carved = refl;
+      taken-beside = refl;
+      on-s = refl;
+      outside-the-box = refl;
+      on-the-border = refl;
+    }
+
+pub hurried-case : Hurried
+unfolding all-rules
+hurried-case =
+    record {
+      begun = refl;
+      on-s = refl;
+      gone = refl;
+      first = refl;
+      before-farther = refl;
+      farther-of-two = refl;
+      earlier-of-equals = refl;
+    }
+
+pub both-case : PinnedAndHurried
+unfolding all-rules
+both-case =
+    record {
+      begun = refl;
+      first = refl;
+      examined = refl;
+      removed = refl;
+      taken-beside = refl;
+    }
+
+pub hurried-deep : HurriedDeep
+unfolding all-rules
+hurried-deep =
+    record {
+      plain = refl;
+      hurried = refl;
+      later = refl;
+    }
+
+pub marks-later : MarksLater
+unfolding all-rules
+marks-later =
+    record {
+      still-pending = refl;
+      pinned-later = refl;
+      taken-off = refl;
+      opened-beside = refl;
+      hurry-unseen = refl;
+      all-pinned = refl;
+    }
+
+pub mark-numbers : MarkNumbers
+unfolding all-rules
+mark-numbers =
+    record {
+      gone-first = refl;
+      inside-first = refl;
+      not-taken = refl;
+      before-test = refl;
+      side-first = refl;
+      length = refl;
+      length-first = refl;
+      unfit-first = refl;
+      stray = refl;
+      finished-after = refl;
+      begun-length = refl;
+      value-first = refl;
+      border-after = refl;
+      none-after = refl;
+    }

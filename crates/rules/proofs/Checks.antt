@@ -49,6 +49,10 @@ all-hold (c ∷ cs) h e =
     go true u n e rest = no-zero (c .number) n e
     go false u n e rest = (u, rest e)
 
+-- a call's number is 0
+pub held-none : (cs : List Check) (n : ℕ) → n ≡ firstFailing cs → numbered cs ≡ true → n ≡ 0 → AllHold cs
+held-none cs n e h z = all-hold cs h (sym e ∙ z)
+
 pub hold-none : (cs : List Check) → AllHold cs → firstFailing cs ≡ 0
 unfolding firstFailing
 hold-none [] h = refl

@@ -22,9 +22,10 @@ use Rattle.rules.specs.Checks.{_when_, AllHold}
 use Rattle.rules.specs.Meaning.{negative}
 use Rattle.rules.specs.Begin.{beginChecks}
 use Rattle.rules.specs.Status.{statusOf, isKept, anyPending, testAt}
-use Rattle.rules.specs.Machine.{State, isInside, unfitCounts, unfitVoxel, unfit, wrongLength, stateChecks, workingChecks, finishedChecks, voxelChecks}
-use Rattle.rules.specs.Machine.{takeChecks, quietChecks, openingChecks, openChecks, finishChecks}
-use Rattle.rules.specs.Fit.{Lent, Known, FitVoxels, FitState, Working, Ended, Takeable, Quiet, Openable}
+use Rattle.rules.specs.Marks.{marked, strayMark, wrongMarks}
+use Rattle.rules.specs.Machine.{State, isInside, mayGo, unfitCounts, unfitVoxel, unfit, wrongLength, stateChecks, workingChecks, markedChecks}
+use Rattle.rules.specs.Machine.{finishedChecks, voxelChecks, takeChecks, quietChecks, openingChecks, openChecks, finishChecks}
+use Rattle.rules.specs.Fit.{Lent, Known, FitVoxels, FitState, Working, Marking, Ended, Takeable, Quiet, Openable}
 use Rattle.prelude.proofs.Ranges.{any-below, none-below, below-none}
 use Rattle.rules.proofs.Boxes.{checked-border}
 use Rattle.rules.proofs.Checks.{hold-append}
@@ -39,14 +40,15 @@ pub record Beginnable (s : Sides) (values : List ℤ) : Type 0 where
   pub some : ℕ
   pub some-negative : negative s values some ≡ true
 
-pub beginnable : (s : Sides) (values dist : List ℤ) (status : List ℕ) → AllHold (beginChecks s values dist status) → Beginnable s values
+pub beginnable : (s : Sides) (values : List ℤ) (marks : List ℕ) (dist : List ℤ) (status : List ℕ) → AllHold (beginChecks s values marks dist status)
+    → Beginnable s values
 unfolding voxels
-beginnable s values dist status h =
-    let v = any-below (λ i. measuredNegative (valueAt values i)) (size s) (not-false _ (h .1 .1 .1 .1 .0)) in
+beginnable s values marks dist status h =
+    let v = any-below (λ i. measuredNegative (valueAt values i)) (size s) (not-false _ (h .1 .1 .1 .1 .1 .0)) in
     record {
       sides = not-false (fitSides s) (h .0);
       known = h .1 .1 .0;
-      border = checked-border s values (h .1 .1 .1 .0);
+      border = checked-border s values (h .1 .1 .1 .1 .0);
       some = v .0;
       some-negative = true-and (ltb (v .0) (size s)) (measuredNegative (valueAt values (v .0))) (lt-ltb (v .0) (size s) (v .1)) (v .2);
     }
@@ -148,26 +150,39 @@ module _ (g : State) where
   pub ended : AllHold (finishedChecks g) → Ended g
   ended h = let p = hold-append (stateChecks g) (9 when not (r .finished) ∷ []) h in record { fit = fit-state (p .0); finished = not-false _ (p .1 .0) }
 
-  pub takeable : (i : ℕ) → AllHold (takeChecks i g) → Takeable i g
-  takeable i h =
-      let p = hold-append (workingChecks g) (voxelChecks i g) h in
+  pub marking : (marks : List ℕ) → AllHold (markedChecks marks g) → Marking marks g
+  unfolding wrongMarks
+  marking marks h =
+      let l = or-false (wrongLength g) (wrongMarks (r .sides) marks) (h .1 .0) in
+      record {
+        working = record { fit = fit-state (h .0, (l .0, (h .1 .1 .0, tt))); unfinished = h .1 .1 .1 .1 .0 };
+        lent = eqb-true _ _ (not-false _ (l .1));
+        known = h .1 .1 .1 .0;
+      }
+
+  pub takeable : (marks : List ℕ) (i : ℕ) → AllHold (takeChecks marks i g) → Takeable marks i g
+  takeable marks i h =
+      let p = hold-append (markedChecks marks g) (voxelChecks (marked marks) i g) h in
       let v = p .1 in
       record {
-        working = working (p .0);
+        marking = marking marks (p .0);
         below = leb-false n i (v .0);
         kept = not-false _ (v .1 .0);
         outer = v .1 .1 .0;
-        passing = not-false _ (v .1 .1 .1 .0);
+        unpinned = v .1 .1 .1 .0;
+        passing = not-false _ (v .1 .1 .1 .1 .0);
       }
 
   pub quiet : AllHold (finishChecks g) → Quiet g
   quiet h = let p = hold-append (workingChecks g) (quietChecks g) h in record { working = working (p .0); quiet = p .1 .0 }
 
-  pub openable : AllHold (openChecks g) → Openable g
-  openable h =
-      let p = hold-append (workingChecks g) (quietChecks g ++ openingChecks g) h in
+  pub openable : (marks : List ℕ) → AllHold (openChecks marks g) → Openable marks g
+  openable marks h =
+      let p = hold-append (markedChecks marks g) (quietChecks g ++ openingChecks (mayGo (marked marks) (g .dist)) g) h in
+      let m = marking marks (p .0) in
       record {
-        quiet = record { working = working (p .0); quiet = p .1 .0 };
+        marking = m;
+        quiet = record { working = m .working; quiet = p .1 .0 };
         left = eqb-false _ _ (p .1 .1 .0);
         found = p .1 .1 .1 .0;
       }
@@ -206,5 +221,17 @@ state-fits g fit =
               (below-none _ (size s) (fit-voxel s (g .dist) (g .status) (fit .voxels))),
           tt,
         ),
+      ),
+    )
+
+-- and, with marks of its size that are known, 29 and 8 too
+pub marking-holds : (marks : List ℕ) (g : State) → Marking marks g → AllHold (markedChecks marks g)
+unfolding wrongMarks
+marking-holds marks g w =
+    let h = state-fits g (w .working .fit) in (
+      h .0,
+      (
+        ap₂ _||_ (h .1 .0) (ap not (eq-eqb _ _ (w .lent))),
+        (h .1 .1 .0, (w .known, (w .working .unfinished, tt))),
       ),
     )

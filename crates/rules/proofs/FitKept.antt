@@ -18,8 +18,9 @@ use Rattle.prelude.proofs.Ranges.{getD-map-range, length-map-range}
 use Rattle.rules.specs.declared.Sides.{Sides}
 use Rattle.rules.specs.Grid.{size, voxels, onBorder, touch, isNegative}
 use Rattle.rules.specs.Status.{Progress, statusOf, keptByte, pendingByte, woken, rested, isKept, isPending, removable, testAt, statusWithout, without}
-use Rattle.rules.specs.Status.{firstOf, examinedAs, examine, counted, carving}
-use Rattle.rules.specs.Machine.{isInside, outside}
+use Rattle.rules.specs.Status.{firstOf, goes, examinedAs, examine, counted, carving}
+use Rattle.rules.specs.Marks.{Marked}
+use Rattle.rules.specs.Machine.{isInside, outside, mayGo}
 use Rattle.rules.specs.Choice.{Order}
 use Rattle.rules.specs.Fit.{Lent, Known, FitVoxels}
 use Rattle.rules.proofs.Foremost.{first-foremost}
@@ -63,12 +64,13 @@ inside-below dist i e =
       | no n ↦ not-both (isInside dist i) e (ap isNegative (List·getD-eq-default dist (pos 0) (let h : length dist ≤ i = omega arith in h)))
     ]
 
-module _ (s : Sides) (dist : List ℤ) (status : List ℕ) (fit : FitVoxels s dist status) where
-  -- a voxel that may go is not inside, and one inside is not pending
-  outer : (i : ℕ) → outside dist i ≡ true → isInside dist i ≡ false
-  unfolding outside
-  outer i e = not-true (isInside dist i) e
+-- nor may it go
+pub inside-stays : (m : Marked) (dist : List ℤ) (i : ℕ) → isInside dist i ≡ true → mayGo m dist i ≡ false
+unfolding mayGo outside
+inside-stays m dist i e = ap (λ (t : Bool). not t && not (m .pinned i)) e
 
+module _ (s : Sides) (dist : List ℤ) (status : List ℕ) (fit : FitVoxels s dist status) where
+  -- a voxel inside is not pending
   inside-waits : (i : ℕ) → isInside dist i ≡ true → isPending status i ≡ false
   unfolding isPending pendingByte
   inside-waits i e = ap pendingByte (fit .inner i e)
@@ -86,52 +88,49 @@ module _ (s : Sides) (dist : List ℤ) (status : List ℕ) (fit : FitVoxels s di
   unfolding isKept keptByte
   kept-inner i h e = elim (two (onBorder s i)) [ inl b ↦ not-both (isKept status i) e (ap keptByte (fit .border i h b)) | inr b ↦ b ]
 
-  -- ---- without a voxel that may go
+  -- ---- without a voxel that may go, where none inside may
 
-  module _ (i : ℕ) (free : outside dist i ≡ true) where
+  module _ (free : ℕ → Bool) (inside-stays : (j : ℕ) → isInside dist j ≡ true → free j ≡ false) (i : ℕ) (may : free i ≡ true) where
     abbrev after : List ℕ
-    after = without s (outside dist) status i
+    after = without s free status i
 
     length-after : length after ≡ size s
     unfolding without voxels
-    length-after = length-map-range (statusWithout s (outside dist) status i) (size s)
+    length-after = length-map-range (statusWithout s free status i) (size s)
 
-    at-after : (j : ℕ) → j < size s → statusOf after j ≡ statusWithout s (outside dist) status i j
+    at-after : (j : ℕ) → j < size s → statusOf after j ≡ statusWithout s free status i j
     unfolding without voxels
-    at-after j h = getD-map-range (statusWithout s (outside dist) status i) 0 (size s) j h
+    at-after j h = getD-map-range (statusWithout s free status i) 0 (size s) j h
 
     beyond-after : (j : ℕ) → size s ≤ j → statusOf after j ≡ 0
     beyond-after j h = List·getD-eq-default after 0 (omega (arith, length-after))
 
-    known-without : (j : ℕ) → Known (statusWithout s (outside dist) status i j)
+    known-without : (j : ℕ) → Known (statusWithout s free status i j)
     unfolding statusWithout isKept
-    known-without j = go (eqb j i) (removable (outside dist) status j && touch s i j) refl
+    known-without j = go (eqb j i) (removable free status j && touch s i j) refl
       where
-        go : (e t : Bool) → (removable (outside dist) status j && touch s i j) ≡ t → Known (cond e 0 (cond t (woken (statusOf status j)) (statusOf status j)))
+        go : (e t : Bool) → (removable free status j && touch s i j) ≡ t → Known (cond e 0 (cond t (woken (statusOf status j)) (statusOf status j)))
         go true t h = inl refl
         go false true h =
-            let r = and-true (removable (outside dist) status j) (touch s i j) h .0 in
-            inr (inr (known-woken (statusOf status j) (fit .known j) (and-true (isKept status j) (outside dist j) (unfold removable in r) .0)))
+            let r = and-true (removable free status j) (touch s i j) h .0 in
+            inr (inr (known-woken (statusOf status j) (fit .known j) (and-true (isKept status j) (free j) (unfold removable in r) .0)))
         go false false h = fit .known j
 
-    border-without : (j : ℕ) → j < size s → onBorder s j ≡ true → statusWithout s (outside dist) status i j ≡ 0
+    border-without : (j : ℕ) → j < size s → onBorder s j ≡ true → statusWithout s free status i j ≡ 0
     unfolding statusWithout removable isKept keptByte
     border-without j h b = go (eqb j i) (keptByte (statusOf status j)) (ap keptByte (fit .border j h b))
       where
-        go : (e k : Bool) → k ≡ false → cond e 0 (cond ((k && outside dist j) && touch s i j) (woken (statusOf status j)) (statusOf status j)) ≡ 0
+        go : (e k : Bool) → k ≡ false → cond e 0 (cond ((k && free j) && touch s i j) (woken (statusOf status j)) (statusOf status j)) ≡ 0
         go true k q = refl
         go false true q = not-both true refl q
         go false false q = fit .border j h b
 
-    inner-without : (j : ℕ) → isInside dist j ≡ true → statusWithout s (outside dist) status i j ≡ 1
+    inner-without : (j : ℕ) → isInside dist j ≡ true → statusWithout s free status i j ≡ 1
     unfolding statusWithout removable
-    inner-without j e = go (eqb j i) (isKept status j) (outside dist j) refl (held j e)
+    inner-without j e = go (eqb j i) (isKept status j) (free j) refl (inside-stays j e)
       where
-        held : (j : ℕ) → isInside dist j ≡ true → outside dist j ≡ false
-        held j e = unfold outside in ap not e
-
         go : (q k f : Bool) → eqb j i ≡ q → f ≡ false → cond q 0 (cond ((k && f) && touch s i j) (woken (statusOf status j)) (statusOf status j)) ≡ 1
-        go true k f q h = not-both (isInside dist j) e (ap (isInside dist) (eqb-true j i q) ∙ outer i free)
+        go true k f q h = not-both (free j) (ap free (eqb-true j i q) ∙ may) (inside-stays j e)
         go false k true q h = not-both true refl h
         go false true false q h = fit .inner j e
         go false false false q h = fit .inner j e
@@ -185,33 +184,34 @@ module _ (s : Sides) (dist : List ℤ) (status : List ℕ) (fit : FitVoxels s di
           ];
         }
 
-    pub fit-examined : FitVoxels s dist (examine s (outside dist) status i)
-    unfolding examine
-    fit-examined = go (passes (testAt s status i))
+    pub fit-examined : (free : ℕ → Bool) → ((j : ℕ) → isInside dist j ≡ true → free j ≡ false) → FitVoxels s dist (examine s free status i)
+    unfolding examine goes
+    fit-examined free inside-stays = go (passes (testAt s status i) && free i) refl
       where
-        go : (t : Bool) → FitVoxels s dist (examinedAs t s (outside dist) status i)
-        go true = fit-without i (pending-outside i waits)
-        go false = fit-stayed
+        go : (t : Bool) → (passes (testAt s status i) && free i) ≡ t → FitVoxels s dist (examinedAs t s free status i)
+        go true e = fit-without free inside-stays i (and-true (passes (testAt s status i)) (free i) e .1)
+        go false e = fit-stayed
 
 -- ---- a run of examinations, in any order
 
-module _ (s : Sides) (dist : List ℤ) (ahead : ℕ → ℕ → Bool) (order : Order ahead) where
-  pub fit-carving : (limit : ℕ) (status : List ℕ) → FitVoxels s dist status → FitVoxels s dist (carving s (outside dist) ahead limit status .status)
+module _ (s : Sides) (dist : List ℤ) (free : ℕ → Bool) (inside-stays : (j : ℕ) → isInside dist j ≡ true → free j ≡ false)
+    (ahead : ℕ → ℕ → Bool) (order : Order ahead) where
+  pub fit-carving : (limit : ℕ) (status : List ℕ) → FitVoxels s dist status → FitVoxels s dist (carving s free ahead limit status .status)
   unfolding carving
   fit-carving zero status fit = fit
-  fit-carving (suc limit) status fit = go (firstOf s ahead (isPending status)) refl (λ i. fit-carving limit (examine s (outside dist) status i))
+  fit-carving (suc limit) status fit = go (firstOf s ahead (isPending status)) refl (λ i. fit-carving limit (examine s free status i))
     where
       next : Option ℕ → Progress
       next o = elim o [
         | none ↦ record { examined = 0; removed = 0; status = status }
-        | some i ↦ counted (passes (testAt s status i)) (carving s (outside dist) ahead limit (examine s (outside dist) status i))
+        | some i ↦ counted (goes s free status i) (carving s free ahead limit (examine s free status i))
       ]
 
       go : (o : Option ℕ) → firstOf s ahead (isPending status) ≡ o
-          → ((i : ℕ) → let after = examine s (outside dist) status i in
-          FitVoxels s dist after → FitVoxels s dist (carving s (outside dist) ahead limit after .status))
+          → ((i : ℕ) → let after = examine s free status i in
+          FitVoxels s dist after → FitVoxels s dist (carving s free ahead limit after .status))
           → FitVoxels s dist (next o .status)
       go none e rest = fit
       go (some i) e rest =
           let first = first-foremost s ahead order (isPending status) i e in
-          rest i (fit-examined s dist status fit i (first .below) (first .chosen))
+          rest i (fit-examined s dist status fit i (first .below) (first .chosen) free inside-stays)

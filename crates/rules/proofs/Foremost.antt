@@ -1,7 +1,7 @@
 -- The first voxel of those that a test finds: the choice of `firstOf`, and no other.
 use mathlib.Core.Path.{_≡_, refl, ap, sym, _∙_, subst}
 use mathlib.Core.Logic.{inl, inr}
-use mathlib.Core.Bool.{Bool, true, false, cond, true≢false}
+use mathlib.Core.Bool.{Bool, true, false, not, cond, _&&_, _||_, true≢false}
 use mathlib.Core.List.{List, [], _∷_}
 use mathlib.Core.Option.{Option, none, some}
 use Prim.Native.Nat.{ℕ, zero, suc, _<_}
@@ -16,9 +16,10 @@ use Rattle.prelude.proofs.Lists.{Mem, here, there, mem-cons, filter-mem, mem-fi
 use Rattle.cells.proofs.Groups.{mem-none}
 use Rattle.rules.specs.declared.Sides.{Sides}
 use Rattle.rules.specs.Grid.{size, range, voxels, distanceAt}
-use Rattle.rules.specs.Status.{prefer, foremost, firstOf}
-use Rattle.rules.specs.Machine.{farther}
-use Rattle.rules.specs.Choice.{Order, Foremost, FartherIsOrder, FirstIsForemost, NoneIsFirst}
+use Rattle.rules.specs.Status.{isPending, prefer, foremost, firstOf}
+use Rattle.rules.specs.Marks.{Marked}
+use Rattle.rules.specs.Machine.{farther, sooner}
+use Rattle.rules.specs.Choice.{Order, Foremost, FartherIsOrder, SoonerIsOrder, FirstIsForemost, NoneIsFirst, HurriedFirst}
 use Rattle.prelude.proofs.Ranges.{range-mem, mem-range}
 
 -- ---- the order of distances
@@ -56,6 +57,44 @@ module _ (dist : List ℤ) where
 
 pub farther-order : FartherIsOrder
 farther-order dist = record { self = farther-self dist; turn = farther-turn dist; behind = farther-not dist }
+
+-- ---- some before all others, and among equals by another order: h and k say who is one of them, f whether the first is ahead by the other order
+
+abbrev before : (h k f : Bool) → Bool
+before h k f = cond h (not k || f) (not k && f)
+
+before-self : (h f : Bool) → f ≡ false → before h h f ≡ false
+before-self true f e = e
+before-self false f e = e
+
+before-turn : (h k f b : Bool) → (f ≡ true → b ≡ false) → before h k f ≡ true → before k h b ≡ false
+before-turn true true f b t e = t e
+before-turn true false f b t e = refl
+before-turn false true f b t e = absurd (true≢false (sym e))
+before-turn false false f b t e = t e
+
+before-not : (h k l f g c : Bool) → (f ≡ false → g ≡ false → c ≡ false) → before h k f ≡ false → before k l g ≡ false → before h l c ≡ false
+before-not true true true f g c t e q = t e q
+before-not true true false f g c t e q = absurd (true≢false q)
+before-not true false l f g c t e q = absurd (true≢false e)
+before-not false k true f g c t e q = refl
+before-not false true false f g c t e q = absurd (true≢false q)
+before-not false false false f g c t e q = t e q
+
+before-first : (h k f : Bool) → before k h f ≡ false → k ≡ true → h ≡ true
+before-first true k f e q = refl
+before-first false true f e q = absurd (true≢false e)
+before-first false false f e q = q
+
+pub sooner-order : SoonerIsOrder
+unfolding sooner
+sooner-order m dist =
+    record {
+      self = λ i. before-self (m .hurried i) (farther dist i i) (farther-self dist i);
+      turn = λ i j. before-turn (m .hurried i) (m .hurried j) (farther dist i j) (farther dist j i) (farther-turn dist i j);
+      behind = λ i j k.
+          before-not (m .hurried i) (m .hurried j) (m .hurried k) (farther dist i j) (farther dist j k) (farther dist i k) (farther-not dist i j k);
+    }
 
 -- ---- lists whose numbers rise
 
@@ -208,3 +247,9 @@ none-first-any s ahead p h = ap (foremost ahead) (nothing (filter p (voxels s)) 
 
 pub none-is-first : NoneIsFirst
 none-is-first s ahead p = (first-none s ahead p, none-first-any s ahead p)
+
+pub hurried-first : HurriedFirst
+unfolding sooner
+hurried-first s m dist status i e j h p q =
+    before-first (m .hurried i) (m .hurried j) (farther dist j i)
+    (first-foremost s (sooner m dist) (sooner-order m dist) (isPending status) i e .farthest j h p) q

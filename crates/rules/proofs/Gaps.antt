@@ -13,6 +13,7 @@ use Rattle.rules.specs.declared.Sides.{Sides}
 use Rattle.rules.specs.Value.{isMissing}
 use Rattle.rules.specs.Grid.{size, voxels, missing, valueAt, distanceAt}
 use Rattle.rules.specs.Fill.{isFilled, filled}
+use Rattle.rules.specs.Marks.{Marked, marked}
 use Rattle.rules.specs.Begin.{isIn, inside, greatestFacing, workedAt, worked, begunOn, begun}
 use Rattle.rules.specs.Gaps.{BegunAsBefore, MeasuredAsBefore, FilledAreKept}
 use Rattle.rules.proofs.Fill.{missing-parts, filled-is-enclosed, filled-lt, filled-one, none-filled}
@@ -20,11 +21,11 @@ use Rattle.rules.proofs.Demand.{handed, by-begin, demand-is-met}
 
 pub begun-as-before : BegunAsBefore
 unfolding begun
-begun-as-before s T values n none = ap (begunOn s T) (none-filled s values n none)
+begun-as-before s T values m n none = ap (λ (used : List ℤ). begunOn s T used m) (none-filled s values n none)
 
 pub measured-as-before : MeasuredAsBefore
-measured-as-before s T values n none =
-    begun-as-before s T values n
+measured-as-before s T values m n none =
+    begun-as-before s T values m n
     (λ i. elim (two (isFilled s values i)) [
       | inl e ↦
           let m = missing-parts s values i (filled-is-enclosed s values i .0 e .missing) in
@@ -33,19 +34,19 @@ measured-as-before s T values n none =
     ])
 
 -- a filled voxel of S keeps its value, which is -1
-module _ (s : Sides) (values : List ℤ) (i : ℕ) (f : isFilled s values i ≡ true) (m : isIn (inside s (filled s values)) i ≡ true) where
+module _ (s : Sides) (values : List ℤ) (i : ℕ) (f : isFilled s values i ≡ true) (in-S : isIn (inside s (filled s values)) i ≡ true) where
   abbrev used : List ℤ
   used = filled s values
 
-  filled-worked : (T : ℕ) → distanceAt (handed s T used .dist) i ≡ negsuc 0
+  filled-worked : (T : ℕ) (m : Marked) → distanceAt (handed s T used m .dist) i ≡ negsuc 0
   unfolding worked voxels workedAt
-  filled-worked T =
+  filled-worked T m =
       getD-map-range (workedAt s used (inside s used) (greatestFacing s used (inside s used))) (pos 0) (size s) i (filled-lt s values i f)
-      ∙ rw m (filled-one s values i f)
+      ∙ rw in-S (filled-one s values i f)
 
 pub filled-are-kept : FilledAreKept
-filled-are-kept s T values dist status r e i f m =
+filled-are-kept s T values marks dist status r e i f m =
     record {
-      worked = by-begin (λ g. distanceAt (g .dist) i ≡ negsuc 0) s T values dist status (λ a. filled-worked s values i f m T) r e;
-      kept = λ calls. demand-is-met s T values dist status r e calls .inside-kept i m;
+      worked = by-begin (λ g. distanceAt (g .dist) i ≡ negsuc 0) s T values marks dist status (λ a. filled-worked s values i f m T (marked marks)) r e;
+      kept = λ calls. demand-is-met s T values marks dist status r e calls .inside-kept i m;
     }

@@ -12,8 +12,14 @@ pub mod Topology
 pub mod Neighbours
 pub mod Fill
 pub mod Demand
+pub mod Pinned
+pub mod Unmarked
 pub mod Gaps
 pub mod NeverUnfit
 pub mod LongRange
+pub mod Slices
+pub mod Border
+pub mod Fifteen
+pub mod Corollaries
 pub mod Cases
 pub mod Wrong

@@ -19,7 +19,9 @@ use Rattle.rules.specs.Answer.{untouched}
 use Rattle.rules.specs.Fill.{filled}
 use Rattle.rules.specs.Begin.{least, greatest, isIn, inside, facing, greatestFacing, distance, workedAt, worked}
 use Rattle.rules.specs.Status.{isKept}
-use Rattle.rules.specs.Machine.{State, after, lentTo, workingChecks, takeChecks, openChecks, finishChecks, carved, carve, taken, take, toOpen}
+use Rattle.rules.specs.Marks.{Marked, marked}
+use Rattle.rules.specs.Machine.{State, after, lentTo, mayGo, sooner, markedChecks, takeChecks, openChecks, finishChecks, carved, carve, taken}
+use Rattle.rules.specs.Machine.{take, toOpen}
 use Rattle.rules.specs.Machine.{theVoxel, opened, openNext, closed, closedAt, finishedOf, finish}
 use Rattle.rules.specs.Demand.{Call, carveUpTo, takeAt, openOne, finishIt, call, run}
 use Rattle.rules.specs.LongRange.{farthest, WithinRange, StaysWithinRange}
@@ -105,9 +107,9 @@ module _ (s : Sides) (values : List ℤ) (accepted : Beginnable s values) where
       go false true false e f = omega (arith, M-high, steps-few i)
       go false false false e f = omega (arith, M-high, steps-few i)
 
-  begun-near : (T : ℕ) → WithinRange (handed s T values)
+  begun-near : (T : ℕ) (m : Marked) → WithinRange (handed s T values m)
   unfolding worked voxels
-  begun-near T = mapped-near (size s) (workedAt s values S M) worked-near
+  begun-near T m = mapped-near (size s) (workedAt s values S M) worked-near
 
 -- ---- what the calls leave
 
@@ -128,12 +130,17 @@ module _ (g : State) (near : WithinRange g) where
 
   call-near : (c : Call) → WithinRange (call c g .end)
   unfolding call carve carved take taken openNext opened finish
-  call-near (carveUpTo limit) =
-      by-checks (untouched (lentTo g)) (carved limit g) (λ o. WithinRange (after (λ r. r .next) g o)) (workingChecks g) (λ n. near) (λ h. near)
-  call-near (takeAt i) =
-      by-checks (untouched (lentTo g)) (taken i g) (λ o. WithinRange (after (λ r. r .next) g o)) (takeChecks i g) (λ n. near) (λ h. near)
-  call-near openOne =
-      by-checks (untouched (lentTo g)) (opened (theVoxel (toOpen g)) g) (λ o. WithinRange (after (λ r. r .next) g o)) (openChecks g) (λ n. near) (λ h. near)
+  call-near (carveUpTo marks limit) =
+      let m = marked marks in
+      by-checks (untouched (lentTo g)) (carved (mayGo m (g .dist)) (sooner m (g .dist)) limit g) (λ o. WithinRange (after (λ r. r .next) g o))
+      (markedChecks marks g) (λ n. near) (λ h. near)
+  call-near (takeAt marks i) =
+      by-checks (untouched (lentTo g)) (taken (mayGo (marked marks) (g .dist)) i g) (λ o. WithinRange (after (λ r. r .next) g o))
+      (takeChecks marks i g) (λ n. near) (λ h. near)
+  call-near (openOne marks) =
+      let free = mayGo (marked marks) (g .dist) in
+      by-checks (untouched (lentTo g)) (opened free (theVoxel (toOpen free g)) g) (λ o. WithinRange (after (λ r. r .next) g o))
+      (openChecks marks g) (λ n. near) (λ h. near)
   call-near finishIt =
       by-checks (untouched (lentTo g)) (finishedOf g) (λ o. WithinRange (after (λ r. r) g o)) (finishChecks g) (λ n. near) (λ h. finished-near)
 
@@ -143,6 +150,6 @@ run-near [] g near = near
 run-near (c ∷ cs) g near = run-near cs (call c g .end) (call-near g near c)
 
 pub stays-within-range : StaysWithinRange
-stays-within-range s T values dist status r e calls =
-    by-begin (λ g. WithinRange (run calls g .end)) s T values dist status
-    (λ accepted. let used = filled s values in run-near calls (handed s T used) (begun-near s used accepted T)) r e
+stays-within-range s T values marks dist status r e calls =
+    by-begin (λ g. WithinRange (run calls g .end)) s T values marks dist status
+    (λ accepted. let used = filled s values in run-near calls (handed s T used (marked marks)) (begun-near s used accepted T (marked marks))) r e

@@ -1,21 +1,25 @@
 -- The two ways to say neighbour are one.
-use mathlib.Core.Path.{_≡_, refl, ap, sym, _∙_, subst}
+use mathlib.Core.Path.{_≡_, refl, ap, ap₂, sym, _∙_, subst}
+use mathlib.Core.Logic.{inl}
 use mathlib.Core.Bool.{Bool, true, false, not, _&&_, true≢false}
-use Prim.Native.Nat.{ℕ, _-_, _<_}
+use Prim.Native.Nat.{ℕ, suc, _+_, _-_, _≤_, _<_}
+use native.Mathlib.Nat.{zero-mod}
 use native.Mathlib.Omega.{arith}
 use lib.Dec.{eqb}
 use borrow.Author.Tests.{eqb-true, eq-eqb}
 use Rattle.cells.specs.Groups.{any}
-use Rattle.prelude.proofs.Bools.{not-true}
+use Rattle.prelude.proofs.Bools.{not-true, true-or}
 use Rattle.prelude.proofs.Lists.{Mem, any-true, true-any}
 use Rattle.prelude.proofs.Ranges.{mem-range}
 use Rattle.closed_sets.proofs.EveryBlock.{all-in}
 use Rattle.rules.specs.declared.Sides.{Sides}
-use Rattle.rules.specs.Grid.{Voxel, index, voxel, size, range, gap, touch, apart, taxicab, shareFace, neighbour, neighbourhood, facePositions}
+use Rattle.rules.specs.Grid.{Voxel, index, voxel, size, range, end, onBorder, gap, touch, apart, taxicab, shareFace}
+use Rattle.rules.specs.Grid.{neighbour, neighbourhood, facePositions}
 use Rattle.rules.specs.Begin.{exposed}
 use Rattle.rules.specs.Neighbours as told
 use Rattle.rules.specs.Neighbours.{TouchIsBlock, ExposedIsFace}
 use Rattle.rules.proofs.Places.{fit, index-lt, index-voxel, voxel-index}
+use Rattle.rules.proofs.Distance.{voxel-inside}
 use Rattle.rules.proofs.Topology.Around.{Close, touch-close, close-touch, At, at-same, close-at, Inner, neighbour-at, neighbourhood-at}
 use Rattle.rules.proofs.Topology.Removal.{away, apart-at, face-at, face-taxicab}
 use Rattle.rules.proofs.Topology.Start.{border-inner}
@@ -128,3 +132,29 @@ touch-is-block s i j h l = (touch-position s i h j, position-touch s i h j)
 
 pub exposed-is-face : ExposedIsFace
 exposed-is-face s kept i h = (exposed-face s i h kept, face-exposed s i h kept)
+
+pub face-touch : (s : Sides) (i j : ℕ) → shareFace s i j ≡ true → touch s i j ≡ true
+unfolding shareFace taxicab
+face-touch s i j f = close-touch s i j (close-taxicab (voxel s i) (voxel s j) (eqb-true (apart (voxel s i) (voxel s j)) 1 f))
+
+-- ---- along x, down to the border: the voxel before one that has any shares a face with it
+
+pub border-zero : (s : Sides) → onBorder s 0 ≡ true
+unfolding onBorder voxel
+border-zero s = true-or (end (s .a) (voxel s 0 .x)) _ (inl (true-or (eqb (voxel s 0 .x) 0) _ (inl (eq-eqb (voxel s 0 .x) 0 (zero-mod (s .a))))))
+
+pub beside : (s : Sides) (j : ℕ) → suc j < size s → 1 ≤ voxel s (suc j) .x → shareFace s (suc j) j ≡ true
+unfolding shareFace taxicab apart index
+beside s j h low =
+    let u = voxel s (suc j) in
+    let g = voxel-inside s (suc j) h in
+    let v : Voxel = record { x = u .x - 1; y = u .y; z = u .z } in
+    let e : index s v ≡ j = omega (arith, index-voxel s (suc j) (omega (arith, g .x-in)) (omega (arith, g .y-in))) in
+    let w : voxel s j ≡ v = ap (voxel s) (sym e) ∙ voxel-index s v (omega (arith, g .x-in)) (g .y-in) in
+    ap (λ (w : Voxel). eqb (apart u w) 1) w ∙ eq-eqb (apart u v) 1 (ap₂ _+_ (ap₂ _+_ (one (u .x) low) (none (u .y))) (none (u .z)))
+  where
+    one : (x : ℕ) → 1 ≤ x → gap x (x - 1) ≡ 1
+    one x h = unfold gap in omega arith
+
+    none : (x : ℕ) → gap x x ≡ 0
+    none x = unfold gap in omega arith

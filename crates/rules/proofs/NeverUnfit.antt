@@ -21,24 +21,25 @@ use Rattle.rules.specs.Grid.{size, range, voxel, voxels, onBorder, neigh
 use Rattle.rules.specs.Checks.{_when_, AllHold}
 use Rattle.rules.specs.Answer.{Outcome, Buffers, untouched, Carving}
 use Rattle.rules.specs.Fill.{filled}
-use Rattle.rules.specs.Begin.{exposed, isIn, inside, inBox, greatestFacing, workedAt, worked, statusAt, startStatus, newRecord}
+use Rattle.rules.specs.Begin.{exposed, isIn, inside, inBox, greatestFacing, workedAt, worked, waitsFirst, statusAt, startStatus, newRecord}
 use Rattle.rules.specs.Meaning.{found}
 use Rattle.rules.specs.Status.{Progress, statusOf, keptByte, pendingByte, isKept, isPending, anyPending, testAt, removable, openable, carving}
-use Rattle.rules.specs.Machine.{State, after, lentTo, isInside, outside, farther, count, stateChecks, workingChecks, takeChecks, openChecks}
+use Rattle.rules.specs.Marks.{Marked, marked, strayMark}
+use Rattle.rules.specs.Machine.{State, after, lentTo, isInside, outside, mayGo, farther, sooner, count, stateChecks, markedChecks, takeChecks, openChecks}
 use Rattle.rules.specs.Machine.{finishChecks, carved, carve, taken, take, toOpen, isNone, theVoxel, opened, openNext, closed, closedAt, asFinished}
 use Rattle.rules.specs.Machine.{finishedOf, finish}
-use Rattle.rules.specs.Fit.{Lent, Known, FitVoxels, FitState, Working, Takeable, Quiet, Openable}
-use Rattle.rules.specs.Demand.{Call, carveUpTo, takeAt, openOne, finishIt, call, run, NeverUnfit, CarveEnds}
-use Rattle.rules.proofs.Checks.{by-checks, append-hold, unless-held}
-use Rattle.rules.proofs.Foremost.{farther-order, first-foremost}
+use Rattle.rules.specs.Fit.{Lent, Known, FitVoxels, FitState, Working, Marking, Takeable, Quiet, Openable}
+use Rattle.rules.specs.Demand.{Call, carveUpTo, takeAt, openOne, finishIt, AllLend, call, run, NeverUnfit, CarveEnds}
+use Rattle.rules.proofs.Checks.{by-checks, unless-held}
+use Rattle.rules.proofs.Foremost.{farther-order, sooner-order, first-foremost}
 use Rattle.rules.proofs.Fit as checked
-use Rattle.rules.proofs.Fit.{Beginnable, state-fits}
-use Rattle.rules.proofs.FitKept.{known-kept, known-settled, inside-below, fit-without, fit-carving}
+use Rattle.rules.proofs.Fit.{Beginnable, state-fits, marking-holds}
+use Rattle.rules.proofs.FitKept.{known-kept, known-settled, inside-below, inside-stays, fit-without, fit-carving}
 use Rattle.rules.proofs.Topology.Count.{found-all, found-omit}
 use Rattle.rules.proofs.Topology.Around.{Inner}
 use Rattle.rules.proofs.Topology.Steps.{Tally, Sound}
-use Rattle.rules.proofs.Topology.Calls.{tallyOf, Good, call-keeps, run-keeps, carving-ends}
-use Rattle.rules.proofs.Demand.{handed, by-begin, begun-good, begun-inside}
+use Rattle.rules.proofs.Topology.Calls.{tallyOf, Good, Held, call-keeps, may-go-is, carving-ends}
+use Rattle.rules.proofs.Demand.{all-held, held-all, handed, by-begin, begun-good, begun-keeps, begun-inside}
 
 -- what the calls keep besides: the bytes are fit, openings are allowed and removals too, and each opening moves the Euler number by 8 at most
 record Fair (g : State) : Type 0 where
@@ -56,27 +57,32 @@ module _ (g : State) (fair : Fair g) where
   same-euler : natAbs (g .rec .euler +ℤ pos 0) ≤ 1 + 8 * (g .rec .openings + 0)
   same-euler = omega (arith, fair .euler, ap natAbs (+ℤ-idr (g .rec .euler)))
 
-  fair-carve : (limit : ℕ) → Fair (call (carveUpTo limit) g .end)
+  fair-carve : (marks : List ℕ) (limit : ℕ) → Fair (call (carveUpTo marks limit) g .end)
   unfolding call carve carved
-  fair-carve limit =
-      by-checks (untouched (lentTo g)) (carved limit g) (λ o. Fair (after (λ r. r .next) g o)) (workingChecks g) (λ n. fair)
+  fair-carve marks limit =
+      let m = marked marks in
+      let free = mayGo m (g .dist) in
+      let ahead = sooner m (g .dist) in
+      by-checks (untouched (lentTo g)) (carved free ahead limit g) (λ o. Fair (after (λ r. r .next) g o)) (markedChecks marks g) (λ n. fair)
       (λ h. record {
-        voxels = fit-carving s (g .dist) (farther (g .dist)) (farther-order (g .dist)) limit (g .status) (fair .voxels);
+        voxels = fit-carving s (g .dist) free (inside-stays m (g .dist)) ahead (sooner-order m (g .dist)) limit (g .status) (fair .voxels);
         openings = omega (arith, fair .openings);
         removals = omega (arith, fair .removals);
         euler = same-euler;
       })
 
-  without-free : (i : ℕ) → isInside (g .dist) i ≡ false → outside (g .dist) i ≡ true
-  unfolding outside
-  without-free i e = ap not e
+  outer-free : (m : Marked) (i : ℕ) → isInside (g .dist) i ≡ false → m .pinned i ≡ false → mayGo m (g .dist) i ≡ true
+  unfolding mayGo outside
+  outer-free m i e f = ap₂ (λ (p q : Bool). not p && not q) e f
 
-  fair-take : (i : ℕ) → Fair (call (takeAt i) g .end)
+  fair-take : (marks : List ℕ) (i : ℕ) → Fair (call (takeAt marks i) g .end)
   unfolding call take taken
-  fair-take i =
-      by-checks (untouched (lentTo g)) (taken i g) (λ o. Fair (after (λ r. r .next) g o)) (takeChecks i g) (λ n. fair)
-      (λ h. let t = checked.takeable g i h in record {
-        voxels = fit-without s (g .dist) (g .status) (fair .voxels) i (without-free i (t .outer));
+  fair-take marks i =
+      let m = marked marks in
+      let free = mayGo m (g .dist) in
+      by-checks (untouched (lentTo g)) (taken free i g) (λ o. Fair (after (λ r. r .next) g o)) (takeChecks marks i g) (λ n. fair)
+      (λ h. let t = checked.takeable g marks i h in record {
+        voxels = fit-without s (g .dist) (g .status) (fair .voxels) free (inside-stays m (g .dist)) i (outer-free m i (t .outer) (t .unpinned));
         openings = omega (arith, fair .openings);
         removals = omega (arith, fair .removals);
         euler = same-euler;
@@ -90,22 +96,25 @@ module _ (g : State) (fair : Fair g) where
       let d = difference-size (test kept .k) (test kept .m) 8 (k-few kept) (omega arith) in
       omega (arith, fair .euler, sum-size (g .rec .euler) (pos (test kept .k) -ℤ pos (test kept .m)))
 
-  fair-open : Fair (call openOne g .end)
+  fair-open : (marks : List ℕ) → Fair (call (openOne marks) g .end)
   unfolding call openNext
-  fair-open =
-      by-checks (untouched (lentTo g)) (opened (theVoxel (toOpen g)) g) (λ o. Fair (after (λ r. r .next) g o)) (openChecks g) (λ n. fair)
-      (λ h. through (checked.openable g h) (toOpen g) refl)
+  fair-open marks =
+      by-checks (untouched (lentTo g)) (opened free (theVoxel (toOpen free g)) g) (λ o. Fair (after (λ r. r .next) g o)) (openChecks marks g) (λ n. fair)
+      (λ h. through (checked.openable g marks h) (toOpen free g) refl)
     where
-      through : Openable g → (o : Option ℕ) → toOpen g ≡ o → Fair (after (λ r. r .next) g (opened (theVoxel o) g))
+      free : ℕ → Bool
+      free = mayGo (marked marks) (g .dist)
+
+      through : Openable marks g → (o : Option ℕ) → toOpen free g ≡ o → Fair (after (λ r. r .next) g (opened free (theVoxel o) g))
       through w none e = absurd (true≢false (ap isNone (sym e) ∙ w .found))
       through w (some i) e =
           unfold opened in
-          let first = first-foremost s (farther (g .dist)) (farther-order (g .dist)) (openable s (outside (g .dist)) (g .status)) i (unfold toOpen in e) in
-          let o = and-true (removable (outside (g .dist)) (g .status) i) (exposed s (isKept (g .status)) i) (unfold openable in first .chosen) in
-          let r = and-true (isKept (g .status) i) (outside (g .dist) i) (unfold removable in o .0) in
+          let first = first-foremost s (farther (g .dist)) (farther-order (g .dist)) (openable s free (g .status)) i (unfold toOpen in e) in
+          let o = and-true (removable free (g .status) i) (exposed s (isKept (g .status)) i) (unfold openable in first .chosen) in
+          let r = and-true (isKept (g .status) i) (free i) (unfold removable in o .0) in
           let left = w .left in
           record {
-            voxels = fit-without s (g .dist) (g .status) (fair .voxels) i (r .1);
+            voxels = fit-without s (g .dist) (g .status) (fair .voxels) free (inside-stays (marked marks) (g .dist)) i (r .1);
             openings = omega (arith, fair .openings);
             removals = omega (arith, fair .removals);
             euler = opened-euler i;
@@ -155,9 +164,9 @@ module _ (g : State) (fair : Fair g) where
       })
 
 fair-call : (c : Call) (g : State) → Fair g → Fair (call c g .end)
-fair-call (carveUpTo limit) g fair = fair-carve g fair limit
-fair-call (takeAt i) g fair = fair-take g fair i
-fair-call openOne g fair = fair-open g fair
+fair-call (carveUpTo marks limit) g fair = fair-carve g fair marks limit
+fair-call (takeAt marks i) g fair = fair-take g fair marks i
+fair-call (openOne marks) g fair = fair-open g fair marks
 fair-call finishIt g fair = fair-finish g fair
 
 -- ---- any list of calls
@@ -167,11 +176,12 @@ module _ (S held : ℕ → Bool) (total : ℕ) where
     good : Good S held total g
     fair : Fair g
 
-  run-both : (cs : List Call) (g : State) → Both g → Both (run cs g .end)
+  run-both : (cs : List Call) (g : State) → AllLend (Held S held total) g cs → Both g → Both (run cs g .end)
   unfolding run
-  run-both [] g b = b
-  run-both (c ∷ cs) g b =
-      run-both cs (call c g .end) (record { good = call-keeps S held total c g (b .good) .good; fair = fair-call c g (b .fair) })
+  run-both [] g within b = b
+  run-both (c ∷ cs) g within b =
+      run-both cs (call c g .end) (within .1)
+      (record { good = call-keeps S held total c g (within .0) (b .good) .good; fair = fair-call c g (b .fair) })
 
   -- S has a voxel, and the body at the start no more than the grid
   both-fit : (g : State) → Both g → total ≤ size (g .rec .sides) → (i : ℕ) → S i ≡ true → FitState g
@@ -189,7 +199,7 @@ module _ (S held : ℕ → Bool) (total : ℕ) where
 
 -- ---- a grid that begin accepts
 
-inner-border : (s : Sides) (i : ℕ) → Inner s (voxel s i) → onBorder s i ≡ false
+pub inner-border : (s : Sides) (i : ℕ) → Inner s (voxel s i) → onBorder s i ≡ false
 unfolding onBorder
 inner-border s i u = ap₂ _||_ (off (u .x-low) (u .x-high)) (ap₂ _||_ (off (u .y-low) (u .y-high)) (off (u .z-low) (u .z-high)))
   where
@@ -218,12 +228,12 @@ module _ (s : Sides) (S held : ℕ → Bool) (total : ℕ) (dist : List ℤ) (st
         inner = λ i e. let k = kept-inside i e in known-settled (statusOf status i) (known i) (k .0) (k .1);
       }
 
-start-known : (s : Sides) (S : List ℕ) (kept : ℕ → Bool) (i : ℕ) → Known (statusOf (startStatus s S kept) i)
+start-known : (s : Sides) (m : Marked) (S : List ℕ) (kept : ℕ → Bool) (i : ℕ) → Known (statusOf (startStatus s m S kept) i)
 unfolding startStatus voxels statusAt
-start-known s S kept i =
+start-known s m S kept i =
     elim (decLt i (size s)) [
-      | yes h ↦ subst Known (sym (getD-map-range (statusAt s S kept) 0 (size s) i h)) (byte (kept i) (not (isIn S i) && exposed s kept i))
-      | no n ↦ inl (List·getD-eq-default (map (statusAt s S kept) (range 0 (size s))) 0 (omega (arith, length-map-range (statusAt s S kept) (size s))))
+      | yes h ↦ subst Known (sym (getD-map-range (statusAt s m S kept) 0 (size s) i h)) (byte (kept i) (not (isIn S i) && waitsFirst s m kept i))
+      | no n ↦ inl (List·getD-eq-default (map (statusAt s m S kept) (range 0 (size s))) 0 (omega (arith, length-map-range (statusAt s m S kept) (size s))))
     ]
   where
     byte : (t u : Bool) → Known (cond t (cond u 3 1) 0)
@@ -231,73 +241,93 @@ start-known s S kept i =
     byte true false = inr (inl refl)
     byte false u = inl refl
 
-module _ (s : Sides) (T : ℕ) (values : List ℤ) (accepted : Beginnable s values) (calls : List Call) where
+-- a carve whose checks hold
+pub is-carved : (marks : List ℕ) (limit : ℕ) (g : State) → Marking marks g
+    → let m = marked marks in carve marks limit g ≡ carved (mayGo m (g .dist)) (sooner m (g .dist)) limit g
+unfolding carve
+is-carved marks limit g w =
+    let m = marked marks in
+    unless-held (untouched (lentTo g)) (carved (mayGo m (g .dist)) (sooner m (g .dist)) limit g) (markedChecks marks g) (marking-holds marks g w)
+
+module _ (s : Sides) (T : ℕ) (values : List ℤ) (marks : List ℕ) (accepted : Beginnable s values) (calls : List Call) where
   abbrev S : List ℕ
   S = inside s values
 
   abbrev total : ℕ
   total = found s (inBox s S)
 
-  abbrev start-end : State
-  start-end = run calls (handed s T values) .end
+  abbrev first-state : State
+  first-state = handed s T values (marked marks)
 
-  good-begun : Good (isIn S) (λ j. false) total (handed s T values)
-  good-begun = begun-good s values accepted T
+  abbrev start-end : State
+  start-end = run calls first-state .end
+
+  good-begun : Good (isIn S) all-held total first-state
+  good-begun = begun-good s values accepted T marks
 
   length-worked : length (worked s values S) ≡ size s
   unfolding worked voxels
   length-worked = length-map-range (workedAt s values S (greatestFacing s values S)) (size s)
 
-  fit-begun : FitVoxels s (worked s values S) (startStatus s S (inBox s S))
+  fit-begun : FitVoxels s (worked s values S) (first-state .status)
   fit-begun =
-      fit-sound s (isIn S) (λ j. false) total (worked s values S) (startStatus s S (inBox s S)) (tallyOf (newRecord s T)) (good-begun .sound)
+      fit-sound s (isIn S) all-held total (worked s values S) (first-state .status) (tallyOf (newRecord s T)) (good-begun .sound)
       (record { sides = accepted .sides; distances = length-worked; statuses = good-begun .sound .lent })
-      (start-known s S (inBox s S))
+      (start-known s (marked marks) S (inBox s S))
       (λ i e. sym (good-begun .signs refl i (omega (arith, inside-below (worked s values S) i e, length-worked))) ∙ e)
 
-  both-end : Both (isIn S) (λ j. false) total start-end
+  both-end : Both (isIn S) all-held total start-end
   both-end =
-      run-both (isIn S) (λ j. false) total calls (handed s T values)
+      run-both (isIn S) all-held total calls first-state (held-all (isIn S) total calls first-state)
       (record { good = good-begun; fair = record { voxels = fit-begun; openings = omega arith; removals = omega arith; euler = omega arith } })
 
   same-sides : start-end .rec .sides ≡ s
-  same-sides = run-keeps (isIn S) (λ j. false) total calls (handed s T values) good-begun .adds .sides
+  same-sides = begun-keeps s values accepted T marks calls .adds .sides
+
+  end-fit : FitState start-end
+  end-fit =
+      let first = begun-inside s values accepted in
+      both-fit (isIn S) all-held total start-end both-end
+      (subst (λ (t : Sides). total ≤ size t) (sym same-sides) (found-all s (inBox s S))) (first .0) (first .1)
 
   end-holds : AllHold (stateChecks start-end)
-  end-holds =
-      let first = begun-inside s values accepted in
-      state-fits start-end
-      (both-fit (isIn S) (λ j. false) total start-end both-end
-      (subst (λ (t : Sides). total ≤ size t) (sym same-sides) (found-all s (inBox s S))) (first .0) (first .1))
+  end-holds = state-fits start-end end-fit
 
-  end-quiet : (limit : ℕ) → 27 * size s ≤ limit → start-end .rec .finished ≡ false → anyPending s (carved limit start-end .lent .status) ≡ false
-  unfolding carved
-  end-quiet limit h f =
-      let g = start-end in
-      let free = outside (g .dist) in
-      let ahead = farther (g .dist) in
-      subst (λ (t : Sides). anyPending t (carving (g .rec .sides) free ahead limit (g .status) .status) ≡ false) same-sides
-      (carving-ends (g .rec .sides) (isIn S) (λ j. false) free ahead (farther-order (g .dist)) total
-      free-is limit (g .status) (tallyOf (g .rec)) (both-end .good .sound) (omega (arith, found-all s (inBox s S))))
-    where
-      free-is : (j : ℕ) → j < size (start-end .rec .sides) → outside (start-end .dist) j ≡ not (isIn S j)
-      free-is j l = unfold outside in ap not (both-end .good .signs f j l)
+  -- a carve then, with marks that 2 and 29 let through
+  module _ (lent : List ℕ) (limit : ℕ) (f : start-end .rec .finished ≡ false) where
+    abbrev free : ℕ → Bool
+    free = mayGo (marked lent) (start-end .dist)
 
-  end-carved : (limit : ℕ) → start-end .rec .finished ≡ false → carve limit start-end ≡ carved limit start-end
-  unfolding carve
-  end-carved limit f =
-      unless-held (untouched (lentTo start-end)) (carved limit start-end) (workingChecks start-end)
-      (append-hold (stateChecks start-end) (8 when start-end .rec .finished ∷ []) end-holds (f, tt))
+    abbrev ahead : ℕ → ℕ → Bool
+    ahead = sooner (marked lent) (start-end .dist)
+
+    end-quiet : 27 * size s ≤ limit → anyPending s (carved free ahead limit start-end .lent .status) ≡ false
+    unfolding carved
+    end-quiet h =
+        let g = start-end in
+        let m = marked lent in
+        subst (λ (t : Sides). anyPending t (carving (g .rec .sides) free ahead limit (g .status) .status) ≡ false) same-sides
+        (carving-ends (g .rec .sides) (isIn S) (m .pinned) all-held free ahead (sooner-order m (g .dist)) total
+        (λ j e. refl) (may-go-is (isIn S) all-held total g (both-end .good) m f) limit (g .status) (tallyOf (g .rec)) (both-end .good .sound)
+        (omega (arith, found-all s (inBox s S))))
+
+    end-carved : length lent ≡ size s → strayMark lent ≡ false → carve lent limit start-end ≡ carved free ahead limit start-end
+    end-carved n k =
+        is-carved lent limit start-end (record { working = record { fit = end-fit; unfinished = f }; lent = n ∙ ap size (sym same-sides); known = k })
 
 pub never-unfit : NeverUnfit
-never-unfit s T values dist status r e calls =
-    by-begin (λ g. AllHold (stateChecks (run calls g .end))) s T values dist status (λ accepted. end-holds s T (filled s values) accepted calls) r e
+never-unfit s T values marks dist status r e calls =
+    by-begin (λ g. AllHold (stateChecks (run calls g .end))) s T values marks dist status
+    (λ accepted. end-holds s T (filled s values) marks accepted calls) r e
 
 pub carve-ends : CarveEnds
-carve-ends s T values dist status r e calls limit h =
+carve-ends s T values marks dist status r e calls lent n k limit h =
     by-begin (λ g. let end = run calls g .end in
-    end .rec .finished ≡ false → (carve limit end ≡ carved limit end) × (anyPending s (carve limit end .lent .status) ≡ false)) s T values dist status
+    let m = marked lent in
+    end .rec .finished ≡ false
+    → (carve lent limit end ≡ carved (mayGo m (end .dist)) (sooner m (end .dist)) limit end) × (anyPending s (carve lent limit end .lent .status) ≡ false))
+    s T values marks dist status
     (λ accepted f.
     let used = filled s values in
-    let c = end-carved s T used accepted calls limit f in
-    (c, ap (λ (o : Outcome Buffers Carving). anyPending s (o .lent .status)) c ∙ end-quiet s T used accepted calls limit h f)) r e
+    let c = end-carved s T used marks accepted calls lent limit f n k in
+    (c, ap (λ (o : Outcome Buffers Carving). anyPending s (o .lent .status)) c ∙ end-quiet s T used marks accepted calls lent limit f h)) r e

@@ -1,16 +1,24 @@
 -- What rejects each wrong machine, by computation.
 use mathlib.Core.Path.{_≡_, refl, ap, sym}
-use mathlib.Core.Bool.{true≢false}
+use mathlib.Core.Bool.{Bool, true, true≢false}
+use mathlib.Core.List.{[]}
+use mathlib.Core.Option.{some}
 use Prim.Native.Nat.{ℕ}
 use native.Mathlib.Omega.{arith}
+use lib.Dec.{eqb}
+use lib.ListN.{replicate}
 use lib.IntN.{pos, negsuc, natAbs}
 use Rattle.rules.specs.declared.Record.{Record}
-use Rattle.rules.specs.Answer.{Reply, refused, done, Carving}
-use Rattle.rules.specs.Body.{bodyOf, some, covered, sum, sum3, corners, edges, faces, cubes, eulerOf}
+use Rattle.rules.specs.Answer.{Reply, refused, done, Outcome, Buffers, Carving}
+use Rattle.rules.specs.Status.{statusOf}
+use Rattle.rules.specs.Marks.{marked, unmarked}
+use Rattle.rules.specs.Machine.{State, theVoxel}
+use Rattle.rules.specs.Body as body
+use Rattle.rules.specs.Body.{bodyOf, covered, sum, sum3, corners, edges, faces, cubes, eulerOf}
 use Rattle.rules.specs.Grid.{missing}
-use Rattle.rules.specs.Cases.{sides, cube, wall}
+use Rattle.rules.specs.Cases.{sides, carvedTo, bar, cube, wall, markAt, markD, begunD, barOf, markBar}
 use Rattle.rules.specs.Wrong.{carvingBy, onlyClears, byKAlone, dropsFailed, byFaceGroups, invents, WrongMachines}
-use Rattle.rules.specs.Wrong.{fillsBy, walledIn, offBorder, WrongFills}
+use Rattle.rules.specs.Wrong.{fillsBy, walledIn, offBorder, WrongFills, carveBy, WrongMarks}
 use Rattle.rules.proofs.Fill.{filled-is-enclosed}
 use Rattle.rules.proofs.Cases.{all-rules}
 
@@ -25,15 +33,15 @@ apart : {A : Type 0} (a : A) (n : ℕ) (c : Reply A) → done a ≡ c → refuse
 apart a n c e f = let z : _≡_ {A = ℕ} 0 1 = cc in omega arith
 
 pub wrong-machines : WrongMachines
-unfolding all-rules carvingBy onlyClears byKAlone dropsFailed byFaceGroups invents bodyOf some covered sum sum3 corners edges faces cubes eulerOf
+unfolding all-rules carvingBy onlyClears byKAlone dropsFailed byFaceGroups invents bodyOf body.some covered sum sum3 corners edges faces cubes eulerOf
 wrong-machines =
     record {
-      only-clears = λ start a d. true≢false (d .none-passes refl 22 refl refl);
-      k-alone = λ start a d. numbers-differ 1 0 (d .euler-of-body) (λ e. omega arith);
-      drops-failed = λ start a d. true≢false (d .none-passes refl 37 refl refl);
-      face-groups = λ start a d. true≢false (d .none-passes refl 25 refl refl);
-      invented-euler = λ start a d. numbers-differ 2 1 (d .euler-of-body) (λ e. omega arith);
-      invented-examination = λ start a z d. let e : _≡_ {A = ℕ} 1 (a .examined) = d .examinations-count in omega arith;
+      only-clears = λ start begun calls same a d. true≢false (d .none-passes same refl 22 refl refl refl);
+      k-alone = λ start begun calls same a d. numbers-differ 1 0 (d .euler-of-body) (λ e. omega arith);
+      drops-failed = λ start begun calls same a d. true≢false (d .none-passes same refl 37 refl refl refl);
+      face-groups = λ start begun calls same a d. true≢false (d .none-passes same refl 25 refl refl refl);
+      invented-euler = λ start begun calls same a d. numbers-differ 2 1 (d .euler-of-body) (λ e. omega arith);
+      invented-examination = λ start begun calls a z d. let e : _≡_ {A = ℕ} 1 (a .examined) = d .examinations-count in omega arith;
       begin-varies = λ c h. let e : _≡_ {A = ℕ} 0 1 = ap (λ (r : Record). r .allowed) (same-answer _ _ c (h 0) (h 1)) in omega arith;
       begin-accepts = λ n e. apart _ n _ refl (sym e);
       carve-varies = λ c h. let e : _≡_ {A = ℕ} 0 1 = ap (λ (r : Carving). r .examined) (same-answer _ _ c (h 0) (h 1)) in omega arith;
@@ -55,4 +63,38 @@ wrong-fills =
       beside-any-value = λ h.
           let values = wall (pos 0) (pos 4) in
           true≢false (sym (filled-is-enclosed (sides 5 5 5) values 62 .1 (h (sides 5 5 5) values 62 .0 refl)));
+    }
+
+-- ---- marks read by another rule
+
+-- a voxel's status after a carve by another rule is another
+differs : (i : ℕ) (o p : Outcome Buffers Carving) → (statusOf (o .lent .status) i ≡ statusOf (p .lent .status) i → ⊥) → o ≡ p → ⊥
+differs i o p f e = f (ap (λ (o : Outcome Buffers Carving). statusOf (o .lent .status) i) e)
+
+-- another voxel is opened
+opens-another : (i j : ℕ) → (i ≡ j → ⊥) → some i ≡ some j → ⊥
+opens-another i j f e = f (ap theVoxel e)
+
+-- the bar at rest
+resting : State
+unfolding all-rules
+resting = carvedTo 9 (bar (replicate 45 (pos 1)))
+
+-- one voxel alone
+alone : ℕ → Bool
+alone j = eqb j 22
+
+pub wrong-marks : WrongMarks
+unfolding all-rules carveBy resting alone
+wrong-marks =
+    record {
+      pins-hold-nothing = λ h. differs 22 _ _ (λ e. let z : _≡_ {A = ℕ} 1 0 = e in omega arith) (h (markD 22 1) 9 (begunD 22 1));
+      opens-pinned = λ h. opens-another 22 21 (λ e. omega arith) (h (marked (markAt (sides 5 3 3) 21 1)) resting);
+      hurried-after-distance = λ h. differs 21 _ _ (λ e. let z : _≡_ {A = ℕ} 0 3 = e in omega arith) (h (markBar 2 0) 1 (barOf (pos 1) (pos 2)));
+      hurried-by-index = λ h. differs 21 _ _ (λ e. let z : _≡_ {A = ℕ} 3 0 = e in omega arith) (h (markBar 2 2) 1 (barOf (pos 1) (pos 2)));
+      hurries-unheard = λ h. differs 21 _ _ (λ e. let z : _≡_ {A = ℕ} 0 3 = e in omega arith) (h (markBar 2 0) 1 (barOf (pos 1) (pos 2)));
+      opens-hurried-first = λ h. opens-another 21 22 (λ e. omega arith) (h (marked (markAt (sides 5 3 3) 22 2)) resting);
+      only-hurried-pending = λ h. let z : _≡_ {A = ℕ} 3 1 = h (sides 5 3 3) unmarked [] alone 22 in omega arith;
+      hurried-at-the-surface = λ h. let z : _≡_ {A = ℕ} 3 1 = h (sides 5 3 3) (marked (replicate 45 2)) [] (λ j. true) 22 in omega arith;
+      pinned-pending = λ h. let z : _≡_ {A = ℕ} 1 3 = h (sides 5 3 3) (marked (replicate 45 1)) [] alone 22 in omega arith;
     }

@@ -1,5 +1,5 @@
 -- Document 01, "Grid and worked distances", begin: S, M, worked distances, box and status. By document 02's CR 6 it works on the values with gaps
--- filled; its checks look at the values as they are given.
+-- filled; its checks look at the values as they are given. By CR 7 marks say which voxels are pending besides, and which are not.
 use mathlib.Core.Bool.{Bool, true, false, not, cond, _&&_, _||_}
 use mathlib.Core.List.{List, [], _∷_, map}
 use Prim.Native.Nat.{ℕ, zero, suc, _+_, min, max}
@@ -14,6 +14,7 @@ use Rattle.rules.specs.Grid.{measuredNonNegative, amount, valueAt}
 unfoldable pub use Rattle.rules.specs.Grid.{isIn}
 use Rattle.rules.specs.Value.{stray}
 use Rattle.rules.specs.Fill.{filled}
+use Rattle.rules.specs.Marks.{Marked, marked, strayMark, wrongMarks}
 use Rattle.rules.specs.Checks.{Check, _when_, unless}
 use Rattle.rules.specs.Answer.{done, Outcome, outcome, untouched, Buffers, buffers}
 
@@ -76,33 +77,38 @@ inBox s S i =
 unfoldable pub exposed : Sides → (ℕ → Bool) → ℕ → Bool
 exposed s kept i = any (λ p. not (neighbourhood s kept i p)) facePositions
 
--- 0 gone, 1 kept, 3 kept and pending: of any body to start from, the voxels outside S with a face neighbour not kept are pending
-unfoldable pub statusAt : Sides → List ℕ → (ℕ → Bool) → ℕ → ℕ
-statusAt s S kept i = cond (kept i) (cond (not (isIn S i) && exposed s kept i) 3 1) 0
+-- of the voxels outside S the hurried ones are pending, pinned or not, and those with a face neighbour not kept that are not pinned
+unfoldable pub waitsFirst : Sides → Marked → (ℕ → Bool) → ℕ → Bool
+waitsFirst s m kept i = m .hurried i || (not (m .pinned i) && exposed s kept i)
 
-unfoldable pub startStatus : Sides → List ℕ → (ℕ → Bool) → List ℕ
-startStatus s S kept = map (statusAt s S kept) (voxels s)
+-- 0 gone, 1 kept, 3 kept and pending, of any body to start from
+unfoldable pub statusAt : Sides → Marked → List ℕ → (ℕ → Bool) → ℕ → ℕ
+statusAt s m S kept i = cond (kept i) (cond (not (isIn S i) && waitsFirst s m kept i) 3 1) 0
+
+unfoldable pub startStatus : Sides → Marked → List ℕ → (ℕ → Bool) → List ℕ
+startStatus s m S kept = map (statusAt s m S kept) (voxels s)
 
 -- ---- the call
 
 abbrev pub newRecord : Sides → ℕ → Record
 newRecord s T = record { sides = s; allowed = T; openings = 0; removals = 0; examinations = 0; euler = pos 1; finished = false }
 
-abbrev pub beginChecks : Sides → List ℤ → List ℤ → List ℕ → List Check
-beginChecks s values dist status =
+abbrev pub beginChecks : Sides → List ℤ → List ℕ → List ℤ → List ℕ → List Check
+beginChecks s values marks dist status =
     1 when not (fitSides s)
-    ∷ 2 when not (eqb (length values) (size s) && (eqb (length dist) (size s) && eqb (length status) (size s)))
+    ∷ 2 when (not (eqb (length values) (size s) && (eqb (length dist) (size s) && eqb (length status) (size s))) || wrongMarks s marks)
     ∷ 28 when any stray values
+    ∷ 29 when strayMark marks
     ∷ 3 when any (λ i. onBorder s i && measuredNegative (valueAt values i)) (voxels s)
     ∷ 4 when not (any (λ i. measuredNegative (valueAt values i)) (voxels s))
     ∷ []
 
 -- steps 1 to 4
-unfoldable pub begunOn : Sides → ℕ → List ℤ → Outcome Buffers Record
-begunOn s T values = let S = inside s values in outcome (done (newRecord s T)) (buffers (worked s values S) (startStatus s S (inBox s S)))
+unfoldable pub begunOn : Sides → ℕ → List ℤ → Marked → Outcome Buffers Record
+begunOn s T values m = let S = inside s values in outcome (done (newRecord s T)) (buffers (worked s values S) (startStatus s m S (inBox s S)))
 
-unfoldable pub begun : Sides → ℕ → List ℤ → Outcome Buffers Record
-begun s T values = begunOn s T (filled s values)
+unfoldable pub begun : Sides → ℕ → List ℤ → Marked → Outcome Buffers Record
+begun s T values m = begunOn s T (filled s values) m
 
-unfoldable pub begin : Sides → ℕ → List ℤ → List ℤ → List ℕ → Outcome Buffers Record
-begin s T values dist status = unless (beginChecks s values dist status) (untouched (buffers dist status)) (begun s T values)
+unfoldable pub begin : Sides → ℕ → List ℤ → List ℕ → List ℤ → List ℕ → Outcome Buffers Record
+begin s T values marks dist status = unless (beginChecks s values marks dist status) (untouched (buffers dist status)) (begun s T values (marked marks))

@@ -4,13 +4,14 @@ use mathlib.Core.Path.{_≡_}
 use mathlib.Core.Bool.{Bool, true, false}
 use mathlib.Core.List.{List, [], _∷_, _++_, map}
 use Prim.Native.Nat.{ℕ, _+_, max}
-use lib.ListN.{length, getD, replicate}
+use lib.ListN.{length, getD, set, replicate}
 use lib.IntN.{ℤ, pos, negsuc}
 use Rattle.rules.specs.declared.Sides.{Sides}
 use Rattle.rules.specs.declared.Record.{Record}
 use Rattle.rules.specs.Grid.{range, missing, voxel, gap, distanceAt}
 use Rattle.rules.specs.Fill.{filled}
-use Rattle.rules.specs.Answer.{Reply, refused, done}
+use Rattle.rules.specs.Marks.{noMarks}
+use Rattle.rules.specs.Answer.{Reply, refused, done, Outcome, Buffers, Carving, Removal, Opening}
 use Rattle.rules.specs.Begin.{isIn, inside, begin, newRecord}
 use Rattle.rules.specs.Status.{statusOf, anyPending}
 use Rattle.rules.specs.Machine.{State, state, after, count, carve, take, openNext, finish}
@@ -20,12 +21,29 @@ sides a b c = record { a = a; b = b; c = c }
 
 -- ---- the calls on a case: begin with buffers of the right length, carve up to so many examinations, finish
 
+unfoldable pub startWith : List ℕ → Sides → ℕ → List ℤ → State
+startWith marks s T values =
+    after (λ r. r) (state (newRecord s T) [] []) (begin s T values marks (replicate (length values) (pos 0)) (replicate (length values) 0))
+
+unfoldable pub carvedWith : List ℕ → ℕ → State → State
+carvedWith marks limit g = after (λ r. r .next) g (carve marks limit g)
+
+-- the same, and take and open, with no voxel marked
+
 unfoldable pub start : Sides → ℕ → List ℤ → State
-start s T values =
-    after (λ r. r) (state (newRecord s T) [] []) (begin s T values (replicate (length values) (pos 0)) (replicate (length values) 0))
+start s T values = startWith (noMarks s) s T values
 
 unfoldable pub carvedTo : ℕ → State → State
-carvedTo limit g = after (λ r. r .next) g (carve limit g)
+carvedTo limit g = carvedWith (noMarks (g .rec .sides)) limit g
+
+unfoldable pub plainCarve : ℕ → State → Outcome Buffers Carving
+plainCarve limit g = carve (noMarks (g .rec .sides)) limit g
+
+unfoldable pub plainTake : ℕ → State → Outcome Buffers Removal
+plainTake i g = take (noMarks (g .rec .sides)) i g
+
+unfoldable pub plainOpen : State → Outcome Buffers Opening
+plainOpen g = openNext (noMarks (g .rec .sides)) g
 
 unfoldable pub ended : State → State
 ended g = after (λ r. r) g (finish g)
@@ -61,7 +79,7 @@ pub record CarvesC (begun : ℕ → State) : Type 0 where
   pub middle-filled : distanceAt (ended (carvedTo 1000 (begun 0)) .dist) 37 ≡ negsuc 3
   -- open answers k = 1, m = 2; the Euler number is 0
   pub opening :
-      openNext (carvedTo 1000 (begun 1)) .answer
+      plainOpen (carvedTo 1000 (begun 1)) .answer
       ≡ done (
       record {
         index = 37;
@@ -71,9 +89,9 @@ pub record CarvesC (begun : ℕ → State) : Type 0 where
       }
       )
   -- no opening is allowed; nothing is left to open; the middle does not pass
-  pub none-allowed : openNext (carvedTo 1000 (begun 0)) .answer ≡ refused 14
-  pub none-left : openNext (carvedTo 9 (after (λ r. r .next) (begun 2) (openNext (carvedTo 9 (begun 2))))) .answer ≡ refused 15
-  pub not-taken : take 37 (begun 0) .answer ≡ refused 12
+  pub none-allowed : plainOpen (carvedTo 1000 (begun 0)) .answer ≡ refused 14
+  pub none-left : plainOpen (carvedTo 9 (after (λ r. r .next) (begun 2) (plainOpen (carvedTo 9 (begun 2))))) .answer ≡ refused 15
+  pub not-taken : plainTake 37 (begun 0) .answer ≡ refused 12
 
 abbrev pub CaseC : Type 0
 CaseC = CarvesC caseC
@@ -123,12 +141,12 @@ bar dist =
 
 pub record Bar : Type 0 where
   pub stays : carvedTo 9 (bar (replicate 45 (pos 1))) .rec ≡ count (newRecord (sides 5 3 3) 1) 1 0 0 (pos 0)
-  pub pending-refused : openNext (bar (replicate 45 (pos 1))) .answer ≡ refused 13
+  pub pending-refused : plainOpen (bar (replicate 45 (pos 1))) .answer ≡ refused 13
   pub not-finished : finish (bar (replicate 45 (pos 1))) .answer ≡ refused 13
   -- the greatest distance is opened, and of equals the smallest index
   pub farthest-opened :
-      map (statusOf (openNext (carvedTo 9 (bar (replicate 23 (pos 1) ++ (pos 2 ∷ replicate 21 (pos 1))))) .lent .status)) (21 ∷ 22 ∷ 23 ∷ []) ≡ 1 ∷ 3 ∷ 0 ∷ []
-  pub earliest-opened : map (statusOf (openNext (carvedTo 9 (bar (replicate 45 (pos 1)))) .lent .status)) (21 ∷ 22 ∷ 23 ∷ []) ≡ 0 ∷ 3 ∷ 1 ∷ []
+      map (statusOf (plainOpen (carvedTo 9 (bar (replicate 23 (pos 1) ++ (pos 2 ∷ replicate 21 (pos 1))))) .lent .status)) (21 ∷ 22 ∷ 23 ∷ []) ≡ 1 ∷ 3 ∷ 0 ∷ []
+  pub earliest-opened : map (statusOf (plainOpen (carvedTo 9 (bar (replicate 45 (pos 1)))) .lent .status)) (21 ∷ 22 ∷ 23 ∷ []) ≡ 0 ∷ 3 ∷ 1 ∷ []
 
 -- ---- the numbers of a state, in their order
 
@@ -137,16 +155,16 @@ abbrev pub with : (Record → Record) → State
 with f = state (f (caseD .rec)) (caseD .dist) (caseD .status)
 
 pub record Numbers : Type 0 where
-  pub side : carve 1 (with (λ r. newRecord (sides 2 4 3) 0)) .answer ≡ refused 1
-  pub length : carve 1 (with (λ r. newRecord (sides 4 3 3) 0)) .answer ≡ refused 2
-  pub openings : carve 1 (with (λ r. count r 0 0 1 (pos 0))) .answer ≡ refused 7
-  pub removals : carve 1 (with (λ r. count r 0 49 0 (pos 0))) .answer ≡ refused 7
-  pub examinations : carve 1 (with (λ r. count r 1297 0 0 (pos 0))) .answer ≡ refused 7
-  pub euler : carve 1 (with (λ r. count r 0 0 0 (pos 384))) .answer ≡ refused 7
-  pub finished : carve 1 (ended (carvedTo 2 caseD)) .answer ≡ refused 8
-  pub index : take 48 caseD .answer ≡ refused 5
-  pub gone : take 0 caseD .answer ≡ refused 10
-  pub inside : take 21 caseD .answer ≡ refused 11
+  pub side : plainCarve 1 (with (λ r. newRecord (sides 2 4 3) 0)) .answer ≡ refused 1
+  pub length : plainCarve 1 (with (λ r. newRecord (sides 4 3 3) 0)) .answer ≡ refused 2
+  pub openings : plainCarve 1 (with (λ r. count r 0 0 1 (pos 0))) .answer ≡ refused 7
+  pub removals : plainCarve 1 (with (λ r. count r 0 49 0 (pos 0))) .answer ≡ refused 7
+  pub examinations : plainCarve 1 (with (λ r. count r 1297 0 0 (pos 0))) .answer ≡ refused 7
+  pub euler : plainCarve 1 (with (λ r. count r 0 0 0 (pos 384))) .answer ≡ refused 7
+  pub finished : plainCarve 1 (ended (carvedTo 2 caseD)) .answer ≡ refused 8
+  pub index : plainTake 48 caseD .answer ≡ refused 5
+  pub gone : plainTake 0 caseD .answer ≡ refused 10
+  pub inside : plainTake 21 caseD .answer ≡ refused 11
 
 -- ---- document 02, CR 5: number 28 in its order, and the ends of the range
 
@@ -156,7 +174,7 @@ cube corner centre others = corner ∷ replicate 12 others ++ (centre ∷ replic
 
 -- begin with buffers for 27 voxels
 abbrev pub answered : Sides → List ℤ → Reply Record
-answered s values = begin s 0 values (replicate 27 (pos 0)) (replicate 27 0) .answer
+answered s values = begin s 0 values (noMarks s) (replicate 27 (pos 0)) (replicate 27 0) .answer
 
 pub record LongTunnels : Type 0 where
   pub too-high : answered (sides 3 3 3) (cube (pos 1000000001) (negsuc 4) (pos 5)) ≡ refused 28
@@ -194,7 +212,7 @@ middleIs g d t = (distanceAt (g .dist) 62 ≡ d) × (statusOf (g .status) 62 ≡
 pub record BehindTheFace : Type 0 where
   -- a gap of one voxel inside a wall counts as measured with value -1, is one of S, and cannot be taken
   pub inside : middleIs (walled (negsuc 3) (pos 4)) (negsuc 0) 1
-  pub held : take 62 (walled (negsuc 3) (pos 4)) .answer ≡ refused 11
+  pub held : plainTake 62 (walled (negsuc 3) (pos 4)) .answer ≡ refused 11
   -- with one face neighbour at 0 it is a missing voxel beside S as ever, at M, and pending
   pub open-face : middleIs (walled (pos 0) (pos 4)) (pos 4) 3
   -- a missing voxel that only touches it is another gap
@@ -215,3 +233,106 @@ hollow =
 pub record JoinedByFill : Type 0 where
   pub apart : isIn (inside (sides 7 7 7) hollow) 171 ≡ false
   pub joined : isIn (inside (sides 7 7 7) (filled (sides 7 7 7) hollow)) 171 ≡ true
+
+-- ---- document 02's CR 7: pins and hurries
+
+-- one voxel marked
+unfoldable pub markAt : Sides → ℕ → ℕ → List ℕ
+markAt s i mark = set (noMarks s) i mark
+
+-- case D with one voxel marked
+unfoldable pub markD : ℕ → ℕ → List ℕ
+markD i mark = markAt (sides 4 4 3) i mark
+
+unfoldable pub begunD : ℕ → ℕ → State
+begunD i mark = startWith (markD i mark) (sides 4 4 3) 0 valuesD
+
+-- 5, 5, 5: the middle, 62, is 4, and no voxel of the box that shares a face with it is gone
+unfoldable pub deep : ℕ → State
+deep mark = startWith (markAt (sides 5 5 5) 62 mark) (sides 5 5 5) 0 (set (wall (negsuc 3) (pos 4)) 62 (pos 4))
+
+-- 5, 3, 3, all 5, but 21 is -5 and all that the box has; 22 beside it is pinned and hurried
+unfoldable pub rod : State
+rod = startWith (markAt (sides 5 3 3) 22 3) (sides 5 3 3) 0 (set (replicate 45 (pos 5)) 21 (negsuc 4))
+
+-- the bar with all three voxels pending, the distances of the outer two given; each of these two passes
+unfoldable pub barOf : ℤ → ℤ → State
+barOf low high =
+    state (newRecord (sides 5 3 3) 1) (replicate 21 (pos 1) ++ (low ∷ pos 1 ∷ high ∷ []) ++ replicate 21 (pos 1))
+    (replicate 21 0 ++ (3 ∷ 3 ∷ 3 ∷ []) ++ replicate 21 0)
+
+-- the status of its voxels, and marks for the outer two
+abbrev pub barIs : List ℕ → List ℕ
+barIs status = map (statusOf status) (21 ∷ 22 ∷ 23 ∷ [])
+
+unfoldable pub markBar : ℕ → ℕ → List ℕ
+markBar low high = set (markAt (sides 5 3 3) 21 low) 23 high
+
+pub record Pinned : Type 0 where
+  -- only pinned: not pending from begin, and not made pending by a removal, of carve or of take
+  pub begun : boxD (begunD 22 1) ≡ 1 ∷ 1 ∷ 3 ∷ 1 ∷ []
+  pub carved : boxD (carvedWith (markD 22 1) 9 (begunD 22 1)) ≡ 1 ∷ 1 ∷ 0 ∷ 1 ∷ []
+  pub taken-beside : map (statusOf (take (markD 22 1) 25 (begunD 22 1) .lent .status)) (21 ∷ 22 ∷ 25 ∷ 26 ∷ []) ≡ 1 ∷ 1 ∷ 0 ∷ 1 ∷ []
+  -- a pin on a voxel of S, on one outside the box and on the border has no effect
+  pub on-s : boxD (carvedWith (markD 21 1) 9 (begunD 21 1)) ≡ 1 ∷ 0 ∷ 0 ∷ 1 ∷ []
+  pub outside-the-box : statusOf (rod .status) 22 ≡ 0
+  pub on-the-border : boxD (begunD 0 3) ≡ 1 ∷ 3 ∷ 3 ∷ 1 ∷ []
+
+pub record Hurried : Type 0 where
+  -- pending as ever from begin, and so are the others
+  pub begun : boxD (begunD 25 2) ≡ 1 ∷ 3 ∷ 3 ∷ 1 ∷ []
+  -- a voxel of S is not, and a gone one stays gone
+  pub on-s : boxD (begunD 21 2) ≡ 1 ∷ 3 ∷ 3 ∷ 1 ∷ []
+  pub gone : statusOf (begunD 0 2 .status) 0 ≡ 0
+  -- examined before the others, and before one that is farther; of two hurried ones the farther, of equals the one with the smaller index
+  pub first : boxD (carvedWith (markD 25 2) 1 (begunD 25 2)) ≡ 1 ∷ 3 ∷ 0 ∷ 1 ∷ []
+  pub before-farther : barIs (carvedWith (markBar 2 0) 1 (barOf (pos 1) (pos 2)) .status) ≡ 0 ∷ 3 ∷ 3 ∷ []
+  pub farther-of-two : barIs (carvedWith (markBar 2 2) 1 (barOf (pos 1) (pos 2)) .status) ≡ 3 ∷ 3 ∷ 0 ∷ []
+  pub earlier-of-equals : barIs (carvedWith (markBar 2 2) 1 (barOf (pos 1) (pos 1)) .status) ≡ 0 ∷ 3 ∷ 3 ∷ []
+
+pub record PinnedAndHurried : Type 0 where
+  -- pending from begin, examined first, counted, and it stays
+  pub begun : boxD (begunD 22 3) ≡ 1 ∷ 3 ∷ 3 ∷ 1 ∷ []
+  pub first : boxD (carvedWith (markD 22 3) 1 (begunD 22 3)) ≡ 1 ∷ 1 ∷ 3 ∷ 1 ∷ []
+  pub examined : carvedWith (markD 22 3) 1 (begunD 22 3) .rec .examinations ≡ 1
+  pub removed : carvedWith (markD 22 3) 1 (begunD 22 3) .rec .removals ≡ 0
+  -- a removal beside it leaves it pending
+  pub taken-beside : map (statusOf (take (markD 22 3) 25 (begunD 22 3) .lent .status)) (21 ∷ 22 ∷ 25 ∷ 26 ∷ []) ≡ 1 ∷ 3 ∷ 0 ∷ 1 ∷ []
+
+-- hurried: pending from begin, deep inside too
+pub record HurriedDeep : Type 0 where
+  pub plain : statusOf (deep 0 .status) 62 ≡ 1
+  pub hurried : statusOf (deep 2 .status) 62 ≡ 3
+  -- hurried by a later call alone: it is not woken
+  pub later : carve (markAt (sides 5 5 5) 62 2) 0 (deep 0) .lent .status ≡ deep 0 .status
+
+pub record MarksLater : Type 0 where
+  -- pinned by a later call: it stays pending until it is examined
+  pub still-pending : boxD (carvedWith (markD 22 1) 0 caseD) ≡ 1 ∷ 3 ∷ 3 ∷ 1 ∷ []
+  pub pinned-later : boxD (carvedWith (markD 22 1) 1 (carvedWith (markD 25 2) 1 caseD)) ≡ 1 ∷ 1 ∷ 0 ∷ 1 ∷ []
+  -- a pin taken off wakes nothing
+  pub taken-off : boxD (carvedTo 9 (carvedWith (markD 22 1) 9 (begunD 22 1))) ≡ 1 ∷ 1 ∷ 0 ∷ 1 ∷ []
+  -- open passes a pinned voxel over, and takes no notice of a hurry
+  pub opened-beside : barIs (openNext (markAt (sides 5 3 3) 21 1) (carvedTo 9 (bar (replicate 45 (pos 1)))) .lent .status) ≡ 1 ∷ 0 ∷ 3 ∷ []
+  pub hurry-unseen : barIs (openNext (markAt (sides 5 3 3) 22 2) (carvedTo 9 (bar (replicate 45 (pos 1)))) .lent .status) ≡ 0 ∷ 3 ∷ 1 ∷ []
+  pub all-pinned : openNext (replicate 45 1) (carvedTo 9 (bar (replicate 45 (pos 1)))) .answer ≡ refused 15
+
+-- numbers 2, 29 and 30 in their order
+pub record MarkNumbers : Type 0 where
+  -- 30 after 10 and 11, and before 12, which the middle of the bar would answer
+  pub gone-first : take (markD 0 1) 0 caseD .answer ≡ refused 10
+  pub inside-first : take (markD 21 1) 21 caseD .answer ≡ refused 11
+  pub not-taken : take (markD 22 1) 22 caseD .answer ≡ refused 30
+  pub before-test : take (markAt (sides 5 3 3) 22 1) 22 (bar (replicate 45 (pos 1))) .answer ≡ refused 30
+  -- 2 for the marks' length, after 1 and before 7; 29 after 7 and before 8
+  pub side-first : carve [] 1 (with (λ r. newRecord (sides 2 4 3) 0)) .answer ≡ refused 1
+  pub length : carve [] 1 caseD .answer ≡ refused 2
+  pub length-first : carve [] 1 (with (λ r. count r 0 0 1 (pos 0))) .answer ≡ refused 2
+  pub unfit-first : carve (markD 0 4) 1 (with (λ r. count r 0 0 1 (pos 0))) .answer ≡ refused 7
+  pub stray : carve (markD 0 4) 1 caseD .answer ≡ refused 29
+  pub finished-after : carve (markD 0 4) 1 (ended (carvedTo 2 caseD)) .answer ≡ refused 29
+  -- in begin 29 after 28, before 3 and 4
+  pub begun-length : begin (sides 4 4 3) 0 valuesD [] (caseD .dist) (caseD .status) .answer ≡ refused 2
+  pub value-first : begin (sides 4 4 3) 0 (replicate 48 (pos 1000000001)) (markD 0 4) (caseD .dist) (caseD .status) .answer ≡ refused 28
+  pub border-after : begin (sides 4 4 3) 0 (replicate 48 (negsuc 0)) (markD 0 4) (caseD .dist) (caseD .status) .answer ≡ refused 29
+  pub none-after : begin (sides 4 4 3) 0 (replicate 48 (pos 5)) (markD 0 4) (caseD .dist) (caseD .status) .answer ≡ refused 29

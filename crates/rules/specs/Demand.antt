@@ -1,9 +1,11 @@
--- Document 01, "The carving machine", demand 3: a list of calls on a begun grid, the sums of its answers, and what holds after it.
+-- Document 01, "The carving machine", demand 3: a list of calls on a begun grid, the sums of its answers, and what holds after it. By document
+-- 02's CR 7 it holds whatever marks each call gets.
 use mathlib.Core.Path.{_≡_}
 use mathlib.Core.Bool.{Bool, true, false, not, _&&_}
 use mathlib.Core.List.{List, [], _∷_}
 use Prim.Native.Nat.{ℕ, _+_, _*_, _≤_}
 use lib.Dec.{ltb}
+use lib.ListN.{length}
 use lib.IntN.{ℤ, pos, _+ℤ_, _-ℤ_}
 use Rattle.cells.specs.Linked.{OnePiece}
 use Rattle.cells.specs.Cells.{passes}
@@ -16,13 +18,15 @@ use Rattle.rules.specs.Begin.{isIn, inside, inBox, begin}
 use Rattle.rules.specs.Meaning.{found}
 use Rattle.rules.specs.Status.{isKept, testAt, anyPending}
 use Rattle.rules.specs.Checks.{AllHold}
-use Rattle.rules.specs.Machine.{State, state, after, stateChecks, carved, carve, take, openNext, finish}
+use Rattle.rules.specs.Marks.{marked, strayMark}
+use Rattle.rules.specs.Machine.{State, state, after, mayGo, sooner, stateChecks, carved, carve, take, openNext, finish}
 use Rattle.rules.specs.Body.{bodyOf, eulerOf}
 
+-- each but finish is lent marks of its own
 pub data Call : Type 0 where
-  carveUpTo : ℕ → Call
-  takeAt : ℕ → Call
-  openOne : Call
+  carveUpTo : List ℕ → ℕ → Call
+  takeAt : List ℕ → ℕ → Call
+  openOne : List ℕ → Call
   finishIt : Call
 
 -- ---- what the answers of a list add up to
@@ -67,18 +71,47 @@ abbrev pub stop : State → Sums → Run
 stop g a = record { end = g; answers = a }
 
 unfoldable pub call : Call → State → Run
-call (carveUpTo limit) g = let o = carve limit g in stop (after (λ r. r .next) g o) (ofCarve (o .answer))
-call (takeAt i) g = let o = take i g in stop (after (λ r. r .next) g o) (ofTake (o .answer))
-call openOne g = let o = openNext g in stop (after (λ r. r .next) g o) (ofOpen (o .answer))
+call (carveUpTo marks limit) g = let o = carve marks limit g in stop (after (λ r. r .next) g o) (ofCarve (o .answer))
+call (takeAt marks i) g = let o = take marks i g in stop (after (λ r. r .next) g o) (ofTake (o .answer))
+call (openOne marks) g = let o = openNext marks g in stop (after (λ r. r .next) g o) (ofOpen (o .answer))
 call finishIt g = stop (after (λ r. r) g (finish g)) nothing
 
 unfoldable pub run : List Call → State → Run
 run [] g = stop g nothing
 run (c ∷ cs) g = let first = call c g in let rest = run cs (first .end) in stop (rest .end) (both (first .answers) (rest .answers))
 
--- ---- what holds after the list, whatever calls it has; start is the body that begin left
+-- ---- the marks that a list of calls is lent, from a state on: a refused call does nothing, so its marks do not count
 
-pub record Demand (s : Sides) (values : List ℤ) (start : ℕ → Bool) (g : State) (answers : Sums) : Type 0 where
+abbrev pub isRefused : {A : Type 0} → Reply A → Bool
+isRefused (refused n) = true
+isRefused (done a) = false
+
+unfoldable pub refuses : State → Call → Bool
+refuses g (carveUpTo marks limit) = isRefused (carve marks limit g .answer)
+refuses g (takeAt marks i) = isRefused (take marks i g .answer)
+refuses g (openOne marks) = isRefused (openNext marks g .answer)
+refuses g finishIt = isRefused (finish g .answer)
+
+-- the marks of a call have a property
+abbrev pub Lends : (List ℕ → Type 0) → Call → Type 0
+Lends P (carveUpTo marks limit) = P marks
+Lends P (takeAt marks i) = P marks
+Lends P (openOne marks) = P marks
+Lends P finishIt = Unit {0}
+
+-- the marks of every call that is not refused have it
+abbrev pub AllLend : (List ℕ → Type 0) → State → List Call → Type 0
+AllLend P g [] = Unit {0}
+AllLend P g (c ∷ cs) = (refuses g c ≡ false → Lends P c) × (AllLend P (call c g .end) cs)
+
+-- marks unchanged from begin on
+abbrev pub Unchanged : List ℕ → State → List Call → Type 0
+Unchanged marks g calls = AllLend (λ lent. lent ≡ marks) g calls
+
+-- ---- what holds after the list, whatever calls it has: begin was lent the marks and left the state begun, and start is the body that it left
+
+pub record Demand (s : Sides) (values : List ℤ) (marks : List ℕ) (start : ℕ → Bool) (begun : State) (calls : List Call) (g : State) (answers : Sums)
+    : Type 0 where
   -- the record has the grid's sides
   pub same-sides : g .rec .sides ≡ s
   -- every inside voxel is kept
@@ -91,9 +124,9 @@ pub record Demand (s : Sides) (values : List ℤ) (start : ℕ → Bool) (g : St
   -- with no opening the body is in one piece and its Euler number is 1
   pub unopened-one-piece : answers .opened ≡ 0 → OnePiece (isKept (g .status)) (touch s)
   pub unopened-euler : answers .opened ≡ 0 → g .rec .euler ≡ pos 1
-  -- where nothing is pending, no kept outside voxel passes
-  pub none-passes : anyPending s (g .status) ≡ false → (i : ℕ) → isKept (g .status) i ≡ true → isIn (inside s values) i ≡ false
-      → passes (testAt s (g .status) i) ≡ false
+  -- where nothing is pending, and marks are unchanged from begin on, no kept outside voxel passes that is not pinned
+  pub none-passes : Unchanged marks begun calls → anyPending s (g .status) ≡ false → (i : ℕ) → isKept (g .status) i ≡ true
+      → isIn (inside s values) i ≡ false → marked marks .pinned i ≡ false → passes (testAt s (g .status) i) ≡ false
   -- examinations are at most the voxels of the body at the start and 26 times the removals
   pub examinations-bound : answers .examined ≤ found s start + 26 * answers .removed
   -- the record's three counts
@@ -105,26 +138,43 @@ pub record Demand (s : Sides) (values : List ℤ) (start : ℕ → Bool) (g : St
 -- is that of the values with gaps filled
 abbrev pub DemandIsMet : Type 0
 DemandIsMet =
-    (s : Sides) (T : ℕ) (values dist : List ℤ) (status : List ℕ) (r : Record) → begin s T values dist status .answer ≡ done r → (calls : List Call)
-    → let b = begin s T values dist status in
-    let after = run calls (state r (b .lent .dist) (b .lent .status)) in
+    (s : Sides) (T : ℕ) (values : List ℤ) (marks : List ℕ) (dist : List ℤ) (status : List ℕ) (r : Record)
+    → begin s T values marks dist status .answer ≡ done r → (calls : List Call)
+    → let b = begin s T values marks dist status in
+    let begun = state r (b .lent .dist) (b .lent .status) in
+    let after = run calls begun in
     let used = filled s values in
-    Demand s used (inBox s (inside s used)) (after .end) (after .answers)
+    Demand s used marks (inBox s (inside s used)) begun calls (after .end) (after .answers)
+
+-- a voxel that every call of a list pins, refused ones aside, is not lost, from any state (proofs/Pinned.antt)
+abbrev pub PinnedAreKept : Type 0
+PinnedAreKept =
+    (g : State) (i : ℕ) → isKept (g .status) i ≡ true → (calls : List Call) → AllLend (λ marks. marked marks .pinned i ≡ true) g calls
+    → isKept (run calls g .end .status) i ≡ true
+
+-- nor does a voxel come back that is gone, whatever the calls and their marks (proofs/Pinned.antt)
+abbrev pub GoneStaysGone : Type 0
+GoneStaysGone =
+    (g : State) (i : ℕ) → isKept (g .status) i ≡ false → (calls : List Call) → isKept (run calls g .end .status) i ≡ false
 
 -- ---- what the program relies on
 
--- no list of calls makes a begun grid unfit: no call of it is refused with 1, 2 or 7 (proofs/NeverUnfit.antt)
+-- no list of calls makes a begun grid unfit: no call of it is refused with 1 or 7, nor with 2 but for the length of its own marks (proofs/NeverUnfit.antt)
 abbrev pub NeverUnfit : Type 0
 NeverUnfit =
-    (s : Sides) (T : ℕ) (values dist : List ℤ) (status : List ℕ) (r : Record) → begin s T values dist status .answer ≡ done r → (calls : List Call)
-    → let b = begin s T values dist status in
+    (s : Sides) (T : ℕ) (values : List ℤ) (marks : List ℕ) (dist : List ℤ) (status : List ℕ) (r : Record)
+    → begin s T values marks dist status .answer ≡ done r → (calls : List Call)
+    → let b = begin s T values marks dist status in
     AllHold (stateChecks (run calls (state r (b .lent .dist) (b .lent .status)) .end))
 
--- a carve of 27 n examinations or more, on a grid that is not finished, leaves nothing pending
+-- a carve of 27 n examinations or more, on a grid that is not finished, with n marks of at most 3, is not refused and leaves nothing pending
 abbrev pub CarveEnds : Type 0
 CarveEnds =
-    (s : Sides) (T : ℕ) (values dist : List ℤ) (status : List ℕ) (r : Record) → begin s T values dist status .answer ≡ done r → (calls : List Call)
-    → (limit : ℕ) → 27 * size s ≤ limit
-    → let b = begin s T values dist status in
+    (s : Sides) (T : ℕ) (values : List ℤ) (marks : List ℕ) (dist : List ℤ) (status : List ℕ) (r : Record)
+    → begin s T values marks dist status .answer ≡ done r → (calls : List Call)
+    → (lent : List ℕ) → length lent ≡ size s → strayMark lent ≡ false → (limit : ℕ) → 27 * size s ≤ limit
+    → let b = begin s T values marks dist status in
     let g = run calls (state r (b .lent .dist) (b .lent .status)) .end in
-    g .rec .finished ≡ false → (carve limit g ≡ carved limit g) × (anyPending s (carve limit g .lent .status) ≡ false)
+    let m = marked lent in
+    g .rec .finished ≡ false
+    → (carve lent limit g ≡ carved (mayGo m (g .dist)) (sooner m (g .dist)) limit g) × (anyPending s (carve lent limit g .lent .status) ≡ false)

@@ -10,7 +10,8 @@ use Rattle.cells.specs.Cells.{passes}
 use Rattle.rules.specs.declared.Sides.{Sides}
 use Rattle.rules.specs.Grid.{fitSides, size, onBorder}
 use Rattle.rules.specs.Status.{statusOf, isKept, anyPending, testAt}
-use Rattle.rules.specs.Machine.{State, isInside, toOpen, isNone}
+use Rattle.rules.specs.Marks.{marked, strayMark}
+use Rattle.rules.specs.Machine.{State, isInside, mayGo, toOpen, isNone}
 
 -- ---- checks 1, 2 and 7
 
@@ -49,12 +50,19 @@ pub record Ended (g : State) : Type 0 where
   pub fit : FitState g
   pub finished : g .rec .finished ≡ true
 
--- take: 5, 10, 11, 12
-pub record Takeable (i : ℕ) (g : State) : Type 0 where
+-- 2 and 29 besides: one that is lent marks
+pub record Marking (marks : List ℕ) (g : State) : Type 0 where
   pub working : Working g
+  pub lent : length marks ≡ size (g .rec .sides)
+  pub known : strayMark marks ≡ false
+
+-- take: 5, 10, 11, 30, 12
+pub record Takeable (marks : List ℕ) (i : ℕ) (g : State) : Type 0 where
+  pub marking : Marking marks g
   pub below : i < size (g .rec .sides)
   pub kept : isKept (g .status) i ≡ true
   pub outer : isInside (g .dist) i ≡ false
+  pub unpinned : marked marks .pinned i ≡ false
   pub passing : passes (testAt (g .rec .sides) (g .status) i) ≡ true
 
 -- open and finish: 13
@@ -63,7 +71,8 @@ pub record Quiet (g : State) : Type 0 where
   pub quiet : anyPending (g .rec .sides) (g .status) ≡ false
 
 -- open: 14, 15
-pub record Openable (g : State) : Type 0 where
+pub record Openable (marks : List ℕ) (g : State) : Type 0 where
+  pub marking : Marking marks g
   pub quiet : Quiet g
   pub left : g .rec .openings ≡ g .rec .allowed → ⊥
-  pub found : isNone (toOpen g) ≡ false
+  pub found : isNone (toOpen (mayGo (marked marks) (g .dist)) g) ≡ false

@@ -14,6 +14,7 @@ use Rattle.rules.specs.declared.Record.{Record}
 use Rattle.rules.specs.Value.{isMissing}
 use Rattle.rules.specs.Grid.{size, onBorder, shareFace, measuredNegative, valueAt, distanceAt}
 use Rattle.rules.specs.Fill.{isFilled, filled}
+use Rattle.rules.specs.Marks.{Marked}
 use Rattle.rules.specs.Answer.{done}
 use Rattle.rules.specs.Begin.{isIn, inside, begunOn, begun, begin}
 use Rattle.rules.specs.Status.{isKept}
@@ -51,19 +52,22 @@ OneRound = (s : Sides) (values : List ℤ) → filled s (filled s values) ≡ fi
 -- a grid without such a gap is begun as before
 abbrev pub BegunAsBefore : Type 0
 BegunAsBefore =
-    (s : Sides) (T : ℕ) (values : List ℤ) → length values ≡ size s → ((i : ℕ) → isFilled s values i ≡ false) → begun s T values ≡ begunOn s T values
+    (s : Sides) (T : ℕ) (values : List ℤ) (m : Marked) → length values ≡ size s → ((i : ℕ) → isFilled s values i ≡ false)
+    → begun s T values m ≡ begunOn s T values m
 
 -- and so is a grid with every point measured
 abbrev pub MeasuredAsBefore : Type 0
-MeasuredAsBefore = (s : Sides) (T : ℕ) (values : List ℤ) → length values ≡ size s → any isMissing values ≡ false → begun s T values ≡ begunOn s T values
+MeasuredAsBefore =
+    (s : Sides) (T : ℕ) (values : List ℤ) (m : Marked) → length values ≡ size s → any isMissing values ≡ false → begun s T values m ≡ begunOn s T values m
 
 -- a filled voxel found in S has the worked distance -1 after begin, and no list of calls loses it
-pub record FilledStays (s : Sides) (T : ℕ) (values dist : List ℤ) (status : List ℕ) (r : Record) (i : ℕ) : Type 0 where
-  pub worked : distanceAt (begin s T values dist status .lent .dist) i ≡ negsuc 0
+pub record FilledStays (s : Sides) (T : ℕ) (values : List ℤ) (marks : List ℕ) (dist : List ℤ) (status : List ℕ) (r : Record) (i : ℕ) : Type 0 where
+  pub worked : distanceAt (begin s T values marks dist status .lent .dist) i ≡ negsuc 0
   pub kept : (calls : List Call)
-      → let b = begin s T values dist status in isKept (run calls (state r (b .lent .dist) (b .lent .status)) .end .status) i ≡ true
+      → let b = begin s T values marks dist status in isKept (run calls (state r (b .lent .dist) (b .lent .status)) .end .status) i ≡ true
 
 abbrev pub FilledAreKept : Type 0
 FilledAreKept =
-    (s : Sides) (T : ℕ) (values dist : List ℤ) (status : List ℕ) (r : Record) → begin s T values dist status .answer ≡ done r
-    → (i : ℕ) → isFilled s values i ≡ true → isIn (inside s (filled s values)) i ≡ true → FilledStays s T values dist status r i
+    (s : Sides) (T : ℕ) (values : List ℤ) (marks : List ℕ) (dist : List ℤ) (status : List ℕ) (r : Record)
+    → begin s T values marks dist status .answer ≡ done r
+    → (i : ℕ) → isFilled s values i ≡ true → isIn (inside s (filled s values)) i ≡ true → FilledStays s T values marks dist status r i

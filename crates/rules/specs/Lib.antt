@@ -3,6 +3,7 @@ pub mod Grid
 pub mod Checks
 pub mod Answer
 pub mod Fill
+pub mod Marks
 pub mod Begin
 pub mod Meaning
 pub mod Neighbours
@@ -12,7 +13,11 @@ pub mod Fit
 pub mod Choice
 pub mod Body
 pub mod Demand
+pub mod Unmarked
 pub mod Gaps
 pub mod LongRange
+pub mod Slices
+pub mod Fifteen
+pub mod Corollaries
 pub mod Cases
 pub mod Wrong

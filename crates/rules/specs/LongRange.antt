@@ -21,6 +21,7 @@ WithinRange g = (i : ℕ) → natAbs (distanceAt (g .dist) i) ≤ farthest
 -- after begin and any list of calls (proofs/LongRange.antt): 32 bits hold every distance
 abbrev pub StaysWithinRange : Type 0
 StaysWithinRange =
-    (s : Sides) (T : ℕ) (values dist : List ℤ) (status : List ℕ) (r : Record) → begin s T values dist status .answer ≡ done r → (calls : List Call)
-    → let b = begin s T values dist status in
+    (s : Sides) (T : ℕ) (values : List ℤ) (marks : List ℕ) (dist : List ℤ) (status : List ℕ) (r : Record)
+    → begin s T values marks dist status .answer ≡ done r → (calls : List Call)
+    → let b = begin s T values marks dist status in
     WithinRange (run calls (state r (b .lent .dist) (b .lent .status)) .end)

@@ -16,6 +16,7 @@ use Rattle.rules.specs.Grid.{fitSides, size, voxels, onBorder, isNegativ
 use Rattle.rules.specs.Checks.{Check, _when_, unless}
 use Rattle.rules.specs.Answer.{Reply, refused, done, Outcome, outcome, untouched, Buffers, buffers, Carving, Removal, Opening}
 use Rattle.rules.specs.Status.{statusOf, isKept, anyPending, testAt, firstOf, without, carving, openable}
+use Rattle.rules.specs.Marks.{Marked, marked, strayMark, wrongMarks}
 
 -- what a call is given and lent
 pub record State : Type 0 where
@@ -29,7 +30,7 @@ state r d s = record { rec = r; dist = d; status = s }
 abbrev pub lentTo : State → Buffers
 lentTo g = buffers (g .dist) (g .status)
 
--- ---- S, to a call on an unfinished grid, is the voxels of negative worked distance: only a voxel outside it may go
+-- ---- S, to a call on an unfinished grid, is the voxels of negative worked distance
 
 unfoldable pub isInside : List ℤ → ℕ → Bool
 isInside dist i = isNegative (distanceAt dist i)
@@ -37,10 +38,18 @@ isInside dist i = isNegative (distanceAt dist i)
 unfoldable pub outside : List ℤ → ℕ → Bool
 outside dist i = not (isInside dist i)
 
--- ---- the greatest worked distance goes ahead
+-- ---- who may go: a voxel outside S that is not pinned
+
+unfoldable pub mayGo : Marked → List ℤ → ℕ → Bool
+mayGo m dist i = outside dist i && not (m .pinned i)
+
+-- ---- who goes ahead: open takes the greatest worked distance, carve a hurried voxel before all others and then the greatest worked distance
 
 unfoldable pub farther : List ℤ → ℕ → ℕ → Bool
 farther dist i j = ltZ (distanceAt dist j) (distanceAt dist i)
+
+unfoldable pub sooner : Marked → List ℤ → ℕ → ℕ → Bool
+sooner m dist i j = cond (m .hurried i) (not (m .hurried j) || farther dist i j) (not (m .hurried j) && farther dist i j)
 
 -- ---- the record after a call: how much each count grows
 
@@ -75,7 +84,8 @@ unfit g = unfitCounts (g .rec) || any (unfitVoxel (g .rec .sides) (g .dist) (g .
 unfoldable pub wrongLength : State → Bool
 wrongLength g = not (eqb (length (g .dist)) (size (g .rec .sides)) && eqb (length (g .status)) (size (g .rec .sides)))
 
--- ---- the checks that calls share: 1, 2, 7 on any state, then 8 on one that is to be unfinished, or 9 on one that is to be finished
+-- ---- the checks that calls share: 1, 2, 7 on any state, then 8 on one that is to be unfinished, or 9 on one that is to be finished; with marks
+-- their length is n, else 2, and 29 comes after 7
 
 abbrev pub stateChecks : State → List Check
 stateChecks g =
@@ -90,12 +100,21 @@ workingChecks g = stateChecks g ++ (8 when g .rec .finished ∷ [])
 abbrev pub finishedChecks : State → List Check
 finishedChecks g = stateChecks g ++ (9 when not (g .rec .finished) ∷ [])
 
+abbrev pub markedChecks : List ℕ → State → List Check
+markedChecks marks g =
+    1 when not (fitSides (g .rec .sides))
+    ∷ 2 when (wrongLength g || wrongMarks (g .rec .sides) marks)
+    ∷ 7 when unfit g
+    ∷ 29 when strayMark marks
+    ∷ 8 when g .rec .finished
+    ∷ []
+
 -- ---- carve
 
-unfoldable pub carved : ℕ → State → Outcome Buffers Carving
-carved limit g =
+unfoldable pub carved : (ℕ → Bool) → (ℕ → ℕ → Bool) → ℕ → State → Outcome Buffers Carving
+carved free ahead limit g =
     let s = g .rec .sides in
-    let r = carving s (outside (g .dist)) (farther (g .dist)) limit (g .status) in
+    let r = carving s free ahead limit (g .status) in
     outcome
     (done (
     record {
@@ -107,37 +126,40 @@ carved limit g =
     ))
     (buffers (g .dist) (r .status))
 
-unfoldable pub carve : ℕ → State → Outcome Buffers Carving
-carve limit g = unless (workingChecks g) (untouched (lentTo g)) (carved limit g)
+unfoldable pub carve : List ℕ → ℕ → State → Outcome Buffers Carving
+carve marks limit g =
+    let m = marked marks in
+    unless (markedChecks marks g) (untouched (lentTo g)) (carved (mayGo m (g .dist)) (sooner m (g .dist)) limit g)
 
 -- ---- take
 
 -- a voxel, to be taken
-abbrev pub voxelChecks : ℕ → State → List Check
-voxelChecks i g =
+abbrev pub voxelChecks : Marked → ℕ → State → List Check
+voxelChecks m i g =
     5 when leb (size (g .rec .sides)) i
     ∷ 10 when not (isKept (g .status) i)
     ∷ 11 when isInside (g .dist) i
+    ∷ 30 when m .pinned i
     ∷ 12 when not (passes (testAt (g .rec .sides) (g .status) i))
     ∷ []
 
-abbrev pub takeChecks : ℕ → State → List Check
-takeChecks i g = workingChecks g ++ voxelChecks i g
+abbrev pub takeChecks : List ℕ → ℕ → State → List Check
+takeChecks marks i g = markedChecks marks g ++ voxelChecks (marked marks) i g
 
-unfoldable pub taken : ℕ → State → Outcome Buffers Removal
-taken i g =
+unfoldable pub taken : (ℕ → Bool) → ℕ → State → Outcome Buffers Removal
+taken free i g =
     let s = g .rec .sides in
     let t = testAt s (g .status) i in
-    outcome (done (record { k = t .k; m = t .m; next = count (g .rec) 0 1 0 (pos 0) })) (buffers (g .dist) (without s (outside (g .dist)) (g .status) i))
+    outcome (done (record { k = t .k; m = t .m; next = count (g .rec) 0 1 0 (pos 0) })) (buffers (g .dist) (without s free (g .status) i))
 
-unfoldable pub take : ℕ → State → Outcome Buffers Removal
-take i g = unless (takeChecks i g) (untouched (lentTo g)) (taken i g)
+unfoldable pub take : List ℕ → ℕ → State → Outcome Buffers Removal
+take marks i g = unless (takeChecks marks i g) (untouched (lentTo g)) (taken (mayGo (marked marks) (g .dist)) i g)
 
 -- ---- open
 
 -- the voxel to open: the first that may be
-unfoldable pub toOpen : State → Option ℕ
-toOpen g = firstOf (g .rec .sides) (farther (g .dist)) (openable (g .rec .sides) (outside (g .dist)) (g .status))
+unfoldable pub toOpen : (ℕ → Bool) → State → Option ℕ
+toOpen free g = firstOf (g .rec .sides) (farther (g .dist)) (openable (g .rec .sides) free (g .status))
 
 abbrev pub isNone : Option ℕ → Bool
 isNone none = true
@@ -146,30 +168,32 @@ isNone (some i) = false
 abbrev pub quietChecks : State → List Check
 quietChecks g = 13 when anyPending (g .rec .sides) (g .status) ∷ []
 
-abbrev pub openingChecks : State → List Check
-openingChecks g =
+abbrev pub openingChecks : (ℕ → Bool) → State → List Check
+openingChecks free g =
     14 when eqb (g .rec .openings) (g .rec .allowed)
-    ∷ 15 when isNone (toOpen g)
+    ∷ 15 when isNone (toOpen free g)
     ∷ []
 
-abbrev pub openChecks : State → List Check
-openChecks g = workingChecks g ++ (quietChecks g ++ openingChecks g)
+abbrev pub openChecks : List ℕ → State → List Check
+openChecks marks g = markedChecks marks g ++ (quietChecks g ++ openingChecks (mayGo (marked marks) (g .dist)) g)
 
-unfoldable pub opened : ℕ → State → Outcome Buffers Opening
-opened i g =
+unfoldable pub opened : (ℕ → Bool) → ℕ → State → Outcome Buffers Opening
+opened free i g =
     let s = g .rec .sides in
     let t = testAt s (g .status) i in
     outcome
     (done (record { index = i; k = t .k; m = t .m; next = count (g .rec) 0 1 1 (pos (t .k) -ℤ pos (t .m)) }))
-    (buffers (g .dist) (without s (outside (g .dist)) (g .status) i))
+    (buffers (g .dist) (without s free (g .status) i))
 
 -- none stands for no voxel to open, which number 15 has refused
 abbrev pub theVoxel : Option ℕ → ℕ
 theVoxel none = 0
 theVoxel (some i) = i
 
-unfoldable pub openNext : State → Outcome Buffers Opening
-openNext g = unless (openChecks g) (untouched (lentTo g)) (opened (theVoxel (toOpen g)) g)
+unfoldable pub openNext : List ℕ → State → Outcome Buffers Opening
+openNext marks g =
+    let free = mayGo (marked marks) (g .dist) in
+    unless (openChecks marks g) (untouched (lentTo g)) (opened free (theVoxel (toOpen free g)) g)
 
 -- ---- finish
 

@@ -68,14 +68,17 @@ statusWithout s free status i j =
 unfoldable pub without : Sides → (ℕ → Bool) → List ℕ → ℕ → List ℕ
 without s free status i = map (statusWithout s free status i) (voxels s)
 
--- ---- an examination: the voxel is not pending any more, and gone where it passes
+-- ---- an examination: the voxel is not pending any more, and gone where it passes and may go
+
+unfoldable pub goes : Sides → (ℕ → Bool) → List ℕ → ℕ → Bool
+goes s free status i = passes (testAt s status i) && free i
 
 abbrev pub examinedAs : Bool → Sides → (ℕ → Bool) → List ℕ → ℕ → List ℕ
 examinedAs true s free status i = without s free status i
 examinedAs false s free status i = set status i (rested (statusOf status i))
 
 unfoldable pub examine : Sides → (ℕ → Bool) → List ℕ → ℕ → List ℕ
-examine s free status i = examinedAs (passes (testAt s status i)) s free status i
+examine s free status i = examinedAs (goes s free status i) s free status i
 
 -- ---- up to so many examinations, while a voxel is pending: how many were made, how many removed, and the status bytes after them
 
@@ -89,14 +92,14 @@ progress examined removed status = record { examined = examined; removed = remov
 
 -- one examination, and what follows it
 abbrev pub counted : Bool → Progress → Progress
-counted passed rest = progress (suc (rest .examined)) (cond passed (suc (rest .removed)) (rest .removed)) (rest .status)
+counted gone rest = progress (suc (rest .examined)) (cond gone (suc (rest .removed)) (rest .removed)) (rest .status)
 
 unfoldable pub carving : Sides → (ℕ → Bool) → (ℕ → ℕ → Bool) → ℕ → List ℕ → Progress
 carving s free ahead zero status = progress 0 0 status
 carving s free ahead (suc limit) status =
     elim (firstOf s ahead (isPending status)) [
       | none ↦ progress 0 0 status
-      | some i ↦ counted (passes (testAt s status i)) (carving s free ahead limit (examine s free status i))
+      | some i ↦ counted (goes s free status i) (carving s free ahead limit (examine s free status i))
     ]
 
 -- ---- the voxels that may be opened: they have a face neighbour not kept

@@ -1,8 +1,8 @@
 -- Document 01, "What the second supplier may hold us to" and "Shortcuts that break it": machines that must be rejected, as definitions, and
--- which clause of demand 3 rejects each on a small grid; and wrong fills of gaps. proofs/Wrong.antt shows it by computation.
+-- which clause of demand 3 rejects each on a small grid; wrong fills of gaps; and marks read by another rule. proofs/Wrong.antt shows it by computation.
 use mathlib.Core.Path.{_≡_}
 use mathlib.Core.Logic.{_↔_}
-use mathlib.Core.Bool.{Bool, true, false, not, _&&_}
+use mathlib.Core.Bool.{Bool, true, false, not, cond, _&&_, _||_}
 use mathlib.Core.List.{List, [], _∷_}
 use mathlib.Core.Option.{Option, none, some}
 use Prim.Native.Nat.{ℕ, zero, suc}
@@ -16,12 +16,14 @@ use Rattle.rules.specs.Value.{isMissing}
 use Rattle.rules.specs.Grid.{apart, Voxel, voxel, voxels, onBorder, touch, shareFace, neighbourhood, measuredNegative, valueAt}
 use Rattle.rules.specs.Fill.{around, enclosed, inSome}
 use Rattle.rules.specs.Gaps.{Enclosed}
-use Rattle.rules.specs.Answer.{Reply, refused}
-use Rattle.rules.specs.Status.{isKept, isPending, firstOf, testAt, without, statusOf, rested}
-use Rattle.rules.specs.Machine.{State, state, outside, farther, count, carve, take, openNext, finish}
-use Rattle.rules.specs.Begin.{begin}
-use Rattle.rules.specs.Demand.{Sums, Demand}
-use Rattle.rules.specs.Cases.{sides, carvedTo, valuesC, caseC, caseD, valuesD, valuesArc, arc}
+use Rattle.rules.specs.Checks.{unless}
+use Rattle.rules.specs.Answer.{Reply, refused, Outcome, untouched, Buffers, Carving}
+use Rattle.rules.specs.Status.{isKept, isPending, firstOf, testAt, without, statusOf, rested, openable}
+use Rattle.rules.specs.Marks.{Marked, marked, noMarks}
+use Rattle.rules.specs.Machine.{State, state, lentTo, outside, mayGo, farther, sooner, count, markedChecks, carved, carve, toOpen, finish}
+use Rattle.rules.specs.Begin.{isIn, exposed, statusAt, begin}
+use Rattle.rules.specs.Demand.{Call, Unchanged, Sums, Demand}
+use Rattle.rules.specs.Cases.{sides, plainCarve, plainTake, plainOpen, carvedTo, valuesC, caseC, caseD, valuesD, valuesArc, arc}
 
 -- ---- a carve by another rule: whether the voxel goes, and the status bytes after it went
 
@@ -72,9 +74,11 @@ invents examined change g = state (count (g .rec) examined 0 0 change) (g .dist)
 
 -- ---- what is proved
 
--- demand 3 fails of the state, whatever the answers were, and whatever body it is said to have started from
+-- demand 3 fails of the state after calls without marks, whatever the answers were, and whatever body it is said to have started from
 abbrev pub Rejected : Sides → List ℤ → State → Type 0
-Rejected s values g = (start : ℕ → Bool) (answers : Sums) → Demand s values start g answers → ⊥
+Rejected s values g =
+    (start : ℕ → Bool) (begun : State) (calls : List Call) → Unchanged (noMarks s) begun calls → (answers : Sums)
+    → Demand s values (noMarks s) start begun calls g answers → ⊥
 
 -- a call that always answers the same is not the rule
 abbrev pub NoConstant : {I A : Type 0} → (I → Reply A) → Type 0
@@ -87,13 +91,13 @@ pub record WrongMachines : Type 0 where
   pub face-groups : Rejected (sides 4 4 3) valuesD (byFaceGroups caseD)
   pub invented-euler : Rejected (sides 4 4 3) valuesD (invents 0 (pos 1) caseD)
   -- counts that the record has and the answers have not
-  pub invented-examination : (start : ℕ → Bool) (answers : Sums) → answers .examined ≡ 0
-      → Demand (sides 4 4 3) valuesD start (invents 1 (pos 0) caseD) answers → ⊥
-  pub begin-varies : NoConstant (λ (T : ℕ). begin (sides 4 4 3) T valuesD (caseD .dist) (caseD .status) .answer)
-  pub begin-accepts : (n : ℕ) → begin (sides 4 4 3) 0 valuesD (caseD .dist) (caseD .status) .answer ≡ refused n → ⊥
-  pub carve-varies : NoConstant (λ (limit : ℕ). carve limit caseD .answer)
-  pub take-varies : NoConstant (λ (i : ℕ). take i caseD .answer)
-  pub open-varies : NoConstant (λ (T : ℕ). openNext (carvedTo 9 (caseC T)) .answer)
+  pub invented-examination : (start : ℕ → Bool) (begun : State) (calls : List Call) (answers : Sums) → answers .examined ≡ 0
+      → Demand (sides 4 4 3) valuesD (noMarks (sides 4 4 3)) start begun calls (invents 1 (pos 0) caseD) answers → ⊥
+  pub begin-varies : NoConstant (λ (T : ℕ). begin (sides 4 4 3) T valuesD (noMarks (sides 4 4 3)) (caseD .dist) (caseD .status) .answer)
+  pub begin-accepts : (n : ℕ) → begin (sides 4 4 3) 0 valuesD (noMarks (sides 4 4 3)) (caseD .dist) (caseD .status) .answer ≡ refused n → ⊥
+  pub carve-varies : NoConstant (λ (limit : ℕ). plainCarve limit caseD .answer)
+  pub take-varies : NoConstant (λ (i : ℕ). plainTake i caseD .answer)
+  pub open-varies : NoConstant (λ (T : ℕ). plainOpen (carvedTo 9 (caseC T)) .answer)
   pub finish-varies : NoConstant (λ (limit : ℕ). finish (carvedTo limit caseD) .answer)
 
 -- ---- document 02's CR 6: fills by another rule, how missing voxels are joined and which groups of them are filled
@@ -117,3 +121,51 @@ pub record WrongFills : Type 0 where
   pub by-touching : OtherThanEnclosed (fillsBy touch enclosed)
   pub at-the-border : OtherThanEnclosed (fillsBy shareFace walledIn)
   pub beside-any-value : OtherThanEnclosed (fillsBy shareFace offBorder)
+
+-- ---- document 02's CR 7: marks read by another rule
+
+-- carve by other voxels that may go, or in another order
+unfoldable pub carveBy : (Marked → List ℤ → ℕ → Bool) → (Marked → List ℤ → ℕ → ℕ → Bool) → List ℕ → ℕ → State → Outcome Buffers Carving
+carveBy free ahead marks limit g =
+    let m = marked marks in
+    unless (markedChecks marks g) (untouched (lentTo g)) (carved (free m (g .dist)) (ahead m (g .dist)) limit g)
+
+abbrev pub OtherCarve : (Marked → List ℤ → ℕ → Bool) → (Marked → List ℤ → ℕ → ℕ → Bool) → Type 0
+OtherCarve free ahead = ((marks : List ℕ) (limit : ℕ) (g : State) → carve marks limit g ≡ carveBy free ahead marks limit g) → ⊥
+
+-- begin with other voxels pending at first
+abbrev pub OtherStart : (Sides → Marked → (ℕ → Bool) → ℕ → Bool) → Type 0
+OtherStart waits =
+    ((s : Sides) (m : Marked) (S : List ℕ) (kept : ℕ → Bool) (i : ℕ)
+    → statusAt s m S kept i ≡ cond (kept i) (cond (not (isIn S i) && waits s m kept i) 3 1) 0) → ⊥
+
+-- open by other voxels, or in another order
+abbrev pub OtherOpen : (Marked → List ℤ → ℕ → Bool) → (Marked → List ℤ → ℕ → ℕ → Bool) → Type 0
+OtherOpen free ahead =
+    ((m : Marked) (g : State) → toOpen (mayGo m (g .dist)) g
+    ≡ firstOf (g .rec .sides) (ahead m (g .dist)) (openable (g .rec .sides) (free m (g .dist)) (g .status))) → ⊥
+
+-- the farther goes ahead, and a hurry tells among equals alone
+abbrev pub hurriedLast : Marked → List ℤ → ℕ → ℕ → Bool
+hurriedLast m dist i j = farther dist i j || (not (farther dist j i) && (m .hurried i && not (m .hurried j)))
+
+-- hurried voxels go ahead, and among them the index alone tells
+abbrev pub hurriedByIndex : Marked → List ℤ → ℕ → ℕ → Bool
+hurriedByIndex m dist i j = not (m .hurried j) && (m .hurried i || farther dist i j)
+
+abbrev pub outsideAlone : Marked → List ℤ → ℕ → Bool
+outsideAlone m dist i = outside dist i
+
+pub record WrongMarks : Type 0 where
+  -- a pinned voxel is woken and goes; is opened
+  pub pins-hold-nothing : OtherCarve outsideAlone sooner
+  pub opens-pinned : OtherOpen outsideAlone (λ m. farther)
+  -- hurried voxels come after the distance; by index alone; open prefers them
+  pub hurried-after-distance : OtherCarve mayGo hurriedLast
+  pub hurried-by-index : OtherCarve mayGo hurriedByIndex
+  pub hurries-unheard : OtherCarve mayGo (λ m. farther)
+  pub opens-hurried-first : OtherOpen mayGo sooner
+  -- at first only hurried voxels are pending; a hurried one only at the surface; a pinned one too
+  pub only-hurried-pending : OtherStart (λ s m kept i. m .hurried i)
+  pub hurried-at-the-surface : OtherStart (λ s m kept i. (m .hurried i || not (m .pinned i)) && exposed s kept i)
+  pub pinned-pending : OtherStart (λ s m kept i. m .hurried i || exposed s kept i)

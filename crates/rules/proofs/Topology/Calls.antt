@@ -10,27 +10,29 @@ use lib.IntN.{ℤ, pos, _+ℤ_, +ℤ-assoc, +ℤ-idr}
 use lib.ListN.{length}
 use Rattle.cells.specs.Groups.{any, filter}
 use Rattle.cells.specs.Cells.{passes}
-use Rattle.prelude.proofs.Bools.{and-true, and-one, not-true, not-both, two}
+use Rattle.prelude.proofs.Bools.{and-true, not-true, not-both, two}
 use Rattle.prelude.proofs.Lists.{Mem, any-true, mem-filter}
 use Rattle.rules.specs.declared.Sides.{Sides}
 use Rattle.rules.specs.declared.Record.{Record}
 use Rattle.rules.specs.Grid.{size, range, voxels}
 use Rattle.rules.specs.Begin.{exposed}
 use Rattle.rules.specs.Meaning.{found}
-use Rattle.rules.specs.Status.{Progress, isKept, isPending, anyPending, removable, testAt, firstOf, examine, carving, counted, openable}
-use Rattle.rules.specs.Machine.{State, after, lentTo, isInside, outside, farther, count, workingChecks, takeChecks, openChecks, finishChecks, carved}
-use Rattle.rules.specs.Machine.{taken, toOpen, isNone, opened, theVoxel, finishedOf, carve, take, openNext, finish}
+use Rattle.rules.specs.Status.{Progress, isKept, isPending, anyPending, removable, testAt, firstOf, goes, examine, carving, counted, openable}
+use Rattle.rules.specs.Marks.{Marked, marked}
+use Rattle.rules.specs.Machine.{State, after, lentTo, isInside, outside, mayGo, farther, sooner, count, markedChecks, takeChecks, openChecks}
+use Rattle.rules.specs.Machine.{finishChecks, carved, taken, toOpen, isNone, opened, theVoxel, finishedOf, carve, take, openNext, finish}
 use Rattle.rules.specs.Answer.{untouched}
 use Rattle.rules.specs.Choice.{Order}
 use Rattle.rules.specs.Fit.{Working, Takeable, Openable}
-use Rattle.rules.specs.Demand.{Call, carveUpTo, takeAt, openOne, finishIt, Sums, nothing, ofCarve, ofTake, ofOpen, call, run}
+use Rattle.rules.specs.Demand.{Call, carveUpTo, takeAt, openOne, finishIt, isRefused, refuses, Lends, AllLend, Sums, nothing}
+use Rattle.rules.specs.Demand.{ofCarve, ofTake, ofOpen, call, run}
 use Rattle.rules.proofs.Checks.{by-checks}
 use Rattle.prelude.proofs.Ranges.{any-below}
-use Rattle.rules.proofs.Foremost.{farther-order, first-foremost, first-none}
+use Rattle.rules.proofs.Foremost.{farther-order, sooner-order, first-foremost, first-none}
 use Rattle.rules.proofs.Fit as fit
 use Rattle.rules.proofs.Topology.Steps.{Tally, tally, examinedOnce, Sound, sound-taken, sound-opened, sound-examined}
 
--- ---- a run of examinations, by any order, with no voxel pinned
+-- ---- a run of examinations, by any order, that pins no voxel but those that are held
 
 none-filter : (p : ℕ → Bool) (l : List ℕ) → length (filter p l) ≡ 0 → any p l ≡ false
 none-filter p l z =
@@ -46,17 +48,8 @@ none-pending : (s : Sides) (status : List ℕ) → found s (isPending status) �
 unfolding anyPending
 none-pending s status z = none-filter (isPending status) (voxels s) z
 
-module _ (s : Sides) (S held free : ℕ → Bool) (ahead : ℕ → ℕ → Bool) (order : Order ahead) (total : ℕ)
-    (free-is : (j : ℕ) → j < size s → free j ≡ not (S j)) where
-  abbrev none-pinned : ℕ → Bool
-  none-pinned j = false
-
-  free-unpinned : (j : ℕ) → j < size s → free j ≡ (not (S j) && not (none-pinned j))
-  free-unpinned j h = free-is j h ∙ sym (and-one (not (S j)))
-
-  never-pinned : (j : ℕ) → none-pinned j ≡ true → held j ≡ true
-  never-pinned j e = absurd (true≢false (sym e))
-
+module _ (s : Sides) (S pins held free : ℕ → Bool) (ahead : ℕ → ℕ → Bool) (order : Order ahead) (total : ℕ)
+    (within : (j : ℕ) → pins j ≡ true → held j ≡ true) (free-is : (j : ℕ) → j < size s → free j ≡ (not (S j) && not (pins j))) where
   -- the counts before a run, and what it did
   abbrev grown : Tally → Progress → Tally
   grown t p = tally (p .examined + t .examined) (p .removed + t .removed) (t .opened) (t .number)
@@ -78,7 +71,7 @@ module _ (s : Sides) (S held free : ℕ → Bool) (ahead : ℕ → ℕ → Bool)
       next : Option ℕ → Progress
       next o = elim o [
         | none ↦ record { examined = 0; removed = 0; status = status }
-        | some i ↦ counted (passes (testAt s status i)) (carving s free ahead limit (examine s free status i))
+        | some i ↦ counted (goes s free status i) (carving s free ahead limit (examine s free status i))
       ]
 
       more : (u : Bool) (p : Progress) → Sound s S held total (p .status) (grown (examinedOnce u t) p)
@@ -99,9 +92,9 @@ module _ (s : Sides) (S held free : ℕ → Bool) (ahead : ℕ → ℕ → Bool)
       go none e rest = nothing-done status t sound
       go (some i) e rest =
           let first = first-foremost s ahead order (isPending status) i e in
-          more (passes (testAt s status i)) (carving s free ahead limit (examine s free status i))
-          (rest i (examinedOnce (passes (testAt s status i)) t)
-          (sound-examined s S none-pinned held free total never-pinned free-unpinned status t sound i (first .below) (first .chosen) refl))
+          more (goes s free status i) (carving s free ahead limit (examine s free status i))
+          (rest i (examinedOnce (goes s free status i) t)
+          (sound-examined s S pins held free total within free-is status t sound i (first .below) (first .chosen)))
 
   -- so many examinations, unless nothing is pending any more
   carving-examines : (limit : ℕ) (status : List ℕ)
@@ -113,7 +106,7 @@ module _ (s : Sides) (S held free : ℕ → Bool) (ahead : ℕ → ℕ → Bool)
       next : Option ℕ → Progress
       next o = elim o [
         | none ↦ record { examined = 0; removed = 0; status = status }
-        | some i ↦ counted (passes (testAt s status i)) (carving s free ahead limit (examine s free status i))
+        | some i ↦ counted (goes s free status i) (carving s free ahead limit (examine s free status i))
       ]
 
       quiet : firstOf s ahead (isPending status) ≡ none → anyPending s status ≡ false
@@ -175,6 +168,10 @@ adds-nothing g =
     }
 
 module _ (S held : ℕ → Bool) (total : ℕ) where
+  -- marks that pin no voxel but those that are held
+  abbrev pub Held : List ℕ → Type 0
+  Held marks = (j : ℕ) → marked marks .pinned j ≡ true → held j ≡ true
+
   -- what holds after a call
   pub record Keeps (g h : State) (a : Sums) : Type 0 where
     pub good : Good S held total h
@@ -187,12 +184,9 @@ module _ (S held : ℕ → Bool) (total : ℕ) where
     abbrev s : Sides
     s = g .rec .sides
 
-    free-is : g .rec .finished ≡ false → (j : ℕ) → j < size s → outside (g .dist) j ≡ not (S j)
-    unfolding outside
-    free-is f j h = ap not (good .signs f j h)
-
-    free-unpinned-is : g .rec .finished ≡ false → (j : ℕ) → j < size s → outside (g .dist) j ≡ (not (S j) && true)
-    free-unpinned-is f j h = free-is f j h ∙ sym (and-one (not (S j)))
+    pub may-go-is : (m : Marked) → g .rec .finished ≡ false → (j : ℕ) → j < size s → mayGo m (g .dist) j ≡ (not (S j) && not (m .pinned j))
+    unfolding mayGo outside
+    may-go-is m f j h = ap (λ (t : Bool). not t && not (m .pinned j)) (good .signs f j h)
 
     -- the counts as the record has them after a call
     recounted : {status : List ℕ} {t : Tally} (examined removed opened : ℕ) (change : ℤ)
@@ -204,19 +198,27 @@ module _ (S held : ℕ → Bool) (total : ℕ) where
 
     -- ---- carve
 
-    carve-keeps : (limit : ℕ) → Keeps g (call (carveUpTo limit) g .end) (call (carveUpTo limit) g .answers)
-    unfolding call carve carved
-    carve-keeps limit =
-        by-checks (untouched (lentTo g)) (carved limit g) (λ o. Keeps g (after (λ r. r .next) g o) (ofCarve (o .answer)))
-        (workingChecks g) (λ n. kept-as-is g good) (λ h. ran (fit.working g h))
+    carve-keeps : (marks : List ℕ) (limit : ℕ) → let c = carveUpTo marks limit in
+        (refuses g c ≡ false → Held marks) → Keeps g (call c g .end) (call c g .answers)
+    unfolding call refuses carve carved
+    carve-keeps marks limit =
+        by-checks (untouched (lentTo g)) (carved free ahead limit g)
+        (λ o. (isRefused (o .answer) ≡ false → Held marks) → Keeps g (after (λ r. r .next) g o) (ofCarve (o .answer)))
+        (markedChecks marks g) (λ n within. kept-as-is g good) (λ h within. ran (within refl) (fit.marking g marks h .working))
       where
-        p : Progress
-        p = carving s (outside (g .dist)) (farther (g .dist)) limit (g .status)
+        free : ℕ → Bool
+        free = mayGo (marked marks) (g .dist)
 
-        ran : Working g → Keeps g (after (λ r. r .next) g (carved limit g)) (ofCarve (carved limit g .answer))
-        ran w =
-            let sound = carving-sound s S held (outside (g .dist)) (farther (g .dist)) (farther-order (g .dist)) total (free-is (w .unfinished))
-            limit (g .status) (tallyOf (g .rec)) (good .sound) in
+        ahead : ℕ → ℕ → Bool
+        ahead = sooner (marked marks) (g .dist)
+
+        p : Progress
+        p = carving s free ahead limit (g .status)
+
+        ran : Held marks → Working g → Keeps g (after (λ r. r .next) g (carved free ahead limit g)) (ofCarve (carved free ahead limit g .answer))
+        ran within w =
+            let sound = carving-sound s S (marked marks .pinned) held free ahead (sooner-order (marked marks) (g .dist)) total within
+            (may-go-is (marked marks) (w .unfinished)) limit (g .status) (tallyOf (g .rec)) (good .sound) in
             record {
               good = record {
                 sound = recounted (p .examined) (p .removed) 0 (pos 0) (omega arith) (omega arith) (omega arith) (sym (+ℤ-idr (g .rec .euler))) sound;
@@ -227,17 +229,22 @@ module _ (S held : ℕ → Bool) (total : ℕ) where
 
     -- ---- take
 
-    take-keeps : (i : ℕ) → Keeps g (call (takeAt i) g .end) (call (takeAt i) g .answers)
-    unfolding call take taken
-    take-keeps i =
-        by-checks (untouched (lentTo g)) (taken i g) (λ o. Keeps g (after (λ r. r .next) g o) (ofTake (o .answer)))
-        (takeChecks i g) (λ n. kept-as-is g good) (λ h. went (fit.takeable g i h))
+    take-keeps : (marks : List ℕ) (i : ℕ) → let c = takeAt marks i in
+        (refuses g c ≡ false → Held marks) → Keeps g (call c g .end) (call c g .answers)
+    unfolding call refuses take taken
+    take-keeps marks i =
+        by-checks (untouched (lentTo g)) (taken free i g)
+        (λ o. (isRefused (o .answer) ≡ false → Held marks) → Keeps g (after (λ r. r .next) g o) (ofTake (o .answer)))
+        (takeChecks marks i g) (λ n within. kept-as-is g good) (λ h within. went (within refl) (fit.takeable g marks i h))
       where
-        went : Takeable i g → Keeps g (after (λ r. r .next) g (taken i g)) (ofTake (taken i g .answer))
-        went t =
-            let f = t .working .unfinished in
-            let sound = sound-taken s S (λ j. false) held (outside (g .dist)) total (λ j e. absurd (true≢false (sym e))) (free-unpinned-is f)
-            (g .status) (tallyOf (g .rec)) (good .sound) i (t .kept) (sym (good .signs f i (t .below)) ∙ t .outer) refl (t .passing) in
+        free : ℕ → Bool
+        free = mayGo (marked marks) (g .dist)
+
+        went : Held marks → Takeable marks i g → Keeps g (after (λ r. r .next) g (taken free i g)) (ofTake (taken free i g .answer))
+        went within t =
+            let f = t .marking .working .unfinished in
+            let sound = sound-taken s S (marked marks .pinned) held free total within (may-go-is (marked marks) f)
+            (g .status) (tallyOf (g .rec)) (good .sound) i (t .kept) (sym (good .signs f i (t .below)) ∙ t .outer) (t .unpinned) (t .passing) in
             record {
               good = record {
                 sound = recounted 0 1 0 (pos 0) (omega arith) (omega arith) (omega arith) (sym (+ℤ-idr (g .rec .euler))) sound;
@@ -248,24 +255,30 @@ module _ (S held : ℕ → Bool) (total : ℕ) where
 
     -- ---- open
 
-    open-keeps : Keeps g (call openOne g .end) (call openOne g .answers)
-    unfolding call openNext
-    open-keeps =
-        by-checks (untouched (lentTo g)) (opened (theVoxel (toOpen g)) g) (λ o. Keeps g (after (λ r. r .next) g o) (ofOpen (o .answer)))
-        (openChecks g) (λ n. kept-as-is g good) (λ h. through (fit.openable g h) (toOpen g) refl)
+    open-keeps : (marks : List ℕ) → let c = openOne marks in
+        (refuses g c ≡ false → Held marks) → Keeps g (call c g .end) (call c g .answers)
+    unfolding call refuses openNext
+    open-keeps marks =
+        by-checks (untouched (lentTo g)) (opened free (theVoxel (toOpen free g)) g)
+        (λ o. (isRefused (o .answer) ≡ false → Held marks) → Keeps g (after (λ r. r .next) g o) (ofOpen (o .answer)))
+        (openChecks marks g) (λ n within. kept-as-is g good)
+        (λ h within. through (within (unfold opened in refl)) (fit.openable g marks h) (toOpen free g) refl)
       where
-        through : Openable g → (o : Option ℕ) → toOpen g ≡ o
-            → Keeps g (after (λ r. r .next) g (opened (theVoxel o) g)) (ofOpen (opened (theVoxel o) g .answer))
-        through w none e = absurd (true≢false (ap isNone (sym e) ∙ w .found))
-        through w (some i) e =
+        free : ℕ → Bool
+        free = mayGo (marked marks) (g .dist)
+
+        through : Held marks → Openable marks g → (o : Option ℕ) → toOpen free g ≡ o
+            → Keeps g (after (λ r. r .next) g (opened free (theVoxel o) g)) (ofOpen (opened free (theVoxel o) g .answer))
+        through within w none e = absurd (true≢false (ap isNone (sym e) ∙ w .found))
+        through within w (some i) e =
             unfold opened in
             let f = w .quiet .working .unfinished in
-            let first = first-foremost s (farther (g .dist)) (farther-order (g .dist)) (openable s (outside (g .dist)) (g .status)) i (unfold toOpen in e) in
-            let o = and-true (removable (outside (g .dist)) (g .status) i) (exposed s (isKept (g .status)) i) (unfold openable in first .chosen) in
-            let r = and-true (isKept (g .status) i) (outside (g .dist) i) (unfold removable in o .0) in
-            let outer : S i ≡ false = not-true (S i) (sym (free-is f i (first .below)) ∙ r .1) in
-            let sound = sound-opened s S (λ j. false) held (outside (g .dist)) total (λ j e. absurd (true≢false (sym e))) (free-unpinned-is f)
-            (g .status) (tallyOf (g .rec)) (good .sound) i (r .0) outer refl (o .1) in
+            let first = first-foremost s (farther (g .dist)) (farther-order (g .dist)) (openable s free (g .status)) i (unfold toOpen in e) in
+            let o = and-true (removable free (g .status) i) (exposed s (isKept (g .status)) i) (unfold openable in first .chosen) in
+            let r = and-true (isKept (g .status) i) (free i) (unfold removable in o .0) in
+            let u = and-true (not (S i)) (not (marked marks .pinned i)) (sym (may-go-is (marked marks) f i (first .below)) ∙ r .1) in
+            let sound = sound-opened s S (marked marks .pinned) held free total within (may-go-is (marked marks) f)
+            (g .status) (tallyOf (g .rec)) (good .sound) i (r .0) (not-true (S i) (u .0)) (not-true (marked marks .pinned i) (u .1)) (o .1) in
             record {
               good = record {
                 sound = recounted 0 1 1 _ (omega arith) (omega arith) (omega arith) refl sound;
@@ -297,20 +310,20 @@ module _ (S held : ℕ → Bool) (total : ℕ) where
 
   -- ---- any list of calls
 
-  pub call-keeps : (c : Call) (g : State) → Good S held total g → Keeps g (call c g .end) (call c g .answers)
-  call-keeps (carveUpTo limit) g good = carve-keeps g good limit
-  call-keeps (takeAt i) g good = take-keeps g good i
-  call-keeps openOne g good = open-keeps g good
-  call-keeps finishIt g good = finish-keeps g good
+  pub call-keeps : (c : Call) (g : State) → (refuses g c ≡ false → Lends Held c) → Good S held total g → Keeps g (call c g .end) (call c g .answers)
+  call-keeps (carveUpTo marks limit) g within good = carve-keeps g good marks limit within
+  call-keeps (takeAt marks i) g within good = take-keeps g good marks i within
+  call-keeps (openOne marks) g within good = open-keeps g good marks within
+  call-keeps finishIt g within good = finish-keeps g good
 
-  pub run-keeps : (cs : List Call) (g : State) → Good S held total g → Keeps g (run cs g .end) (run cs g .answers)
+  pub run-keeps : (cs : List Call) (g : State) → AllLend Held g cs → Good S held total g → Keeps g (run cs g .end) (run cs g .answers)
   unfolding run
-  run-keeps [] g good = kept-as-is g good
-  run-keeps (c ∷ cs) g good =
-      let first = call-keeps c g good in
+  run-keeps [] g within good = kept-as-is g good
+  run-keeps (c ∷ cs) g within good =
+      let first = call-keeps c g (within .0) good in
       let h = call c g .end in
       let a = call c g .answers in
-      let rest = run-keeps cs h (first .good) in
+      let rest = run-keeps cs h (within .1) (first .good) in
       let p = first .adds in
       let q = rest .adds in
       record {

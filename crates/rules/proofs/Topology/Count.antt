@@ -1,5 +1,6 @@
 -- How many voxels pass a test.
 use mathlib.Core.Path.{_≡_, refl, ap}
+use mathlib.Core.Logic.{inl, inr}
 use mathlib.Core.Bool.{Bool, true, false, _||_}
 use mathlib.Core.List.{List, [], _∷_}
 use Prim.Native.Nat.{ℕ, zero, suc, _+_, _≤_, _<_}
@@ -10,6 +11,7 @@ use lib.ListN.{length}
 use borrow.Author.Tests.{eq-eqb, ne-eqb}
 use Rattle.cells.specs.Groups.{any, filter}
 use Rattle.cells.specs.Cells.{bit}
+use Rattle.prelude.proofs.Bools.{true-or}
 use Rattle.prelude.proofs.Lists.{Mem, here, there, filter-ext}
 use Rattle.prelude.proofs.Counts.{length-filter}
 use Rattle.rules.specs.declared.Sides.{Sides}
@@ -17,7 +19,7 @@ use Rattle.rules.specs.Grid.{size, range, voxels}
 use Rattle.rules.specs.Meaning.{found}
 use Rattle.prelude.proofs.Ranges.{range-mem, mem-range, length-range}
 use Rattle.rules.proofs.Topology.Surface.{omit, omit-true}
-use Rattle.rules.proofs.Topology.Removal.{omit-self}
+use Rattle.rules.proofs.Topology.Removal.{omit-self, omit-split}
 
 countIn : (ℕ → Bool) → List ℕ → ℕ
 countIn p l = length (filter p l)
@@ -98,15 +100,28 @@ module _ (s : Sides) where
   unfolding countIn
   found-or p q = or-in p q (voxels s)
 
-  pub found-omit : (p : ℕ → Bool) (i : ℕ) → i < size s → p i ≡ true → suc (found s (omit p i)) ≤ found s p
-  unfolding countIn voxels
-  found-omit p i h e = omit-in p i (voxels s) (mem-range 0 (size s) i (omega arith) (omega arith)) e
-
   -- at most as many as a list has
   pub found-list : (xs : List ℕ) → found s (λ j. any (eqb j) xs) ≤ length xs
   unfolding any countIn voxels
   found-list [] = omega (arith, none-in (voxels s))
   found-list (x ∷ xs) = omega (arith, or-in (λ j. eqb j x) (λ j. any (eqb j) xs) (voxels s), at-range x 0 (size s) .0, found-list xs)
+
+  -- one voxel fewer
+  pub found-omit : (p : ℕ → Bool) (i : ℕ) → i < size s → p i ≡ true → suc (found s (omit p i)) ≡ found s p
+  unfolding countIn voxels any
+  found-omit p i h e =
+      omega (
+        arith,
+        omit-in p i (voxels s) (mem-range 0 (size s) i (omega arith) (omega arith)) e,
+        found-or (omit p i) (λ j. any (eqb j) (i ∷ [])),
+        found-list (i ∷ []),
+        found-mono p (λ j. omit p i j || any (eqb j) (i ∷ [])) among,
+      )
+    where
+      among : (j : ℕ) → p j ≡ true → (omit p i j || any (eqb j) (i ∷ [])) ≡ true
+      among j e =
+          true-or (omit p i j) (any (eqb j) (i ∷ []))
+          (elim (omit-split p i j e) [ inl q ↦ inr (unfold any in ap (λ (t : Bool). t || false) (eq-eqb j i q)) | inr o ↦ inl o ])
 
   -- tests that agree on the grid
   pub found-same : (p q : ℕ → Bool) → ((j : ℕ) → j < size s → p j ≡ q j) → found s p ≡ found s q

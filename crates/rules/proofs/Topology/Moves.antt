@@ -118,7 +118,7 @@ module _ (s : Sides) (S : ℕ → Bool) where
     pub waiting : (j : ℕ) → g .pending j ≡ true → (g .kept j ≡ true) × (S j ≡ false)
     pub failing : (j : ℕ) → g .kept j ≡ true → S j ≡ false → held j ≡ false → g .pending j ≡ false → passes (test (neighbourhood s (g .kept) j)) ≡ false
     pub bounded : g .examined + found s (g .pending) ≤ total + 26 * g .removed
-    pub spent : found s (g .kept) + g .removed ≤ total
+    pub spent : found s (g .kept) + g .removed ≡ total
 
   -- ---- any starting body: of the voxels that none holds, each kept one outside S that has a face neighbour not kept is pending
   pub record Start (held kept pending : ℕ → Bool) : Type 0 where
@@ -285,10 +285,3 @@ module _ (s : Sides) (S : ℕ → Bool) where
       inv-gone held total pins sub g inv i ki si (g .examined) (suc (g .opened)) (g .number +ℤ eulerChange s (g .kept) i)
       (shape-opened s (g .kept) (g .opened) (g .number) (inv .shape) i ki e)
       (omega (arith, fewer held total pins sub g inv i ki si, inv .bounded))
-
-  -- no move takes a voxel that it pins
-  pub pinned-stays : (pins : ℕ → Bool) {g h : Sets} → Move pins g h → (j : ℕ) → pins j ≡ true → g .kept j ≡ true → h .kept j ≡ true
-  pinned-stays pins (stayed i pi e) j pj kj = kj
-  pinned-stays pins {g} (passed i pi fi e) j pj kj = true-omit (g .kept) i j kj (λ q. not-both (pins j) pj (ap pins q ∙ fi))
-  pinned-stays pins {g} (taken i ki si fi e) j pj kj = true-omit (g .kept) i j kj (λ q. not-both (pins j) pj (ap pins q ∙ fi))
-  pinned-stays pins {g} (opened-up i ki si fi e) j pj kj = true-omit (g .kept) i j kj (λ q. not-both (pins j) pj (ap pins q ∙ fi))

@@ -10,12 +10,14 @@ use lib.Dec.{ltb, eqb}
 use lib.ListN.{length}
 use lib.IntN.{ℤ, pos, negsuc}
 use borrow.Author.Tests.{lt-ltb, le-ltb, eqb-false}
-use Rattle.prelude.proofs.Bools.{and-true, true-and, or-false, not-true, not-both}
+use Rattle.prelude.proofs.Bools.{and-true, true-and, true-or, or-false, not-true, not-both, two}
 use Rattle.prelude.proofs.Lists.{Mem, any-ext}
 use Rattle.rules.specs.declared.Sides.{Sides}
 use Rattle.rules.specs.Grid.{size, Voxel, index, voxel, voxels, end, onBorder, neighbour, neighbourhood, facePositions}
 use Rattle.rules.specs.Grid.{measuredNegative, measuredNonNegative, isNegative, valueAt}
-use Rattle.rules.specs.Begin.{least, greatest, isIn, inside, facing, greatestFacing, distance, workedAt, worked, inBox, exposed, statusAt, startStatus}
+use Rattle.rules.specs.Begin.{least, greatest, isIn, inside, facing, greatestFacing, distance, workedAt, worked, inBox, exposed, waitsFirst, statusAt}
+use Rattle.rules.specs.Begin.{startStatus}
+use Rattle.rules.specs.Marks.{Marked}
 use Rattle.rules.specs.Status.{statusOf, keptByte, pendingByte, isKept, isPending}
 use Rattle.rules.specs.Machine.{isInside}
 use Rattle.rules.specs.Meaning.{found, negative}
@@ -125,9 +127,9 @@ worked-sign false false f w m inner outer = refl
 unfoldable pub inGrid : Sides → (ℕ → Bool) → ℕ → Bool
 inGrid s K j = ltb j (size s) && K j
 
-module _ (s : Sides) (S : List ℕ) (K : ℕ → Bool) (shape : Shape s (inGrid s K) 0 (pos 1)) (holds : (j : ℕ) → isIn S j ≡ true → inGrid s K j ≡ true) where
+module _ (s : Sides) (m : Marked) (S : List ℕ) (K : ℕ → Bool) where
   abbrev started : List ℕ
-  started = startStatus s S K
+  started = startStatus s m S K
 
   body-in-grid : (j : ℕ) → j < size s → inGrid s K j ≡ K j
   unfolding inGrid
@@ -139,19 +141,23 @@ module _ (s : Sides) (S : List ℕ) (K : ℕ → Bool) (shape : Shape s (inGrid 
 
   status-lent : length started ≡ size s
   unfolding startStatus voxels
-  status-lent = length-map-range (statusAt s S K) (size s)
+  status-lent = length-map-range (statusAt s m S K) (size s)
 
-  status-start : (j : ℕ) → j < size s → statusOf started j ≡ statusAt s S K j
+  status-start : (j : ℕ) → j < size s → statusOf started j ≡ statusAt s m S K j
   unfolding startStatus voxels
-  status-start j h = getD-map-range (statusAt s S K) 0 (size s) j h
+  status-start j h = getD-map-range (statusAt s m S K) 0 (size s) j h
 
   -- pending at first
   abbrev waits : ℕ → Bool
-  waits j = not (isIn S j) && exposed s K j
+  waits j = not (isIn S j) && waitsFirst s m K j
 
   kept-in : (j : ℕ) → j < size s → isKept started j ≡ inGrid s K j
   unfolding isKept statusAt
   kept-in j h = ap keptByte (status-start j h) ∙ kept-byte (K j) (waits j) ∙ sym (body-in-grid j h)
+
+  -- kept at first is the body to start from
+  pub kept-at-first : (j : ℕ) → j < size s → isKept started j ≡ K j
+  kept-at-first j h = kept-in j h ∙ body-in-grid j h
 
   kept-start : (j : ℕ) → isKept started j ≡ inGrid s K j
   kept-start j =
@@ -171,45 +177,52 @@ module _ (s : Sides) (S : List ℕ) (K : ℕ → Bool) (shape : Shape s (inGrid 
         | no n ↦ pending-beyond started j (omega (arith, status-lent)) ∙ sym (ap (λ (t : Bool). t && waits j) (body-beyond j (omega arith)))
       ]
 
-  -- the body by index has the same face neighbours
-  exposed-same : (j : ℕ) → inGrid s K j ≡ true → exposed s K j ≡ exposed s (inGrid s K) j
-  unfolding exposed neighbourhood
-  exposed-same j e =
-      any-ext (λ p. not (neighbourhood s K j p)) (λ p. not (neighbourhood s (inGrid s K) j p)) facePositions (λ p m.
-      let u = shape .inner j e .1 in
-      let a = neighbour-at s (voxel s j) u p (face-taxicab p m .1) in
-      let w : Voxel = neighbour (voxel s j) p in
-      ap not (
-      neighbourhood-at s K (voxel s j) w p u (a .0)
-      ∙ sym (body-in-grid (index s w) (index-lt s w (a .1)))
-      ∙ sym (neighbourhood-at s (inGrid s K) (voxel s j) w p u (a .0))))
+  module _ (shape : Shape s (inGrid s K) 0 (pos 1)) (holds : (j : ℕ) → isIn S j ≡ true → inGrid s K j ≡ true) where
+    -- the body by index has the same face neighbours
+    exposed-same : (j : ℕ) → inGrid s K j ≡ true → exposed s K j ≡ exposed s (inGrid s K) j
+    unfolding exposed neighbourhood
+    exposed-same j e =
+        any-ext (λ p. not (neighbourhood s K j p)) (λ p. not (neighbourhood s (inGrid s K) j p)) facePositions (λ p m.
+        let u = shape .inner j e .1 in
+        let a = neighbour-at s (voxel s j) u p (face-taxicab p m .1) in
+        let w : Voxel = neighbour (voxel s j) p in
+        ap not (
+        neighbourhood-at s K (voxel s j) w p u (a .0)
+        ∙ sym (body-in-grid (index s w) (index-lt s w (a .1)))
+        ∙ sym (neighbourhood-at s (inGrid s K) (voxel s j) w p u (a .0))))
 
-  -- what holds at the start, whatever voxels are held
-  pub start-sound : (held : ℕ → Bool) → Sound s (isIn S) held (found s K) started (tally 0 0 0 (pos 1))
-  start-sound held = record { inv = inv; lent = status-lent }
-    where
-      kept : isKept started ≡ inGrid s K
-      kept = fun-ext kept-start
+    -- what holds at the start, whatever voxels are held, if the pinned ones are
+    pub start-sound : (held : ℕ → Bool) → ((j : ℕ) → m .pinned j ≡ true → held j ≡ true) → Sound s (isIn S) held (found s K) started (tally 0 0 0 (pos 1))
+    start-sound held within = record { inv = inv; lent = status-lent }
+      where
+        kept : isKept started ≡ inGrid s K
+        kept = fun-ext kept-start
 
-      start : Start s (isIn S) held (isKept started) (isPending started)
-      start =
-          record {
-            shape = subst (λ (k : ℕ → Bool). Shape s k 0 (pos 1)) (sym kept) shape;
-            inside = λ j m. kept-start j ∙ holds j m;
-            waiting = λ j e.
-                let p = and-true (inGrid s K j) (waits j) (sym (pending-start j) ∙ e) in
-                (kept-start j ∙ p .0, not-true (isIn S j) (and-true (not (isIn S j)) (exposed s K j) (p .1) .0));
-            surface = λ j kj sj hj e.
-                let b : inGrid s K j ≡ true = sym (kept-start j) ∙ kj in
-                let x : exposed s K j ≡ true = exposed-same j b ∙ ap (λ (k : ℕ → Bool). exposed s k j) (sym kept) ∙ e in
-                pending-start j ∙ true-and (inGrid s K j) (waits j) b (true-and (not (isIn S j)) (exposed s K j) (ap not sj) x);
-          }
+        waits-first : (j : ℕ) → held j ≡ false → exposed s K j ≡ true → waitsFirst s m K j ≡ true
+        waits-first j h e =
+            unfold waitsFirst in
+            let free : m .pinned j ≡ false = elim (two (m .pinned j)) [ inl p ↦ not-both (held j) (within j p) h | inr p ↦ p ] in
+            true-or (m .hurried j) (not (m .pinned j) && exposed s K j) (inr (true-and (not (m .pinned j)) (exposed s K j) (ap not free) e))
 
-      inv : Inv s (isIn S) held (found s K) (sets started (tally 0 0 0 (pos 1)))
-      inv =
-          subst (λ (n : ℕ). Inv s (isIn S) held n (sets started (tally 0 0 0 (pos 1))))
-          (found-same s (isKept started) K (λ j h. kept-start j ∙ body-in-grid j h))
-          (start-inv s (isIn S) held (isKept started) (isPending started) start)
+        start : Start s (isIn S) held (isKept started) (isPending started)
+        start =
+            record {
+              shape = subst (λ (k : ℕ → Bool). Shape s k 0 (pos 1)) (sym kept) shape;
+              inside = λ j m. kept-start j ∙ holds j m;
+              waiting = λ j e.
+                  let p = and-true (inGrid s K j) (waits j) (sym (pending-start j) ∙ e) in
+                  (kept-start j ∙ p .0, not-true (isIn S j) (and-true (not (isIn S j)) (waitsFirst s m K j) (p .1) .0));
+              surface = λ j kj sj hj e.
+                  let b : inGrid s K j ≡ true = sym (kept-start j) ∙ kj in
+                  let x : exposed s K j ≡ true = exposed-same j b ∙ ap (λ (k : ℕ → Bool). exposed s k j) (sym kept) ∙ e in
+                  pending-start j ∙ true-and (inGrid s K j) (waits j) b (true-and (not (isIn S j)) (waitsFirst s m K j) (ap not sj) (waits-first j hj x));
+            }
+
+        inv : Inv s (isIn S) held (found s K) (sets started (tally 0 0 0 (pos 1)))
+        inv =
+            subst (λ (n : ℕ). Inv s (isIn S) held n (sets started (tally 0 0 0 (pos 1))))
+            (found-same s (isKept started) K kept-at-first)
+            (start-inv s (isIn S) held (isKept started) (isPending started) start)
 
 -- ---- the box of some voxels off the border
 
@@ -266,7 +279,8 @@ module _ (s : Sides) (values : List ℤ) (sides : Fit s)
       let h = negative-lt s values i (inside-members s values i m) in
       (h, border-inner s i h (inside-off-border s values clear i m))
 
-  pub box-sound : (held : ℕ → Bool) → Sound s (isIn S) held (found s (inBox s S)) (startStatus s S (inBox s S)) (tally 0 0 0 (pos 1))
-  box-sound held =
+  pub box-sound : (m : Marked) (held : ℕ → Bool) → ((j : ℕ) → m .pinned j ≡ true → held j ≡ true)
+      → Sound s (isIn S) held (found s (inBox s S)) (startStatus s m S (inBox s S)) (tally 0 0 0 (pos 1))
+  box-sound m held =
       let f = inside-some s values v some-negative in
-      start-sound s S (inBox s S) (box-shape s sides S off-border (f .0) (f .1)) (box-holds s sides S off-border (f .0) (f .1)) held
+      start-sound s m S (inBox s S) (box-shape s sides S off-border (f .0) (f .1)) (box-holds s sides S off-border (f .0) (f .1)) held
