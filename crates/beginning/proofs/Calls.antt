@@ -1,6 +1,6 @@
 -- The number of begin's checks by what the code found, and what holds where it is 0.
-use mathlib.Core.Path.{_≡_, refl, sym, _∙_}
-use mathlib.Core.Bool.{Bool, true, false, not, cond, _&&_}
+use mathlib.Core.Path.{_≡_, refl, sym, ap, _∙_}
+use mathlib.Core.Bool.{Bool, true, false, not, cond, _&&_, _||_}
 use mathlib.Core.List.{List}
 use Prim.Native.Nat.{ℕ}
 use lib.Dec.{eqb, ltb}
@@ -9,13 +9,14 @@ use lib.ListN.{length}
 use mathlib.Core.Logic.{inl, inr}
 use borrow.Author.Tests.{eqb-true, eq-eqb, lt-ltb}
 use Rattle.cells.specs.Groups.{any}
-use Rattle.prelude.proofs.Bools.{two, and-true, true-and, not-false}
+use Rattle.prelude.proofs.Bools.{two, and-true, true-and, or-false, not-false}
 use Rattle.rules.specs.declared.Sides.{Sides}
 use Rattle.rules.specs.declared.Record.{Record}
 use Rattle.rules.specs.Value.{stray}
 use Rattle.rules.specs.Grid.{fitSides, size, range, voxels, measuredNegative, valueAt}
 use Rattle.rules.specs.Checks.{firstFailing}
 use Rattle.rules.specs.Fill.{filled}
+use Rattle.rules.specs.Marks.{Marked, strayMark, wrongMarks}
 use Rattle.rules.specs.Begin.{newRecord, beginChecks, begunOn, begun}
 use Rattle.rules.specs.Answer.{done, outcome, buffers}
 use Rattle.rules.proofs.Checks.{all-hold}
@@ -24,7 +25,7 @@ use Rattle.rules.proofs.Boxes.{checked-border}
 use Rattle.gaps.specs.Work.{Accepted}
 use Rattle.beginning.specs.Work.{negativeAt, borderNegative, WorkedOut}
 
-module _ (s : Sides) (values dist : List ℤ) (status : List ℕ) where
+module _ (s : Sides) (values : List ℤ) (marks : List ℕ) (dist : List ℤ) (status : List ℕ) where
   -- the lengths are right
   abbrev pub lengths : Bool
   lengths = eqb (length values) (size s) && (eqb (length dist) (size s) && eqb (length status) (size s))
@@ -36,13 +37,13 @@ module _ (s : Sides) (values dist : List ℤ) (status : List ℕ) where
   some = any (negativeAt values) (range 0 (size s))
 
   -- the checks in turn
-  abbrev pub turns : Bool → Bool → Bool → Bool → Bool → ℕ
-  turns p q o r t = cond (not p) 1 (cond (not q) 2 (cond o 28 (cond r 3 (cond (not t) 4 0))))
+  abbrev pub turns : Bool → Bool → Bool → Bool → Bool → Bool → Bool → ℕ
+  turns p q w o v r t = cond (not p) 1 (cond (not q || w) 2 (cond o 28 (cond v 29 (cond r 3 (cond (not t) 4 0)))))
 
-  pub number-is : (p q o r t : Bool) → fitSides s ≡ p → lengths ≡ q → any stray values ≡ o → on-border ≡ r → some ≡ t
-      → firstFailing (beginChecks s values dist status) ≡ turns p q o r t
+  pub number-is : (p q w o v r t : Bool) → fitSides s ≡ p → lengths ≡ q → wrongMarks s marks ≡ w → any stray values ≡ o → strayMark marks ≡ v
+      → on-border ≡ r → some ≡ t → firstFailing (beginChecks s values marks dist status) ≡ turns p q w o v r t
   unfolding firstFailing voxels
-  number-is p q o r t e f g h i = cc
+  number-is p q w o v r t e f x g y h i = cc
 
   pub right-lengths : length values ≡ size s → length dist ≡ size s → length status ≡ size s → lengths ≡ true
   right-lengths e f g = rw (eq-eqb _ _ e, eq-eqb _ _ f, eq-eqb _ _ g)
@@ -57,29 +58,35 @@ module _ (s : Sides) (values dist : List ℤ) (status : List ℕ) where
         | inr e ↦ e
       ]
 
-  pub accepted : (n : ℕ) → n ≡ firstFailing (beginChecks s values dist status) → n ≡ 0 → Accepted s values (length dist) (length status)
-  unfolding voxels
+  pub accepted : (n : ℕ) → n ≡ firstFailing (beginChecks s values marks dist status) → n ≡ 0
+      → (Accepted s values (length dist) (length status)) × (length marks ≡ size s)
+  unfolding voxels wrongMarks
   accepted n e z =
-      let h = all-hold (beginChecks s values dist status) refl (sym e ∙ z) in
+      let h = all-hold (beginChecks s values marks dist status) refl (sym e ∙ z) in
       let lent = h .1 in
       let ranged = lent .1 in
-      let clear = ranged .1 in
+      let clear = ranged .1 .1 in
+      let long = or-false (not lengths) (wrongMarks s marks) (lent .0) in
       let w = any-below (negativeAt values) (size s) (not-false _ (clear .1 .0)) in
-      let a = and-true (eqb (length values) (size s)) (eqb (length dist) (size s) && eqb (length status) (size s)) (not-false _ (lent .0)) in
+      let a = and-true (eqb (length values) (size s)) (eqb (length dist) (size s) && eqb (length status) (size s)) (not-false _ (long .0)) in
       let b = and-true (eqb (length dist) (size s)) (eqb (length status) (size s)) (a .1) in
-      record {
-        fit = not-false _ (h .0);
-        len = eqb-true (length values) (size s) (a .0);
-        dist-len = eqb-true (length dist) (size s) (b .0);
-        status-len = eqb-true (length status) (size s) (b .1);
-        known = ranged .0;
-        border = checked-border s values (clear .0);
-        some = w .0;
-        some-negative = true-and (ltb (w .0) (size s)) (measuredNegative (valueAt values (w .0))) (lt-ltb (w .0) (size s) (w .1)) (w .2);
-      }
+      let right = eqb-true (length marks) (size s) (not-false _ (long .1)) in (
+        record {
+          fit = not-false _ (h .0);
+          len = eqb-true (length values) (size s) (a .0);
+          dist-len = eqb-true (length dist) (size s) (b .0);
+          status-len = eqb-true (length status) (size s) (b .1);
+          known = ranged .0;
+          border = checked-border s values (clear .0);
+          some = w .0;
+          some-negative = true-and (ltb (w .0) (size s)) (measuredNegative (valueAt values (w .0))) (lt-ltb (w .0) (size s) (w .1)) (w .2);
+        },
+        right,
+      )
 
--- what the work leaves is the rule's outcome
-pub begun-is : (s : Sides) (T : ℕ) (values d : List ℤ) (t : List ℕ) (r : Record) → r ≡ newRecord s T → WorkedOut s (filled s values) d t
-    → outcome (done r) (buffers d t) ≡ begun s T values
+-- what the work leaves is the rule's outcome, with marks that ask for the same
+pub begun-is : (s : Sides) (T : ℕ) (values d : List ℤ) (m m′ : Marked) (t : List ℕ) (r : Record) → r ≡ newRecord s T → m ≡ m′
+    → WorkedOut s m (filled s values) d t → outcome (done r) (buffers d t) ≡ begun s T values m′
 unfolding begun begunOn
-begun-is s T values d t r f w = λ i. outcome (done (f i)) (buffers (w .distances i) (w .statuses i))
+begun-is s T values d m m′ t r f e w =
+    (λ i. outcome (done (f i)) (buffers (w .distances i) (w .statuses i))) ∙ ap (λ (x : Marked). begunOn s T (filled s values) x) e

@@ -1,3 +1,4 @@
 pub mod Rows
 pub mod Settling
 pub mod Calls
+pub mod Meeting

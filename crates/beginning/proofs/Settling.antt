@@ -5,6 +5,7 @@ use Prim.Native.Nat.{ℕ, _+_}
 use lib.IntN.{ℤ}
 use Rattle.rules.specs.declared.Sides.{Sides}
 use Rattle.rules.specs.Fill.{filled}
+use Rattle.rules.specs.Marks.{unmarked}
 use Rattle.rules.specs.Begin.{inside}
 use Rattle.rules.specs.Meaning.{SomeVoxels}
 use Rattle.rules.proofs.Places.{fit}
@@ -40,7 +41,7 @@ module _ (s : Sides) (values : List ℤ) (n m : ℕ) (A : Accepted s values n m)
         record { fit = A .fit; len = D .len; some = v; some-in = h; some-listed = D .is v h ∙ in-distance s S some v h e }
 
     pub worked-out : (M : ℕ) → M ≡ greatestBy values d → (dist : List ℤ) → dist ≡ workedBy M values d → (b : Bounds) → Enclosed s d b
-        → (status : List ℕ) → status ≡ statusBy s b d → WorkedOut s (filled s values) dist status
+        → (status : List ℕ) → status ≡ statusBy s b d → WorkedOut s unmarked (filled s values) dist status
     worked-out M e dist f b B status g =
         record {
           distances =

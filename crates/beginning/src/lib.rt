@@ -1,4 +1,4 @@
-// Document 01's begin: the numbers 1, 2, 28, 3 and 4 of the values as given; then gaps, S, worked distances, box and status, all in the two lent
+// Document 01's begin: the numbers 1, 2, 28, 29, 3 and 4 of the values as given; then gaps, S, worked distances, box and status, all in the two lent
 // buffers.
 use rules::Begun;
 use rules::Record;
@@ -12,9 +12,12 @@ ghost use Rattle.rules.specs.Fill.{filled};
 ghost use Rattle.rules.specs.Checks.{firstFailing};
 ghost use Rattle.rules.specs.Begin.{newRecord, beginChecks, begin as beginOf};
 ghost use Rattle.rules.specs.Answer.{outcome, buffers, begunAnswer};
+ghost use Rattle.rules.specs.Marks.{unmarked, marked};
 ghost use Rattle.loops.specs.Rows.{Row};
+ghost use Rattle.loops.specs.InPlace.{Each};
+ghost use Rattle.marks.specs.Lent.{All};
 ghost use Rattle.gaps.specs.Work.{Accepted};
-ghost use Rattle.beginning.specs.Work.{negativeAt, borderNegative, Sized, WorkedOut};
+ghost use Rattle.beginning.specs.Work.{negativeAt, borderNegative, metOf, metAt, Sized, WorkedOut};
 
 // Whether a value from first up to end is measured and negative.
 fn any_negative(values: &[i32], first: usize, end: usize) -> bool
@@ -64,8 +67,10 @@ fn border_negative(sides: Sides, values: &[i32]) -> bool
 }
 
 // The number of the first check that fails, or 0.
-fn refusal(sides: Sides, values: &[i32], dist: &[i32], status: &[u8]) -> u8
-    ensures { λ r. ⌜ r ≡ firstFailing (beginChecks sides (now (values .entry)) (now (dist .entry)) (now (status .entry))) ⌝ }
+fn refusal(sides: Sides, values: &[i32], marks: &[u8], dist: &[i32], status: &[u8], all: u8) -> u8
+    requires { ⌜ All (now marks) all ⌝ }
+    ensures { λ r. ⌜
+        r ≡ firstFailing (beginChecks sides (now (values .entry)) (now (marks .entry)) (now (dist .entry)) (now (status .entry))) ⌝ }
 {
     if !sizes::fit_sides(sides) {
         return 1;
@@ -80,8 +85,14 @@ fn refusal(sides: Sides, values: &[i32], dist: &[i32], status: &[u8]) -> u8
     if status.len() != n {
         return 2;
     }
+    if marks.len() != n {
+        return 2;
+    }
     if values::any_beyond(values, 1000000000) {
         return 28;
+    }
+    if 3 < all {
+        return 29;
     }
     if border_negative(sides, values) {
         return 3;
@@ -107,10 +118,10 @@ fn new_record(sides: Sides, allowed: u16) -> Record
     }
 }
 
-// The work on a grid that is not refused.
+// The work on a grid that is not refused, with no mark.
 fn work_out(dist: &mut [i32], status: &mut [u8], sides: Sides, values: &[i32])
     requires { ⌜ Accepted sides (now values) (length (now dist)) (length (now status)) ⌝ }
-    ensures { λ _. ⌜ WorkedOut sides (filled sides (now (values .entry))) (now (dist .exit)) (now (status .exit)) ⌝ }
+    ensures { λ _. ⌜ WorkedOut sides unmarked (filled sides (now (values .entry))) (now (dist .exit)) (now (status .exit)) ⌝ }
 {
     let far = (sides.a + sides.b + sides.c) as u8;
     components::find(status, dist, sides, values, far);
@@ -121,23 +132,71 @@ fn work_out(dist: &mut [i32], status: &mut [u8], sides: Sides, values: &[i32])
     bounding_box::settle(status, b, sides);
 }
 
+// The status of a kept voxel that is pending.
+const PENDING: u8 = 3;
+
+// The status of a voxel at first, by the one without marks: of the kept voxels outside S those hurried are pending, and those only pinned are not.
+fn met(d: i32, hurried: bool, pinned: bool, x: u8) -> u8
+    ensures { λ r. ⌜ r ≡ metOf d hurried pinned x ⌝ }
+{
+    if (d < 0) | (x == 0) {
+        return x;
+    }
+    if hurried {
+        return PENDING;
+    }
+    if pinned {
+        return 1;
+    }
+    x
+}
+
+// The same for each voxel that has a mark.
+fn meet(status: &mut [u8], dist: &[i32], marks: &[u8])
+    requires { ⌜ (length (now marks) ≤ length (now status)) × (length (now dist) ≡ length (now status)) ⌝ }
+    ensures { λ _. ⌜ Each 0 (metAt (now (dist .entry)) (marked (now (marks .entry)))) 0 (length (now (marks .entry))) (now (status .entry))
+        (now (status .exit)) ⌝ }
+{
+    let mut i = 0;
+    while i < marks.len() {
+        let d = dist[i];
+        let h = marks::hurried(marks, i);
+        let p = marks::pinned(marks, i);
+        let v = met(d, h, p, status[i]);
+        status[i] = v;
+        i += 1;
+    }
+}
+
+// The work with marks, of which no more are handed on than voxels.
+fn work_with(dist: &mut [i32], status: &mut [u8], sides: Sides, values: &[i32], marks: &[u8])
+    requires { ⌜ Accepted sides (now values) (length (now dist)) (length (now status)) × (length (now marks) ≤ size sides) ⌝ }
+    ensures { λ _. ⌜ WorkedOut sides (marked (now (marks .entry))) (filled sides (now (values .entry))) (now (dist .exit)) (now (status .exit)) ⌝ }
+{
+    work_out(dist, status, sides, values);
+    meet(status, dist, marks);
+}
+
 // Fills in the worked distances and the status of a new grid, and returns its record. A refusal writes nothing.
 pub fn begin(
     sides: Sides,
     allowed: u16,
     values: &[i32],
+    marks: &[u8],
     dist: &mut [i32],
     status: &mut [u8],
 ) -> Begun
     ensures { λ r. ⌜
         outcome (begunAnswer r) (buffers (now (dist .exit)) (now (status .exit)))
-        ≡ beginOf sides allowed (now (values .entry)) (now (dist .entry)) (now (status .entry))
+        ≡ beginOf sides allowed (now (values .entry)) (now (marks .entry)) (now (dist .entry)) (now (status .entry))
         ⌝ }
 {
-    let number = refusal(sides, values, dist, status);
+    let all = marks::all(marks);
+    let number = refusal(sides, values, marks, dist, status, all);
     if number != 0 {
         return Begun::Refused(number);
     }
-    work_out(dist, status, sides, values);
+    let n = marks::used(all, marks.len());
+    work_with(dist, status, sides, values, &marks[..n]);
     Begun::Ready(new_record(sides, allowed))
 }

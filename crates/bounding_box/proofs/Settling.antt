@@ -12,7 +12,8 @@ use borrow.Author.Tests.{eq-eqb, ne-eqb, eqb-true, eqb-false, le-leb, leb-true, 
 use Rattle.prelude.proofs.Bools.{two, and-true, true-and, both-ways, and-zero, and-one, or-one, or-zero}
 use Rattle.rules.specs.declared.Sides.{Sides}
 use Rattle.rules.specs.Grid.{Voxel, range, size, voxel, voxels}
-use Rattle.rules.specs.Begin.{isIn, distance, inBox, statusAt, startStatus}
+use Rattle.rules.specs.Marks.{unmarked}
+use Rattle.rules.specs.Begin.{isIn, distance, inBox, waitsFirst, statusAt, startStatus}
 use Rattle.rules.specs.Meaning.{SomeVoxels, Between}
 use Rattle.rules.proofs.Places.{Fit, fit, InGrid, voxel-in}
 use Rattle.rules.proofs.Distance.{in-eqb}
@@ -247,8 +248,8 @@ module _ (s : Sides) (F : Fit s) (S : List ℕ) (some : SomeVoxels s S) (d : Lis
         along-z = spanned-between (λ u. u .z) (s .c) (b .z0) (b .z1) Z (λ j l. in-grid j l .z-in) k (q .1);
       }))
 
-  status-same : (k : ℕ) → k < size s → statusIn b (voxel s k) (getD d k 0) ≡ statusAt s S (inBox s S) k
-  unfolding statusIn statusAt
+  status-same : (k : ℕ) → k < size s → statusIn b (voxel s k) (getD d k 0) ≡ statusAt s unmarked S (inBox s S) k
+  unfolding statusIn statusAt waitsFirst
   status-same k h =
       ap₂ (λ (w t : Bool). cond {A = ℕ} w (cond (not t && onSide b (voxel s k)) 3 1) 0) (sym (box-within k h)) (sym (zero-in k h))
       ∙ elim (two (inBox s S k)) [
@@ -258,8 +259,8 @@ module _ (s : Sides) (F : Fit s) (S : List ℕ) (some : SomeVoxels s S) (d : Lis
         | inr e ↦ rw e
       ]
 
-  pub status-is : statusBy s b d ≡ startStatus s S (inBox s S)
+  pub status-is : statusBy s b d ≡ startStatus s unmarked S (inBox s S)
   unfolding statusBy startStatus voxels
   status-is =
       ap (λ (n : ℕ). map (λ k. statusIn b (voxel s k) (getD d k 0)) (range 0 n)) len
-      ∙ map-same (λ k. statusIn b (voxel s k) (getD d k 0)) (statusAt s S (inBox s S)) 0 (size s) status-same
+      ∙ map-same (λ k. statusIn b (voxel s k) (getD d k 0)) (statusAt s unmarked S (inBox s S)) 0 (size s) status-same

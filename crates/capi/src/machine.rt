@@ -15,54 +15,62 @@ use replies::TakeAnswer;
 use rules::Sides;
 
 #[no_mangle]
-pub extern "C" fn wattlerugby_begin_6(
+pub extern "C" fn wattlerugby_begin_8(
     sides: Sides,
     allowed: u16,
     values: &[i32],
+    marks: &[u8],
     dist: &mut [i32],
     status: &mut [u8],
 ) -> BeginAnswer
     ensures { λ r. ⌜ returned r (buffers (now (dist .exit)) (now (status .exit)))
-        ≡ writtenOut beginStruct (begin sides allowed (now (values .entry)) (now (dist .entry)) (now (status .entry))) ⌝ }
+        ≡ writtenOut beginStruct (begin sides allowed (now (values .entry)) (now (marks .entry)) (now (dist .entry)) (now (status .entry))) ⌝ }
 {
-    replies::begin_answer(beginning::begin(sides, allowed, values, dist, status))
+    replies::begin_answer(beginning::begin(sides, allowed, values, marks, dist, status))
 }
 
 #[no_mangle]
-pub extern "C" fn wattlerugby_carve(
+pub extern "C" fn wattlerugby_carve_8(
     given: CRecord,
     dist: &[i32],
+    marks: &[u8],
     status: &mut [u8],
     limit: u32,
 ) -> CarveAnswer
     ensures { λ r. ⌜ returned r (buffers (now (dist .entry)) (now (status .exit)))
-        ≡ writtenOut (carveStruct given) (machine.carve limit (state (recordIn given) (now (dist .entry)) (now (status .entry)))) ⌝ }
+        ≡ writtenOut (carveStruct given) (machine.carve (now (marks .entry)) limit (state (recordIn given) (now (dist .entry)) (now (status .entry)))) ⌝ }
 {
     let r = replies::record_in(given);
-    replies::carve_answer(given, carving::carve(r, dist, status, limit))
+    replies::carve_answer(given, carving::carve(r, dist, marks, status, limit))
 }
 
 #[no_mangle]
-pub extern "C" fn wattlerugby_take(
+pub extern "C" fn wattlerugby_take_8(
     given: CRecord,
     dist: &[i32],
+    marks: &[u8],
     status: &mut [u8],
     index: usize,
 ) -> TakeAnswer
     ensures { λ r. ⌜ returned r (buffers (now (dist .entry)) (now (status .exit)))
-        ≡ writtenOut (takeStruct given) (machine.take index (state (recordIn given) (now (dist .entry)) (now (status .entry)))) ⌝ }
+        ≡ writtenOut (takeStruct given) (machine.take (now (marks .entry)) index (state (recordIn given) (now (dist .entry)) (now (status .entry)))) ⌝ }
 {
     let r = replies::record_in(given);
-    replies::take_answer(given, taking::take(r, dist, status, index))
+    replies::take_answer(given, taking::take(r, dist, marks, status, index))
 }
 
 #[no_mangle]
-pub extern "C" fn wattlerugby_open(given: CRecord, dist: &[i32], status: &mut [u8]) -> OpenAnswer
+pub extern "C" fn wattlerugby_open_8(
+    given: CRecord,
+    dist: &[i32],
+    marks: &[u8],
+    status: &mut [u8],
+) -> OpenAnswer
     ensures { λ r. ⌜ returned r (buffers (now (dist .entry)) (now (status .exit)))
-        ≡ writtenOut (openStruct given) (machine.openNext (state (recordIn given) (now (dist .entry)) (now (status .entry)))) ⌝ }
+        ≡ writtenOut (openStruct given) (machine.openNext (now (marks .entry)) (state (recordIn given) (now (dist .entry)) (now (status .entry)))) ⌝ }
 {
     let r = replies::record_in(given);
-    replies::open_answer(given, opening::open_next(r, dist, status))
+    replies::open_answer(given, opening::open_next(r, dist, marks, status))
 }
 
 #[no_mangle]

@@ -9,7 +9,8 @@ use Rattle.rules.specs.declared.Sides.{Sides}
 use Rattle.rules.specs.declared.Record.{Record}
 use Rattle.rules.specs.Grid.{size}
 use Rattle.rules.specs.Status.{anyPending, Progress}
-use Rattle.rules.specs.Machine.{State, count, carved}
+use Rattle.rules.specs.Marks.{Marked}
+use Rattle.rules.specs.Machine.{State, mayGo, sooner, count, carved}
 use Rattle.rules.specs.Answer.{done, Outcome, outcome, Buffers, buffers, Carving}
 use Rattle.rules.specs.Fit.{FitVoxels}
 use Rattle.rules.proofs.Places.{fit}
@@ -42,12 +43,13 @@ lending s dist status offsets tree f o t =
     }
 
 pub carved-is :
-    (g : State) (limit : ℕ) (after : List ℕ) (t : Tally) (next : Record)
-    → Tallied (g .rec .sides) (g .dist) limit (g .status) after t
+    (m : Marked) (g : State) (limit : ℕ) (after : List ℕ) (t : Tally) (next : Record)
+    → Tallied (g .rec .sides) m (g .dist) limit (g .status) after t
     → next ≡ count (g .rec) (t .examined) (t .removed) 0 (pos 0)
-    → outcome (done (record { examined = t .examined; removed = t .removed; pending = t .pending; next = next })) (buffers (g .dist) after) ≡ carved limit g
+    → outcome (done (record { examined = t .examined; removed = t .removed; pending = t .pending; next = next })) (buffers (g .dist) after)
+    ≡ carved (mayGo m (g .dist)) (sooner m (g .dist)) limit g
 unfolding carved
-carved-is g limit after t next r e =
+carved-is m g limit after t next r e =
     (λ j. outcome (done (record { examined = t .examined; removed = t .removed; pending = r .left j; next = e j })) (buffers (g .dist) after))
     ∙ ap told (r .rule)
   where

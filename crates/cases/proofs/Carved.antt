@@ -13,9 +13,10 @@ use Rattle.rules.specs.Value.{isMissing}
 use Rattle.rules.specs.Grid.{size}
 use Rattle.rules.specs.Checks.{unless}
 use Rattle.rules.specs.Answer.{Outcome, Buffers, untouched, buffers}
+use Rattle.rules.specs.Marks.{marked, noMarks}
 use Rattle.rules.specs.Begin.{newRecord, beginChecks, begunOn, begin}
 use Rattle.rules.specs.Machine.{State, state, after}
-use Rattle.rules.specs.Cases.{sides, start, valuesC, caseC, CarvesC, CaseC, valuesArc, arc, CarvesArc, Arc}
+use Rattle.rules.specs.Cases.{sides, startWith, start, valuesC, caseC, CarvesC, CaseC, valuesArc, arc, CarvesArc, Arc}
 use Rattle.rules.proofs.Cases.{all-rules}
 use Rattle.rules.proofs.Gaps.{measured-as-before}
 
@@ -24,15 +25,18 @@ unfoldable plain : Sides → ℕ → List ℤ → State
 plain s T values =
     let dist = replicate (length values) (pos 0) in
     let status : List ℕ = replicate (length values) 0 in
-    after (λ r. r) (state (newRecord s T) [] []) (unless (beginChecks s values dist status) (untouched (buffers dist status)) (begunOn s T values))
+    let marks = noMarks s in
+    after (λ r. r) (state (newRecord s T) [] [])
+    (unless (beginChecks s values marks dist status) (untouched (buffers dist status)) (begunOn s T values (marked marks)))
 
 start-is : (s : Sides) (T : ℕ) (values : List ℤ) → length values ≡ size s → any isMissing values ≡ false → plain s T values ≡ start s T values
-unfolding plain start begin
+unfolding plain start startWith begin
 start-is s T values n m =
     let dist = replicate (length values) (pos 0) in
     let status : List ℕ = replicate (length values) 0 in
+    let marks = noMarks s in
     ap (λ (o : Outcome Buffers Record). after (λ r. r) (state (newRecord s T) [] [])
-    (unless (beginChecks s values dist status) (untouched (buffers dist status)) o)) (sym (measured-as-before s T values n m))
+    (unless (beginChecks s values marks dist status) (untouched (buffers dist status)) o)) (sym (measured-as-before s T values (marked marks) n m))
 
 -- ---- case C
 

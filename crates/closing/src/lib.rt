@@ -15,7 +15,7 @@ use rules::Finished;
 use rules::Record;
 
 // Some voxel is pending.
-fn any_pending(status: &[u8]) -> bool
+pub fn any_pending(status: &[u8]) -> bool
     ensures { λ r. ⌜ r ≡ any (isPending (now (status .entry))) (range 0 (length (now (status .entry)))) ⌝ }
 {
     loops::joined(status, 0, status.len()) / 2 % 2 == 1
@@ -50,8 +50,8 @@ fn close(dist: &mut [i32], status: &[u8])
     }
 }
 
-// The number that refuses finish, or 0; open makes the same checks first.
-pub fn quiet_refusal(given: Record, dist: &[i32], status: &[u8]) -> u8
+// The number that refuses finish, or 0.
+fn quiet_refusal(given: Record, dist: &[i32], status: &[u8]) -> u8
     ensures { λ r. ⌜ r ≡ firstFailing (finishChecks (state given (now (dist .entry)) (now (status .entry)))) ⌝ }
 {
     let n = fitness::working_refusal(given, dist, status);

@@ -11,8 +11,9 @@ use Rattle.cells.specs.Groups.{any}
 use Rattle.cells.specs.Cells.{passes}
 use Rattle.rules.specs.declared.Sides.{Sides}
 use Rattle.rules.specs.Grid.{size, range, voxels}
-use Rattle.rules.specs.Status.{isPending, anyPending, testAt, firstOf, examine, Progress, progress, counted, carving}
-use Rattle.rules.specs.Machine.{outside, farther}
+use Rattle.rules.specs.Status.{isPending, anyPending, testAt, firstOf, goes, examine, Progress, progress, counted, carving}
+use Rattle.rules.specs.Marks.{Marked}
+use Rattle.rules.specs.Machine.{mayGo, sooner}
 use Rattle.pending.specs.declared.Choice.{Choice}
 use Rattle.pending.specs.declared.Choice.the-variants.{Nothing, At}
 use Rattle.pending.specs.Index.{chosen, Best, Index}
@@ -26,7 +27,7 @@ module _ (s : Sides) (free : ℕ → Bool) (ahead : ℕ → ℕ → Bool) (statu
   abbrev next : ℕ → Option ℕ → Progress
   next n o = elim o [
     | none ↦ progress 0 0 status
-    | some i ↦ counted (passes (testAt s status i)) (carving s free ahead n (examine s free status i))
+    | some i ↦ counted (goes s free status i) (carving s free ahead n (examine s free status i))
   ]
 
   carving-none : (n : ℕ) → firstOf s ahead (isPending status) ≡ none → carving s free ahead n status ≡ progress 0 0 status
@@ -35,7 +36,7 @@ module _ (s : Sides) (free : ℕ → Bool) (ahead : ℕ → ℕ → Bool) (statu
   carving-none (suc n) e = ap (next n) e
 
   carving-some : (n i : ℕ) → firstOf s ahead (isPending status) ≡ some i
-      → carving s free ahead (suc n) status ≡ counted (passes (testAt s status i)) (carving s free ahead n (examine s free status i))
+      → carving s free ahead (suc n) status ≡ counted (goes s free status i) (carving s free ahead n (examine s free status i))
   unfolding carving
   carving-some n i e = ap (next n) e
 
@@ -69,21 +70,23 @@ no-more examined removed status =
 
 -- ---- the loop: what remains to be carved gives the same end
 
-pub record Running (s : Sides) (dist : List ℤ) (limit : ℕ) (before offsets0 tree0 status offsets tree : List ℕ) (examined removed : ℕ) : Type 0 where
-  pub rule : onward examined removed (carving s (outside dist) (farther dist) (limit - examined) status) ≡ carving s (outside dist) (farther dist) limit before
+pub record Running (s : Sides) (mk : Marked) (dist : List ℤ) (limit : ℕ) (before offsets0 tree0 status offsets tree : List ℕ)
+    (examined removed : ℕ) : Type 0 where
+  pub rule : onward examined removed (carving s (mayGo mk dist) (sooner mk dist) (limit - examined) status)
+      ≡ carving s (mayGo mk dist) (sooner mk dist) limit before
   pub work : Workable s status
-  pub index : Index dist status offsets tree
+  pub index : Index mk dist status offsets tree
   pub up-to : examined ≤ limit
   pub fewer : removed ≤ examined
   pub statuses : length status ≡ length before
   pub stretched : length offsets ≡ length offsets0
   pub keys : length tree ≡ length tree0
 
-module _ (s : Sides) (dist : List ℤ) (limit : ℕ) (before offsets0 tree0 : List ℕ) where
+module _ (s : Sides) (mk : Marked) (dist : List ℤ) (limit : ℕ) (before offsets0 tree0 : List ℕ) where
   abbrev rest : ℕ → List ℕ → Progress
-  rest n status = carving s (outside dist) (farther dist) n status
+  rest n status = carving s (mayGo mk dist) (sooner mk dist) n status
 
-  pub running-start : Index dist before offsets0 tree0 → Workable s before → Running s dist limit before offsets0 tree0 before offsets0 tree0 0 0
+  pub running-start : Index mk dist before offsets0 tree0 → Workable s before → Running s mk dist limit before offsets0 tree0 before offsets0 tree0 0 0
   running-start i w =
       let z : limit - 0 ≡ limit = omega arith in
       let p = rest limit before in
@@ -100,12 +103,12 @@ module _ (s : Sides) (dist : List ℤ) (limit : ℕ) (before offsets0 tree0 : Li
         keys = refl;
       }
 
-  module _ (status offsets tree : List ℕ) (examined removed : ℕ) (k : Running s dist limit before offsets0 tree0 status offsets tree examined removed) where
-    first-is : (c : Choice) → Best dist status c → firstOf s (farther dist) (isPending status) ≡ chosen c
+  module _ (status offsets tree : List ℕ) (examined removed : ℕ) (k : Running s mk dist limit before offsets0 tree0 status offsets tree examined removed) where
+    first-is : (c : Choice) → Best mk dist status c → firstOf s (sooner mk dist) (isPending status) ≡ chosen c
     first-is c b = sym (b .rule s (sym (k .work .body .statuses)))
 
     ended : (c : Count) → c .examined ≡ examined → c .removed ≡ removed → rest (limit - examined) status ≡ progress 0 0 status
-        → Run s dist limit before status offsets tree c
+        → Run s mk dist limit before status offsets tree c
     ended c e x f =
         record {
           rule = ap₂ (λ (m n : ℕ). progress m n status) e x ∙ sym (no-more examined removed status) ∙ ap (onward examined removed) (sym f) ∙ k .rule;
@@ -114,38 +117,39 @@ module _ (s : Sides) (dist : List ℤ) (limit : ℕ) (before offsets0 tree0 : Li
           index = k .index;
         }
 
-    pub running-none : (c : Count) → c .examined ≡ examined → c .removed ≡ removed → Best dist status Nothing → Run s dist limit before status offsets tree c
-    running-none c e x b = ended c e x (carving-none s (outside dist) (farther dist) status (limit - examined) (first-is Nothing b))
+    pub running-none : (c : Count) → c .examined ≡ examined → c .removed ≡ removed → Best mk dist status Nothing
+        → Run s mk dist limit before status offsets tree c
+    running-none c e x b = ended c e x (carving-none s (mayGo mk dist) (sooner mk dist) status (limit - examined) (first-is Nothing b))
 
-    pub running-done : (c : Count) → c .examined ≡ examined → c .removed ≡ removed → limit ≤ examined → Run s dist limit before status offsets tree c
-    running-done c e x h = ended c e x (carving-zero s (outside dist) (farther dist) status (limit - examined) (omega arith))
+    pub running-done : (c : Count) → c .examined ≡ examined → c .removed ≡ removed → limit ≤ examined → Run s mk dist limit before status offsets tree c
+    running-done c e x h = ended c e x (carving-zero s (mayGo mk dist) (sooner mk dist) status (limit - examined) (omega arith))
 
-    module _ (i : ℕ) (b : Best dist status (At i)) where
+    module _ (i : ℕ) (b : Best mk dist status (At i)) where
       pub running-below : i < size s
       running-below = let h = b .inside i refl in omega (arith, k .work .body .statuses)
 
       pub running-step :
           (after offsets1 tree1 : List ℕ) (one : ℕ)
           → examined < limit
-          → Examined s dist status after offsets1 tree1 i one
+          → Examined s mk dist status after offsets1 tree1 i one
           → length after ≡ length status
           → length offsets1 ≡ length offsets
           → length tree1 ≡ length tree
-          → Running s dist limit before offsets0 tree0 after offsets1 tree1 (examined + 1) (removed + one)
+          → Running s mk dist limit before offsets0 tree0 after offsets1 tree1 (examined + 1) (removed + one)
       running-step after offsets1 tree1 one h x ls lo lt =
           let n : limit - examined ≡ suc (limit - (examined + 1)) = omega arith in
           let m : ℕ = limit - (examined + 1) in
           record {
             rule =
                 ap₂ (λ (c : ℕ) (l : List ℕ). onward (examined + 1) (removed + c) (rest m l)) (x .count) (x .status)
-                ∙ one-more examined removed (passes (testAt s status i)) (rest m (examine s (outside dist) status i))
-                ∙ ap (onward examined removed) (sym (carving-some s (outside dist) (farther dist) status m i (first-is (At i) b)))
+                ∙ one-more examined removed (goes s (mayGo mk dist) status i) (rest m (examine s (mayGo mk dist) status i))
+                ∙ ap (onward examined removed) (sym (carving-some s (mayGo mk dist) (sooner mk dist) status m i (first-is (At i) b)))
                 ∙ ap (λ (j : ℕ). onward examined removed (rest j status)) (sym n)
                 ∙ k .rule;
-            work = subst (Workable s) (sym (x .status)) (workable-examine s status (k .work) (outside dist) i running-below (b .pending i refl));
+            work = subst (Workable s) (sym (x .status)) (workable-examine s status (k .work) (mayGo mk dist) i running-below (b .pending i refl));
             index = x .index;
             up-to = omega arith;
-            fewer = omega (arith, one-at-most (passes (testAt s status i)), x .count, k .fewer);
+            fewer = omega (arith, one-at-most (goes s (mayGo mk dist) status i), x .count, k .fewer);
             statuses = ls ∙ k .statuses;
             stretched = lo ∙ k .stretched;
             keys = lt ∙ k .keys;
@@ -154,14 +158,14 @@ module _ (s : Sides) (dist : List ℤ) (limit : ℕ) (before offsets0 tree0 : Li
 -- ---- what is still pending
 
 pub tallied :
-    (s : Sides) (dist : List ℤ) (limit : ℕ) (before after offsets tree : List ℕ) (c : Count) (p : Bool)
+    (s : Sides) (mk : Marked) (dist : List ℤ) (limit : ℕ) (before after offsets tree : List ℕ) (c : Count) (p : Bool)
     → Workable s before
     → length after ≡ length before
-    → Run s dist limit before after offsets tree c
+    → Run s mk dist limit before after offsets tree c
     → p ≡ any (isPending after) (range 0 (length after))
-    → Tallied s dist limit before after (record { examined = c .examined; removed = c .removed; pending = p })
+    → Tallied s mk dist limit before after (record { examined = c .examined; removed = c .removed; pending = p })
 unfolding anyPending voxels
-tallied s dist limit before after offsets tree c p w l r e =
+tallied s mk dist limit before after offsets tree c p w l r e =
     record {
       rule = r .rule;
       up-to = r .up-to;

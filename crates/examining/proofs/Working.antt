@@ -15,8 +15,9 @@ use Rattle.prelude.proofs.Bools.{and-true, true-and, or-true, not-both}
 use Rattle.prelude.proofs.Ranges.{getD-map-range, length-map-range}
 use Rattle.rules.specs.declared.Sides.{Sides}
 use Rattle.rules.specs.Grid.{size, voxels, touch}
-use Rattle.rules.specs.Status.{statusOf, keptByte, pendingByte, isKept, isPending, rested, removable, testAt, statusWithout, without, examinedAs, examine}
-use Rattle.rules.specs.Machine.{outside}
+use Rattle.rules.specs.Status.{statusOf, keptByte, pendingByte, isKept, isPending, rested, removable, testAt, statusWithout, without, goes, examinedAs, examine}
+use Rattle.rules.specs.Marks.{Marked}
+use Rattle.rules.specs.Machine.{mayGo}
 use Rattle.rules.specs.Fit.{Known, FitVoxels}
 use Rattle.rules.proofs.Topology.Bytes.{rested-kept, rested-pending, still-kept, now-pending}
 use Rattle.rules.proofs.Topology.Steps.{pending-beyond}
@@ -123,7 +124,7 @@ module _ (s : Sides) (status : List ℕ) (w : Workable s status) where
 
   pub workable-examine : (free : ℕ → Bool) (i : ℕ) → i < size s → isPending status i ≡ true → Workable s (examine s free status i)
   unfolding examine
-  workable-examine free i h p = go (passes (testAt s status i))
+  workable-examine free i h p = go (goes s free status i)
     where
       go : (t : Bool) → Workable s (examinedAs t s free status i)
       go true = workable-without free i
@@ -133,25 +134,26 @@ module _ (s : Sides) (status : List ℕ) (w : Workable s status) where
 
 -- the byte that was written, as the rule has it
 pub written-as :
-    {dist : List ℤ} {before after offsets tree : List ℕ} {i x y : ℕ} → Written dist before after offsets tree i x → x ≡ y → after ≡ set before i y
+    {m : Marked} {dist : List ℤ} {before after offsets tree : List ℕ} {i x y : ℕ} → Written m dist before after offsets tree i x → x ≡ y → after
+    ≡ set before i y
 written-as {before = before} {i = i} w e = w .status ∙ ap (set before i) e
 
-module _ (s : Sides) (dist : List ℤ) (before after offsets tree : List ℕ) (i : ℕ) (r : Bool) (e : r ≡ passes (testAt s before i)) where
+module _ (s : Sides) (m : Marked) (dist : List ℤ) (before after offsets tree : List ℕ) (i : ℕ) (r : Bool) (e : r ≡ goes s (mayGo m dist) before i) where
   abbrev then : Bool → List ℕ
-  then t = examinedAs t s (outside dist) before i
+  then t = examinedAs t s (mayGo m dist) before i
 
   abbrev one : Bool → ℕ
   one t = cond t 1 0
 
-  same : (t : Bool) → r ≡ t → t ≡ passes (testAt s before i)
+  same : (t : Bool) → r ≡ t → t ≡ goes s (mayGo m dist) before i
   same t f = sym f ∙ e
 
   pub gone-examined :
-      r ≡ true → after ≡ without s (outside dist) before i → Index dist after offsets tree → Examined s dist before after offsets tree i 1
+      r ≡ true → after ≡ without s (mayGo m dist) before i → Index m dist after offsets tree → Examined s m dist before after offsets tree i 1
   unfolding examine
   gone-examined t w x = record { count = ap one (same true t); status = w ∙ ap then (same true t); index = x }
 
   pub rest-examined :
-      r ≡ false → after ≡ set before i (rested (statusOf before i)) → Index dist after offsets tree → Examined s dist before after offsets tree i 0
+      r ≡ false → after ≡ set before i (rested (statusOf before i)) → Index m dist after offsets tree → Examined s m dist before after offsets tree i 0
   unfolding examine
   rest-examined t w x = record { count = ap one (same false t); status = w ∙ ap then (same false t); index = x }

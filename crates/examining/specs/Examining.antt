@@ -5,11 +5,11 @@ use mathlib.Core.List.{List}
 use Prim.Native.Nat.{ℕ, _≤_, _<_}
 use lib.IntN.{ℤ}
 use lib.ListN.{length}
-use Rattle.cells.specs.Cells.{passes}
 use Rattle.rules.specs.declared.Sides.{Sides}
 use Rattle.rules.specs.Grid.{size}
-use Rattle.rules.specs.Status.{isKept, isPending, anyPending, testAt, examine, progress, carving}
-use Rattle.rules.specs.Machine.{outside, farther}
+use Rattle.rules.specs.Status.{isKept, isPending, anyPending, goes, examine, progress, carving}
+use Rattle.rules.specs.Marks.{Marked}
+use Rattle.rules.specs.Machine.{mayGo, sooner}
 use Rattle.neighbourhood.specs.Neighbourhood.{Inner, Body}
 use Rattle.waking.specs.Waking.{Woken, Callable}
 use Rattle.pending.specs.Index.{Room, Index}
@@ -23,49 +23,49 @@ pub record Workable (s : Sides) (status : List ℕ) : Type 0 where
 
 -- ---- waking, with the index kept
 
-pub record Callables (dist : List ℤ) (status offsets tree : List ℕ) (a l at x : ℕ) : Type 0 where
-  pub index : Index dist status offsets tree
+pub record Callables (m : Marked) (dist : List ℤ) (status offsets tree : List ℕ) (a l at x : ℕ) : Type 0 where
+  pub index : Index m dist status offsets tree
   pub bits : Callable a l at x (length status)
 
-pub record Roused (P : ℕ → Type 0) (dist : List ℤ) (before after offsets tree : List ℕ) : Type 0 where
+pub record Roused (P : ℕ → Type 0) (m : Marked) (dist : List ℤ) (before after offsets tree : List ℕ) : Type 0 where
   pub woken : Woken P before after
-  pub index : Index dist after offsets tree
+  pub index : Index m dist after offsets tree
 
 -- ---- one examination
 
 -- an inner voxel, around which others are to wake
-pub record Leaving (s : Sides) (dist : List ℤ) (status offsets tree : List ℕ) (i : ℕ) : Type 0 where
-  pub index : Index dist status offsets tree
+pub record Leaving (s : Sides) (m : Marked) (dist : List ℤ) (status offsets tree : List ℕ) (i : ℕ) : Type 0 where
+  pub index : Index m dist status offsets tree
   pub statuses : length status ≡ size s
   pub voxel : Inner s i
 
 -- a pending voxel
-pub record Examinable (s : Sides) (dist : List ℤ) (status offsets tree : List ℕ) (i : ℕ) : Type 0 where
-  pub index : Index dist status offsets tree
+pub record Examinable (s : Sides) (m : Marked) (dist : List ℤ) (status offsets tree : List ℕ) (i : ℕ) : Type 0 where
+  pub index : Index m dist status offsets tree
   pub work : Workable s status
   pub below : i < size s
   pub pending : isPending status i ≡ true
 
-pub record Examined (s : Sides) (dist : List ℤ) (before after offsets tree : List ℕ) (i r : ℕ) : Type 0 where
-  pub count : r ≡ cond (passes (testAt s before i)) 1 0
-  pub status : after ≡ examine s (outside dist) before i
-  pub index : Index dist after offsets tree
+pub record Examined (s : Sides) (m : Marked) (dist : List ℤ) (before after offsets tree : List ℕ) (i r : ℕ) : Type 0 where
+  pub count : r ≡ cond (goes s (mayGo m dist) before i) 1 0
+  pub status : after ≡ examine s (mayGo m dist) before i
+  pub index : Index m dist after offsets tree
 
 -- ---- up to so many examinations
 
-pub record Run (s : Sides) (dist : List ℤ) (limit : ℕ) (before after offsets tree : List ℕ) (c : Count) : Type 0 where
-  pub rule : progress (c .examined) (c .removed) after ≡ carving s (outside dist) (farther dist) limit before
+pub record Run (s : Sides) (m : Marked) (dist : List ℤ) (limit : ℕ) (before after offsets tree : List ℕ) (c : Count) : Type 0 where
+  pub rule : progress (c .examined) (c .removed) after ≡ carving s (mayGo m dist) (sooner m dist) limit before
   pub up-to : c .examined ≤ limit
   pub fewer : c .removed ≤ c .examined
-  pub index : Index dist after offsets tree
+  pub index : Index m dist after offsets tree
 
 -- buffers to work on, and room for their index
 pub record Lending (s : Sides) (dist : List ℤ) (status offsets tree : List ℕ) : Type 0 where
   pub work : Workable s status
   pub room : Room dist status offsets tree
 
-pub record Tallied (s : Sides) (dist : List ℤ) (limit : ℕ) (before after : List ℕ) (t : Tally) : Type 0 where
-  pub rule : progress (t .examined) (t .removed) after ≡ carving s (outside dist) (farther dist) limit before
+pub record Tallied (s : Sides) (m : Marked) (dist : List ℤ) (limit : ℕ) (before after : List ℕ) (t : Tally) : Type 0 where
+  pub rule : progress (t .examined) (t .removed) after ≡ carving s (mayGo m dist) (sooner m dist) limit before
   pub up-to : t .examined ≤ limit
   pub fewer : t .removed ≤ t .examined
   pub left : t .pending ≡ anyPending s after

@@ -6,7 +6,8 @@ ghost use lib.ListN.{length};
 ghost use Rattle.cells.specs.Groups.{any};
 ghost use Rattle.rules.specs.Grid.{range};
 ghost use Rattle.rules.specs.Status.{isPending, rested};
-ghost use Rattle.rules.specs.Machine.{outside};
+ghost use Rattle.rules.specs.Marks.{marked};
+ghost use Rattle.rules.specs.Machine.{mayGo};
 ghost use Rattle.bits.specs.Bits.{bits};
 ghost use Rattle.neighbourhood.specs.Neighbourhood.{firstAround};
 ghost use Rattle.waking.specs.Waking.{idleBit, Only, AtBits, fromVoxel};
@@ -15,22 +16,40 @@ ghost use Rattle.examining.specs.Examining.{Workable, Callables, Roused,
 use pending::Choice;
 use rules::Sides;
 
-fn wake_one(dist: &[i32], status: &mut [u8], offsets: &mut [u8], tree: &mut [u64], j: usize)
-    requires { ⌜ Index (now dist) (now status) (now offsets) (now tree) × (j < length (now status)) ⌝ }
-    ensures { λ _. ⌜
-        Roused (Only (outside (now (dist .entry))) j) (now (dist .entry)) (now (status .entry)) (now (status .exit))
-        (now (offsets .exit)) (now (tree .exit)) ⌝ }
+// Whether voxel j may go: it is outside S and not pinned.
+fn may_go(dist: &[i32], marks: &[u8], j: usize) -> bool
+    requires { ⌜ j < length (now dist) ⌝ }
+    ensures { λ r. ⌜ r ≡ mayGo (marked (now (marks .entry))) (now (dist .entry)) j ⌝ }
 {
     let d = dist[j];
-    if d < 0 {
+    let p = marks::pinned(marks, j);
+    !((d < 0) | p)
+}
+
+fn wake_one(
+    dist: &[i32],
+    marks: &[u8],
+    status: &mut [u8],
+    offsets: &mut [u8],
+    tree: &mut [u64],
+    j: usize,
+)
+    requires { ⌜ Index (marked (now marks)) (now dist) (now status) (now offsets) (now tree) × (j < length (now status)) ⌝ }
+    ensures { λ _. ⌜
+        Roused (Only (mayGo (marked (now (marks .entry))) (now (dist .entry))) j) (marked (now (marks .entry))) (now (dist .entry)) (now (status .entry))
+        (now (status .exit))
+        (now (offsets .exit)) (now (tree .exit)) ⌝ }
+{
+    if !may_go(dist, marks, j) {
         return;
     }
-    pending::raise(dist, status, offsets, tree, j);
+    pending::raise(dist, marks, status, offsets, tree, j);
 }
 
 // Wakes the voxels at the positions of the set bits, from voxel at on.
 fn wake(
     dist: &[i32],
+    marks: &[u8],
     status: &mut [u8],
     offsets: &mut [u8],
     tree: &mut [u64],
@@ -39,15 +58,23 @@ fn wake(
     at: usize,
     idle: u64,
 )
-    requires { ⌜ Callables (now dist) (now status) (now offsets) (now tree) a l at idle ⌝ }
+    requires { ⌜ Callables (marked (now marks)) (now dist) (now status) (now offsets) (now tree) a l at idle ⌝ }
     ensures { λ _. ⌜
-        Roused (AtBits (outside (now (dist .entry))) idle (fromVoxel a l at)) (now (dist .entry)) (now (status .entry))
+        Roused (AtBits (mayGo (marked (now (marks .entry))) (now (dist .entry))) idle (fromVoxel a l at)) (marked (now (marks .entry)))
+        (now (dist .entry)) (now (status .entry))
         (now (status .exit)) (now (offsets .exit)) (now (tree .exit)) ⌝ }
 {
     let mut m = idle;
     while 0 < m {
         let p = bits::lowest(m) / 2;
-        wake_one(dist, status, offsets, tree, at + waking::offset(a, l, p));
+        wake_one(
+            dist,
+            marks,
+            status,
+            offsets,
+            tree,
+            at + waking::offset(a, l, p),
+        );
         m = m & (m - 1);
     }
 }
@@ -56,20 +83,21 @@ fn wake(
 fn wake_around(
     s: Sides,
     dist: &[i32],
+    marks: &[u8],
     status: &mut [u8],
     offsets: &mut [u8],
     tree: &mut [u64],
     i: usize,
     code: u64,
 )
-    requires { ⌜ Leaving s (now dist) (now status) (now offsets) (now tree) i ⌝ }
+    requires { ⌜ Leaving s (marked (now marks)) (now dist) (now status) (now offsets) (now tree) i ⌝ }
     ensures { λ _. ⌜
-        Roused (AtBits (outside (now (dist .entry))) (bits 54 (idleBit code)) (fromVoxel (s .a) (s .a * s .b) (firstAround s i)))
-        (now (dist .entry)) (now (status .entry)) (now (status .exit)) (now (offsets .exit)) (now (tree .exit)) ⌝ }
+        Roused (AtBits (mayGo (marked (now (marks .entry))) (now (dist .entry))) (bits 54 (idleBit code)) (fromVoxel (s .a) (s .a * s .b) (firstAround s i)))
+        (marked (now (marks .entry))) (now (dist .entry)) (now (status .entry)) (now (status .exit)) (now (offsets .exit)) (now (tree .exit)) ⌝ }
 {
     let at = neighbourhood::first_around(s, i);
     let idle = waking::idle_bits(code);
-    wake(dist, status, offsets, tree, s.a, s.a * s.b, at, idle);
+    wake(dist, marks, status, offsets, tree, s.a, s.a * s.b, at, idle);
 }
 
 // The status that an examination leaves: that of a voxel gone, or x no longer pending.
@@ -88,20 +116,23 @@ fn left(gone: bool, x: u8) -> u8
 fn examine(
     s: Sides,
     dist: &[i32],
+    marks: &[u8],
     status: &mut [u8],
     offsets: &mut [u8],
     tree: &mut [u64],
     i: usize,
 ) -> u32
-    requires { ⌜ Examinable s (now dist) (now status) (now offsets) (now tree) i ⌝ }
-    ensures { λ r. ⌜ Examined s (now (dist .entry)) (now (status .entry)) (now (status .exit)) (now (offsets .exit)) (now (tree .exit)) i r ⌝ }
+    requires { ⌜ Examinable s (marked (now marks)) (now dist) (now status) (now offsets) (now tree) i ⌝ }
+    ensures { λ r. ⌜ Examined s (marked (now (marks .entry))) (now (dist .entry)) (now (status .entry)) (now (status .exit)) (now (offsets .exit))
+        (now (tree .exit)) i r ⌝ }
 {
     let code = neighbourhood::gather(s, status, i);
-    let gone = local_test::passes(neighbourhood::kept_bits(code));
+    let passes = local_test::passes(neighbourhood::kept_bits(code));
+    let gone = passes & may_go(dist, marks, i);
     let x = status[i];
-    pending::clear(dist, status, offsets, tree, i, left(gone, x));
+    pending::clear(dist, marks, status, offsets, tree, i, left(gone, x));
     if gone {
-        wake_around(s, dist, status, offsets, tree, i, code);
+        wake_around(s, dist, marks, status, offsets, tree, i, code);
         return 1;
     }
     0
@@ -117,25 +148,27 @@ pub struct Count {
 fn run(
     s: Sides,
     dist: &[i32],
+    marks: &[u8],
     status: &mut [u8],
     offsets: &mut [u8],
     tree: &mut [u64],
     limit: u32,
 ) -> Count
-    requires { ⌜ Index (now dist) (now status) (now offsets) (now tree) × Workable s (now status) ⌝ }
-    ensures { λ r. ⌜ Run s (now (dist .entry)) limit (now (status .entry)) (now (status .exit)) (now (offsets .exit)) (now (tree .exit)) r ⌝ }
+    requires { ⌜ Index (marked (now marks)) (now dist) (now status) (now offsets) (now tree) × Workable s (now status) ⌝ }
+    ensures { λ r. ⌜ Run s (marked (now (marks .entry))) (now (dist .entry)) limit (now (status .entry)) (now (status .exit)) (now (offsets .exit))
+        (now (tree .exit)) r ⌝ }
 {
     let mut examined: u32 = 0;
     let mut removed: u32 = 0;
     while examined < limit {
-        let next = pending::best(dist, status, offsets, tree);
+        let next = pending::best(dist, marks, status, offsets, tree);
         let Choice::At(i) = next else {
             return Count {
                 examined: examined,
                 removed: removed,
             };
         };
-        removed += examine(s, dist, status, offsets, tree, i);
+        removed += examine(s, dist, marks, status, offsets, tree, i);
         examined += 1;
     }
     Count {
@@ -144,11 +177,11 @@ fn run(
     }
 }
 
-fn any_pending(dist: &[i32], status: &[u8], offsets: &[u8], tree: &[u64]) -> bool
-    requires { ⌜ Index (now dist) (now status) (now offsets) (now tree) ⌝ }
+fn any_pending(dist: &[i32], marks: &[u8], status: &[u8], offsets: &[u8], tree: &[u64]) -> bool
+    requires { ⌜ Index (marked (now marks)) (now dist) (now status) (now offsets) (now tree) ⌝ }
     ensures { λ r. ⌜ r ≡ any (isPending (now (status .entry))) (range 0 (length (now (status .entry)))) ⌝ }
 {
-    let next = pending::best(dist, status, offsets, tree);
+    let next = pending::best(dist, marks, status, offsets, tree);
     match next {
         Choice::Nothing => false,
         Choice::At(_) => true,
@@ -166,17 +199,18 @@ pub struct Tally {
 pub fn carve(
     s: Sides,
     dist: &[i32],
+    marks: &[u8],
     status: &mut [u8],
     offsets: &mut [u8],
     tree: &mut [u64],
     limit: u32,
 ) -> Tally
     requires { ⌜ Lending s (now dist) (now status) (now offsets) (now tree) ⌝ }
-    ensures { λ r. ⌜ Tallied s (now (dist .entry)) limit (now (status .entry)) (now (status .exit)) r ⌝ }
+    ensures { λ r. ⌜ Tallied s (marked (now (marks .entry))) (now (dist .entry)) limit (now (status .entry)) (now (status .exit)) r ⌝ }
 {
-    pending::build(dist, status, offsets, tree);
-    let c = run(s, dist, status, offsets, tree, limit);
-    let left = any_pending(dist, status, offsets, tree);
+    pending::build(dist, marks, status, offsets, tree);
+    let c = run(s, dist, marks, status, offsets, tree, limit);
+    let left = any_pending(dist, marks, status, offsets, tree);
     Tally {
         examined: c.examined,
         removed: c.removed,

@@ -1,11 +1,12 @@
 -- The rank of a distance: what the machine computes, and its order.
 use mathlib.Core.Path.{_≡_, refl, sym, ap, ap₂, _∙_, subst}
-use mathlib.Core.Bool.{Bool, true, false, cond}
-use mathlib.Core.List.{List}
+use mathlib.Core.Bool.{Bool, true, false, not, cond, _&&_, _||_}
+use mathlib.Core.List.{List, [], _∷_}
 use Prim.Native.Nat.{ℕ, suc, _+_, _-_, _*_, _^_, _≤_, _<_}
 use native.Mathlib.Omega.{arith}
 use native.Mathlib.Decide.{decLt}
 use borrow.Author.Tests.{lt-ltb, le-ltb}
+use lib.Dec.{ltb}
 use lib.IntN.{ℤ, pos, negsuc, _+ℤ_}
 use lib.ListN.{length}
 use lib.Signed.{ltZ}
@@ -16,8 +17,10 @@ use Rattle.prelude.proofs.Bools.{not-both}
 use Rattle.prelude.proofs.Signs.{widened}
 use Rattle.rules.specs.Grid.{distanceAt}
 use Rattle.rules.specs.Status.{isPending}
+use Rattle.rules.specs.Marks.{Marked, hurriedMark, marked, unmarked}
+use Rattle.rules.specs.Machine.{farther, sooner}
 use Rattle.rules.proofs.Topology.Steps.{pending-beyond}
-use Rattle.keys.specs.Key.{most, rankOf, rankAt, keyOf, keyAt, voxelKey, voxelOf}
+use Rattle.keys.specs.Key.{most, rankOf, hurryOf, rankBy, rankAt, keyOf, keyAt, voxelKey, voxelOf}
 
 -- ---- a distance raised by 2^31 + 1
 
@@ -39,9 +42,9 @@ unfolding rankOf
 rank-small (pos n) h = let l : n < 2 ^ 31 = h .sfits in omega arith
 rank-small (negsuc n) h = omega arith
 
--- as a distance is read back
-pub read-small : (z : ℤ) → SFits w32 z → rankOf (toZ w32 (ofZ w32 z)) ≤ 4294967296
-read-small z h = subst (λ (x : ℤ). rankOf x ≤ 4294967296) (sym (toZ-ofZ h)) (rank-small z h)
+-- a distance fits as it is read back, too
+pub read-fits : {z : ℤ} → SFits w32 z → SFits w32 (toZ w32 (ofZ w32 z))
+read-fits h = subst (SFits w32) (sym (toZ-ofZ h)) h
 
 raised-sum : (z : ℤ) → SFits w32 z → toZ w64 (ofZ w64 (toZ w32 (ofZ w32 z))) +ℤ pos 2147483649 ≡ pos (rankOf z)
 raised-sum z h = ap (λ (x : ℤ). x +ℤ pos 2147483649) (toZ-ofZ (widened h) ∙ toZ-ofZ h) ∙ rank-sum z h
@@ -73,39 +76,71 @@ rank-least (pos a) (negsuc b) f h = refl
 rank-least (negsuc a) (pos b) f h = let z : ⊥ = omega arith in absurd z
 rank-least (negsuc a) (negsuc b) f h = let l : a < 2 ^ 31 = f .sfits in le-ltb b a (omega arith)
 
--- .. as the machine compares them
-module _ (a b : ℤ) (f : SFits w32 a) (g : SFits w32 b) where
-  compared : {t : Bool} → ltZ (toZ w32 (ofZ w32 a)) (toZ w32 (ofZ w32 b)) ≡ t → ltZ a b ≡ t
-  compared e = sym (ap₂ ltZ (toZ-ofZ f) (toZ-ofZ g)) ∙ e
+pub compared : (a b : ℤ) → SFits w32 a → ltZ a b ≡ ltb (rankOf a) (rankOf b)
+compared a b f =
+    elim (decLt (rankOf a) (rankOf b)) [
+      | yes h ↦ rank-less a b h ∙ sym (lt-ltb (rankOf a) (rankOf b) h)
+      | no h ↦ rank-least a b f (omega arith) ∙ sym (le-ltb (rankOf a) (rankOf b) (omega arith))
+    ]
 
-  pub less-rank : ltZ (toZ w32 (ofZ w32 a)) (toZ w32 (ofZ w32 b)) ≡ true → rankOf a < rankOf b
-  less-rank e =
-      elim (decLt (rankOf a) (rankOf b)) [
-        | yes h ↦ h
-        | no h ↦ not-both (ltZ a b) (compared e) (rank-least a b f (omega arith))
-      ]
+-- ---- the order of ranks is that of the choice: a hurried voxel before all others, and then the greater distance
 
-  pub least-rank : ltZ (toZ w32 (ofZ w32 a)) (toZ w32 (ofZ w32 b)) ≡ false → rankOf b ≤ rankOf a
-  least-rank e =
-      elim (decLt (rankOf a) (rankOf b)) [
-        | yes h ↦ not-both (ltZ a b) (rank-less a b h) (compared e)
-        | no h ↦ omega arith
-      ]
+pub by-some : (hurried : ℕ → Bool) (d : ℤ) (j : ℕ) → 0 < rankBy hurried d j
+by-some hurried d j = omega (arith, rank-some d)
+
+-- where none is hurried the rank of a voxel is that of its distance, as it is read back
+pub plain-rank :
+    {z d : ℤ} (j : ℕ) → SFits w32 z → z ≡ d
+    → (rankOf (toZ w32 (ofZ w32 z)) ≡ rankBy (unmarked .hurried) d j) × (rankOf (toZ w32 (ofZ w32 z)) ≤ 8589934592)
+unfolding hurryOf
+plain-rank j f e = let r = ap rankOf (toZ-ofZ f ∙ e) in (omega arith, omega (arith, rank-small _ (read-fits f)))
+
+-- of no marks none is hurried
+pub none-hurried : (marks : List ℕ) → length marks ≡ 0 → unmarked .hurried ≡ marked marks .hurried
+unfolding marked hurriedMark
+none-hurried [] e = refl
+none-hurried (x ∷ marks) e = let z : ⊥ = omega arith in absurd z
+
+module _ (m : Marked) (dist : List ℤ) (i j : ℕ) where
+  abbrev rank : ℕ → ℕ
+  rank i = rankBy (m .hurried) (distanceAt dist i) i
+
+  pub by-less : SFits w32 (distanceAt dist i) → rank j < rank i → sooner m dist i j ≡ true
+  unfolding sooner farther hurryOf
+  by-less f = go (m .hurried i) (m .hurried j)
+    where
+      go : (h k : Bool) → rankOf (distanceAt dist j) + cond k 4294967296 0 < rankOf (distanceAt dist i) + cond h 4294967296 0
+          → cond h (not k || ltZ (distanceAt dist j) (distanceAt dist i)) (not k && ltZ (distanceAt dist j) (distanceAt dist i)) ≡ true
+      go true true l = rank-less (distanceAt dist j) (distanceAt dist i) (omega arith)
+      go true false l = refl
+      go false true l = let z : ⊥ = omega (arith, rank-small (distanceAt dist i) f, rank-some (distanceAt dist j)) in absurd z
+      go false false l = rank-less (distanceAt dist j) (distanceAt dist i) (omega arith)
+
+  pub by-least : SFits w32 (distanceAt dist j) → rank i ≤ rank j → sooner m dist i j ≡ false
+  unfolding sooner farther hurryOf
+  by-least f = go (m .hurried i) (m .hurried j)
+    where
+      go : (h k : Bool) → rankOf (distanceAt dist i) + cond h 4294967296 0 ≤ rankOf (distanceAt dist j) + cond k 4294967296 0
+          → cond h (not k || ltZ (distanceAt dist j) (distanceAt dist i)) (not k && ltZ (distanceAt dist j) (distanceAt dist i)) ≡ false
+      go true true l = rank-least (distanceAt dist j) (distanceAt dist i) f (omega arith)
+      go true false l = let z : ⊥ = omega (arith, rank-small (distanceAt dist j) f, rank-some (distanceAt dist i)) in absurd z
+      go false true l = refl
+      go false false l = rank-least (distanceAt dist j) (distanceAt dist i) f (omega arith)
 
 -- ---- the key of a voxel
 
-module _ (dist : List ℤ) (status : List ℕ) (j : ℕ) where
+module _ (hurried : ℕ → Bool) (dist : List ℤ) (status : List ℕ) (j : ℕ) where
   -- by its pending bit
-  pub key-by : (b : Bool) → isPending status j ≡ b → keyAt dist status j ≡ cond b (voxelKey dist j) 0
+  pub key-by : (b : Bool) → isPending status j ≡ b → keyAt hurried dist status j ≡ cond b (voxelKey hurried dist j) 0
   unfolding keyAt rankAt
-  key-by b e = ap (λ (t : Bool). keyOf (cond t (rankOf (distanceAt dist j)) 0) j) e ∙ split b
+  key-by b e = ap (λ (t : Bool). keyOf (cond t (rankBy hurried (distanceAt dist j) j) 0) j) e ∙ split b
     where
-      split : (b : Bool) → keyOf (cond b (rankOf (distanceAt dist j)) 0) j ≡ cond b (voxelKey dist j) 0
+      split : (b : Bool) → keyOf (cond b (rankBy hurried (distanceAt dist j) j) 0) j ≡ cond b (voxelKey hurried dist j) 0
       split true = refl
       split false = omega arith
 
   -- a voxel that has a key is pending
-  pub key-pending : 0 < keyAt dist status j → isPending status j ≡ true
+  pub key-pending : 0 < keyAt hurried dist status j → isPending status j ≡ true
   key-pending h = go (isPending status j) refl
     where
       go : (b : Bool) → isPending status j ≡ b → b ≡ true
@@ -113,11 +148,11 @@ module _ (dist : List ℤ) (status : List ℕ) (j : ℕ) where
       go false e = let z = key-by false e in let b : ⊥ = omega arith in absurd b
 
   -- there is none past the last voxel
-  pub key-past : length status ≤ j → keyAt dist status j ≡ 0
+  pub key-past : length status ≤ j → keyAt hurried dist status j ≡ 0
   key-past h = key-by false (pending-beyond status j h)
 
   -- the voxel of a key
-  pub key-voxel : j < most → 0 < keyAt dist status j → voxelOf (keyAt dist status j) ≡ j
+  pub key-voxel : j < most → 0 < keyAt hurried dist status j → voxelOf (keyAt hurried dist status j) ≡ j
   key-voxel h l =
       let e = key-by true (key-pending l) in
-      omega (arith, rank-some (distanceAt dist j))
+      omega (arith, by-some hurried (distanceAt dist j) j)

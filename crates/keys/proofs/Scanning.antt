@@ -19,9 +19,9 @@ use Rattle.rules.specs.Grid.{distanceAt}
 use Rattle.rules.specs.Status.{isPending}
 use Rattle.bits.specs.Lowest.{Lowest}
 use Rattle.rules.proofs.Topology.Steps.{pending-beyond}
-use Rattle.keys.specs.Key.{most, Lent, rankOf, keyOf, keyAt, greatest, width, stretchKey, bitKey, Readable}
+use Rattle.keys.specs.Key.{most, Lent, rankBy, keyOf, keyAt, greatest, width, stretchKey, bitKey, Readable}
 use Rattle.keys.proofs.Greatest.{greatest-none, greatest-lift, greatest-moved}
-use Rattle.keys.proofs.Ranks.{rank-some, key-by}
+use Rattle.keys.proofs.Ranks.{by-some, key-by}
 
 has-none : (t : ℕ) → has 0 t ≡ false
 unfolding has
@@ -50,20 +50,20 @@ leading-key g b r t at h i u p l e q = go (decLt g r)
 taken-over : (k r n x y t : ℕ) → max k x ≡ t → x ≡ max y r → max k r ≡ n → max n y ≡ t
 taken-over k r n x y t e f g = omega arith
 
-greater-small : (g r h : ℕ) → g ≤ 4294967296 → r ≤ 4294967296 → h ≡ max g r → h ≤ 4294967296
+greater-small : (g r h : ℕ) → g ≤ 8589934592 → r ≤ 8589934592 → h ≡ max g r → h ≤ 8589934592
 greater-small g r h a b e = omega arith
 
-module _ (dist : List ℤ) (at set : ℕ) where
+module _ (hurried : ℕ → Bool) (dist : List ℤ) (at set : ℕ) where
   -- the greatest rank so far and its bit, and the bits that are left, all above it
   pub record Scanning (g b m : ℕ) : Type 0 where
     pub few : at + length dist ≤ most
-    pub small : g ≤ 4294967296
+    pub small : g ≤ 8589934592
     pub inside : b < length dist
     pub left : (t : ℕ) → t < width → has m t ≡ true → t < length dist
     pub above : (t : ℕ) → has m t ≡ true → 0 < g → b < t
-    pub total : max (keyOf g (at + b)) (greatest (bitKey dist at m) 0 width) ≡ greatest (bitKey dist at set) 0 width
+    pub total : max (keyOf g (at + b)) (greatest (bitKey hurried dist at m) 0 width) ≡ greatest (bitKey hurried dist at set) 0 width
 
-  scanning-start : Readable dist at set → Scanning 0 0 set
+  pub scanning-start : Readable dist at set → Scanning 0 0 set
   scanning-start R =
       record {
         few = R .few;
@@ -74,8 +74,8 @@ module _ (dist : List ℤ) (at set : ℕ) where
         total = omega arith;
       }
 
-  bit-key : (m t : ℕ) (b : Bool) → has m t ≡ b → bitKey dist at m t ≡ cond b (keyOf (rankOf (distanceAt dist t)) (at + t)) 0
-  bit-key m t b e = ap (λ (b : Bool). cond b (keyOf (rankOf (distanceAt dist t)) (at + t)) 0) e
+  bit-key : (m t : ℕ) (b : Bool) → has m t ≡ b → bitKey hurried dist at m t ≡ cond b (keyOf (rankBy hurried (distanceAt dist t) (at + t)) (at + t)) 0
+  bit-key m t b e = ap (λ (b : Bool). cond b (keyOf (rankBy hurried (distanceAt dist t) (at + t)) (at + t)) 0) e
 
   -- a bit that is left was there before, and is not the one that was taken
   module _ (g b m t r h i : ℕ) (S : Scanning g b m) (L : Lowest m t) where
@@ -94,14 +94,14 @@ module _ (dist : List ℤ) (at set : ℕ) where
             ]
 
     pub scanning-step :
-        r ≡ rankOf (distanceAt dist t) → r ≤ 4294967296 → i ≡ cond (ltb g r) t b → h ≡ max g r → Scanning h i (bitAnd m (m - 1))
+        r ≡ rankBy hurried (distanceAt dist t) (at + t) → r ≤ 8589934592 → i ≡ cond (ltb g r) t b → h ≡ max g r → Scanning h i (bitAnd m (m - 1))
     scanning-step e f q k =
         let few = S .few in
         let here = S .left t (L .below) (L .here) in
-        let p : 0 < r = subst (λ (x : ℕ). 0 < x) (sym e) (rank-some (distanceAt dist t)) in
-        let own : bitKey dist at m t ≡ keyOf r (at + t) = bit-key m t true (L .here) ∙ ap (λ (x : ℕ). keyOf x (at + t)) (sym e) in
+        let p : 0 < r = subst (λ (x : ℕ). 0 < x) (sym e) (by-some hurried (distanceAt dist t) (at + t)) in
+        let own : bitKey hurried dist at m t ≡ keyOf r (at + t) = bit-key m t true (L .here) ∙ ap (λ (x : ℕ). keyOf x (at + t)) (sym e) in
         let one = leading-key g b r t at h i (omega arith) p (S .above t (L .here)) k q in
-        let x = greatest-lift (bitKey dist at (bitAnd m (m - 1))) (bitKey dist at m) 0 width t (omega arith) (omega (arith, L .below))
+        let x = greatest-lift (bitKey hurried dist at (bitAnd m (m - 1))) (bitKey hurried dist at m) 0 width t (omega arith) (omega (arith, L .below))
         (bit-key (bitAnd m (m - 1)) t false (L .gone)) (λ c n. bit-key (bitAnd m (m - 1)) c (has m c) (L .others c n)) in
         record {
           few = few;
@@ -120,22 +120,22 @@ module _ (dist : List ℤ) (at set : ℕ) where
         later c l (yes s) = let j : i ≡ t = q ∙ ap (λ (x : Bool). cond x t b) (lt-ltb g r s) in omega arith
         later c l (no s) =
             let j : i ≡ b = q ∙ ap (λ (x : Bool). cond x t b) (le-ltb g r (omega arith)) in
-            let p : 0 < r = subst (λ (x : ℕ). 0 < x) (sym e) (rank-some (distanceAt dist t)) in
+            let p : 0 < r = subst (λ (x : ℕ). 0 < x) (sym e) (by-some hurried (distanceAt dist t) (at + t)) in
             omega (arith, S .above t (L .here) (omega arith))
 
   -- the lowest bit is the first taken
   pub scanning-first :
-      (t r : ℕ) → Readable dist at set → Lowest set t → r ≡ rankOf (distanceAt dist t) → r ≤ 4294967296 → Scanning r t (bitAnd set (set - 1))
+      (t r : ℕ) → Readable dist at set → Lowest set t → r ≡ rankBy hurried (distanceAt dist t) (at + t) → r ≤ 8589934592 → Scanning r t (bitAnd set (set - 1))
   scanning-first t r R L e f =
-      let l : 0 < r = subst (λ (x : ℕ). 0 < x) (sym e) (rank-some (distanceAt dist t)) in
+      let l : 0 < r = subst (λ (x : ℕ). 0 < x) (sym e) (by-some hurried (distanceAt dist t) (at + t)) in
       scanning-step 0 0 set t r r t (scanning-start R) L e f (sym (ap (λ (x : Bool). cond x t 0) (lt-ltb 0 r l))) (omega arith)
 
-  pub scanning-none : set ≡ 0 → 0 ≡ greatest (bitKey dist at set) 0 width
-  scanning-none e = sym (greatest-none (bitKey dist at set) 0 width (λ t l. bit-key set t false (ap (λ (x : ℕ). has x t) e ∙ has-none t)))
+  pub scanning-none : set ≡ 0 → 0 ≡ greatest (bitKey hurried dist at set) 0 width
+  scanning-none e = sym (greatest-none (bitKey hurried dist at set) 0 width (λ t l. bit-key set t false (ap (λ (x : ℕ). has x t) e ∙ has-none t)))
 
-  pub scanning-done : (g b m k : ℕ) → m ≡ 0 → k ≡ keyOf g (at + b) → Scanning g b m → k ≡ greatest (bitKey dist at set) 0 width
+  pub scanning-done : (g b m k : ℕ) → m ≡ 0 → k ≡ keyOf g (at + b) → Scanning g b m → k ≡ greatest (bitKey hurried dist at set) 0 width
   scanning-done g b m k e q S =
-      let z = greatest-none (bitKey dist at m) 0 width (λ t l. bit-key m t false (ap (λ (x : ℕ). has x t) e ∙ has-none t)) in
+      let z = greatest-none (bitKey hurried dist at m) 0 width (λ t l. bit-key m t false (ap (λ (x : ℕ). has x t) e ∙ has-none t)) in
       omega (arith, S .total)
 
 -- ---- the bits of a stretch
@@ -144,7 +144,7 @@ module _ (dist : List ℤ) (at set : ℕ) where
 abbrev onward : ℕ → List ℤ → List ℤ
 onward at dist = take (length dist - at) (drop at dist)
 
-module _ (dist : List ℤ) (status : List ℕ) (at set : ℕ) (lent : Lent dist status)
+module _ (hurried : ℕ → Bool) (dist : List ℤ) (status : List ℕ) (at set : ℕ) (lent : Lent dist status)
     (shown : (t : ℕ) → t < width → has set t ≡ isPending status (at + t))
   where
     pub shown-readable : at < length status → Readable (onward at dist) at set
@@ -163,17 +163,19 @@ module _ (dist : List ℤ) (status : List ℕ) (at set : ℕ) (lent : Lent dist 
               );
         }
 
-    shown-key : (t : ℕ) → t < width → bitKey (onward at dist) at set t ≡ keyAt dist status (at + t)
+    shown-key : (t : ℕ) → t < width → bitKey hurried (onward at dist) at set t ≡ keyAt hurried dist status (at + t)
     shown-key t l =
-        ap (λ (b : Bool). cond b (keyOf (rankOf (distanceAt (onward at dist) t)) (at + t)) 0) (shown t l)
-        ∙ ap (λ (d : ℤ). cond (isPending status (at + t)) (keyOf (rankOf d) (at + t)) 0)
+        ap (λ (b : Bool). cond b (keyOf (rankBy hurried (distanceAt (onward at dist) t) (at + t)) (at + t)) 0) (shown t l)
+        ∙ ap (λ (d : ℤ). cond (isPending status (at + t)) (keyOf (rankBy hurried d (at + t)) (at + t)) 0)
         (ap (λ (ds : List ℤ). distanceAt ds t) (part-to-end dist at) ∙ getD-drop at dist t (pos 0))
-        ∙ sym (key-by dist status (at + t) (isPending status (at + t)) refl)
+        ∙ sym (key-by hurried dist status (at + t) (isPending status (at + t)) refl)
 
     -- give its greatest key
-    pub shown-greatest : (k : ℕ) → at ≡ width * k → greatest (bitKey (onward at dist) at set) 0 width ≡ stretchKey (keyAt dist status) k
+    pub shown-greatest : (k r : ℕ) → at ≡ width * k → r ≡ greatest (bitKey hurried (onward at dist) at set) 0 width
+        → r ≡ stretchKey (keyAt hurried dist status) k
     unfolding stretchKey
-    shown-greatest k e =
+    shown-greatest k r e q =
         let z : at + 0 ≡ width * k = omega arith in
-        greatest-moved (bitKey (onward at dist) at set) (keyAt dist status) at 0 width (λ t l u. shown-key t (omega arith))
-        ∙ ap (λ (x : ℕ). greatest (keyAt dist status) x width) z
+        q
+        ∙ greatest-moved (bitKey hurried (onward at dist) at set) (keyAt hurried dist status) at 0 width (λ t l u. shown-key t (omega arith))
+        ∙ ap (λ (x : ℕ). greatest (keyAt hurried dist status) x width) z

@@ -19,6 +19,7 @@ use Rattle.rules.specs.Grid.{fitSides, size, voxels}
 use Rattle.rules.specs.Checks.{_when_, unless}
 use Rattle.rules.specs.Answer.{done, Outcome, outcome, untouched, Buffers, buffers, begunAnswer}
 use Rattle.rules.specs.Fill.{filled}
+use Rattle.rules.specs.Marks.{marked, noMarks}
 use Rattle.rules.specs.Begin.{inside, inBox, statusAt, startStatus, begin}
 use Rattle.rules.specs.Meaning.{found}
 use Rattle.rules.specs.Status.{isKept}
@@ -37,46 +38,49 @@ use Rattle.line.proofs.Rounds.{finish-unmoved, rounds-sides}
 
 -- ---- what begin leaves: as many status bytes as voxels
 
-module _ (s : Sides) (T : ℕ) (values dist : List ℤ) (status : List ℕ) where
+module _ (s : Sides) (T : ℕ) (values : List ℤ) (marks : List ℕ) (dist : List ℤ) (status : List ℕ) where
   pub begin-long :
-      (next : Record) (d : List ℤ) (b : List ℕ) → outcome (done next) (buffers d b) ≡ begin s T values dist status → length b ≡ size (next .sides)
+      (next : Record) (d : List ℤ) (b : List ℕ) → outcome (done next) (buffers d b) ≡ begin s T values marks dist status → length b ≡ size (next .sides)
   unfolding startStatus voxels
   begin-long next d b e =
       let S = inside s (filled s values) in
       ap (λ (o : Outcome Buffers Record). length (o .lent .status)) e
-      ∙ by-begin (λ g. length (g .status) ≡ size (g .rec .sides)) s T values dist status
-      (λ accepted. length-map-range (statusAt s S (inBox s S)) (size s)) next (sym (ap (λ (o : Outcome Buffers Record). o .answer) e))
+      ∙ by-begin (λ g. length (g .status) ≡ size (g .rec .sides)) s T values marks dist status
+      (λ accepted. length-map-range (statusAt s (marked marks) S (inBox s S)) (size s)) next (sym (ap (λ (o : Outcome Buffers Record). o .answer) e))
 
   -- the line, by begin's answer
-  module _ (a : Begun) (d : List ℤ) (b : List ℕ) (e : outcome (begunAnswer a) (buffers d b) ≡ begin s T values dist status) where
-    pub ready : (next : Record) → a ≡ Begun.Ready next → outcome (done next) (buffers d b) ≡ begin s T values dist status
+  module _ (a : Begun) (d : List ℤ) (b : List ℕ) (e : outcome (begunAnswer a) (buffers d b) ≡ begin s T values marks dist status) where
+    pub ready : (next : Record) → a ≡ Begun.Ready next → outcome (done next) (buffers d b) ≡ begin s T values marks dist status
     ready next f = sym (ap (λ (x : Begun). outcome (begunAnswer x) (buffers d b)) f) ∙ e
 
-    pub line-begun : (next : Record) → a ≡ Begun.Ready next → carvedToEnd (state next d b) ≡ lineFrom (begin s T values dist status)
+    pub line-begun : (next : Record) → a ≡ Begun.Ready next → (r : Text) → r ≡ printed (carvedToEnd marks (state next d b))
+        → r ≡ printed (lineFrom marks (begin s T values marks dist status))
     unfolding lineFrom
-    line-begun next f = ap lineFrom (ready next f)
+    line-begun next f r h = h ∙ ap (λ (o : Outcome Buffers Record). printed (lineFrom marks o)) (ready next f)
 
-    pub line-begin-refused : (n : ℕ) → a ≡ Begun.Refused n → refusedLine n ≡ lineFrom (begin s T values dist status)
+    pub line-begin-refused : (n : ℕ) → a ≡ Begun.Refused n → (r : Text) → r ≡ printed (refusedLine n)
+        → r ≡ printed (lineFrom marks (begin s T values marks dist status))
     unfolding lineFrom
-    line-begin-refused n f = ap lineFrom (sym (ap (λ (x : Begun). outcome (begunAnswer x) (buffers d b)) f) ∙ e)
+    line-begin-refused n f r h =
+        h ∙ ap (λ (o : Outcome Buffers Record). printed (lineFrom marks o)) (sym (ap (λ (x : Begun). outcome (begunAnswer x) (buffers d b)) f) ∙ e)
 
 -- ---- the line at the end
 
-module _ (given : Record) (dist : List ℤ) (status : List ℕ) where
+module _ (marks : List ℕ) (given : Record) (dist : List ℤ) (status : List ℕ) where
   pub line-ended :
       (carved ended : Record) (d : List ℤ) (b : List ℕ) (kept : ℕ) (euler : ℤ)
       → length b ≡ size (given .sides)
-      → state carved dist b ≡ allRounds (state given dist status)
+      → state carved dist b ≡ allRounds marks (state given dist status)
       → state ended d b ≡ afterFinish (state carved dist b)
       → kept ≡ counted (isKept b) (length b)
       → euler ≡ ended .euler
-      → carvedLine kept (ended .removals) (ended .openings) (ended .examinations) euler ≡ carvedToEnd (state given dist status)
+      → carvedLine kept (ended .removals) (ended .openings) (ended .examinations) euler ≡ carvedToEnd marks (state given dist status)
   unfolding carvedToEnd lineOf voxels
   line-ended carved ended d b kept euler l e f k z =
       let rounds = roundsLeft given in
       let g = state given dist status in
       let sides : ended .sides ≡ given .sides =
-      ap (λ (h : State). h .rec .sides) f ∙ finish-unmoved (state carved dist b) .sides ∙ ap (λ (h : State). h .rec .sides) e ∙ rounds-sides rounds g in
+      ap (λ (h : State). h .rec .sides) f ∙ finish-unmoved (state carved dist b) .sides ∙ ap (λ (h : State). h .rec .sides) e ∙ rounds-sides marks rounds g in
       let kept-found : kept ≡ found (ended .sides) (isKept b) = k ∙ ap (counted (isKept b)) (l ∙ ap size (sym sides)) in
       rw (kept-found, z) (ap lineOf (f ∙ ap afterFinish e))
 
@@ -159,22 +163,27 @@ module _ (file : List ℕ) where
     line-refused n e = sym (ap (λ (a : ReadAnswer). lineAfterRead (outcome (readAnswer a) values)) e) ∙ by-answer
 
     pub line-grid :
-        (s : Sides) (T : ℕ) (dist : List ℤ) (status : List ℕ)
+        (s : Sides) (T : ℕ) (marks : List ℕ) (dist : List ℤ) (status : List ℕ)
         → answer ≡ ReadAnswer.Grid s T
+        → marks ≡ replicate (lentFor file) 0
         → dist ≡ zeros (lentFor file)
         → status ≡ replicate (lentFor file) 0
-        → lineFrom (begin s T values dist status) ≡ fileLine file
-    unfolding lineAfterRead
-    line-grid s T dist status e d b =
+        → lineFrom marks (begin s T values marks dist status) ≡ fileLine file
+    unfolding lineAfterRead noMarks
+    line-grid s T marks dist status e m d b =
         let h : Header = record { sides = s; allowed = T } in
         let n : size s ≡ lentFor file =
         read-done lent h (sym (ap (λ (o : Outcome (List ℤ) Header). o .answer) r) ∙ ap readAnswer e) ∙ ap length z ∙ length-replicate (lentFor file) (pos 0) in
-        ap (λ (l : List ℤ). lineFrom (begin s T values l status)) (d ∙ ap zeros (sym n))
-        ∙ ap (λ (l : List ℕ). lineFrom (begin s T values (zeros (size s)) l)) (b ∙ ap (λ (k : ℕ). replicate k 0) (sym n))
+        let same : marks ≡ noMarks s = m ∙ ap (λ (k : ℕ). replicate k 0) (sym n) in
+        ap (λ (l : List ℕ). lineFrom l (begin s T values l dist status)) same
+        ∙ ap (λ (l : List ℤ). lineFrom (noMarks s) (begin s T values (noMarks s) l status)) (d ∙ ap zeros (sym n))
+        ∙ ap (λ (l : List ℕ). lineFrom (noMarks s) (begin s T values (noMarks s) (zeros (size s)) l)) (b ∙ ap (λ (k : ℕ). replicate k 0) (sym n))
         ∙ sym (ap (λ (a : ReadAnswer). lineAfterRead (outcome (readAnswer a) values)) e)
         ∙ by-answer
 
     -- and as it is printed
-    pub printed-grid : (text : Text) (s : Sides) (T : ℕ) (dist : List ℤ) (status : List ℕ) → text ≡ printed (lineFrom (begin s T values dist status))
-        → answer ≡ ReadAnswer.Grid s T → dist ≡ zeros (lentFor file) → status ≡ replicate (lentFor file) 0 → text ≡ printed (fileLine file)
-    printed-grid text s T dist status p e d b = p ∙ ap printed (line-grid s T dist status e d b)
+    pub printed-grid : (text : Text) (s : Sides) (T : ℕ) (marks : List ℕ) (dist : List ℤ) (status : List ℕ)
+        → text ≡ printed (lineFrom marks (begin s T values marks dist status))
+        → answer ≡ ReadAnswer.Grid s T → marks ≡ replicate (lentFor file) 0 → dist ≡ zeros (lentFor file) → status ≡ replicate (lentFor file) 0
+        → text ≡ printed (fileLine file)
+    printed-grid text s T marks dist status p e m d b = p ∙ ap printed (line-grid s T marks dist status e m d b)

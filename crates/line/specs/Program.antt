@@ -9,6 +9,7 @@ use lib.IntN.{ℤ, pos}
 use Rattle.rules.specs.declared.Record.{Record}
 use Rattle.rules.specs.Grid.{size}
 use Rattle.rules.specs.Answer.{Reply, refused, done, Outcome, Buffers}
+use Rattle.rules.specs.Marks.{noMarks}
 use Rattle.rules.specs.Begin.{begin}
 use Rattle.rules.specs.Meaning.{found}
 use Rattle.rules.specs.Status.{isKept}
@@ -16,17 +17,17 @@ use Rattle.rules.specs.Machine.{State, state, after, carve, openNext, finish}
 use Rattle.gridfile.specs.File.{headerLength, sidesIn, fitUpTo, Header, readUpTo}
 use Rattle.text.specs.Line.{Line, refusedLine, carvedLine}
 
--- ---- after begin: carve to empty and open in turn until open refuses, then finish
+-- ---- after begin: carve to empty and open in turn until open refuses, then finish; each call is lent the marks that begin was
 
 -- more examinations than any grid takes, so that a carve goes on until nothing is pending (Ends.antt)
 abbrev pub noLimit : ℕ
 noLimit = 4294967295
 
-unfoldable pub afterCarve : State → State
-afterCarve g = after (λ r. r .next) g (carve noLimit g)
+unfoldable pub afterCarve : List ℕ → State → State
+afterCarve marks g = after (λ r. r .next) g (carve marks noLimit g)
 
-unfoldable pub afterOpen : State → State
-afterOpen g = after (λ r. r .next) g (openNext g)
+unfoldable pub afterOpen : List ℕ → State → State
+afterOpen marks g = after (λ r. r .next) g (openNext marks g)
 
 unfoldable pub afterFinish : State → State
 afterFinish g = after (λ r. r) g (finish g)
@@ -35,20 +36,21 @@ abbrev pub isRefused : {A : Type 0} → Reply A → Bool
 isRefused (refused n) = true
 isRefused (done a) = false
 
-unfoldable pub opens : State → Bool
-opens g = not (isRefused (openNext g .answer))
+unfoldable pub opens : List ℕ → State → Bool
+opens marks g = not (isRefused (openNext marks g .answer))
 
 -- so many rounds at most
-unfoldable pub carveAndOpen : ℕ → State → State
-carveAndOpen zero g = g
-carveAndOpen (suc rounds) g = let h = afterCarve g in elim (opens h) [ true ↦ carveAndOpen rounds (afterOpen h) | false ↦ h ]
+unfoldable pub carveAndOpen : List ℕ → ℕ → State → State
+carveAndOpen marks zero g = g
+carveAndOpen marks (suc rounds) g =
+    let h = afterCarve marks g in elim (opens marks h) [ true ↦ carveAndOpen marks rounds (afterOpen marks h) | false ↦ h ]
 
 -- the openings that are left, and the round whose open is refused
 abbrev pub roundsLeft : Record → ℕ
 roundsLeft r = r .allowed - r .openings + 1
 
-abbrev pub allRounds : State → State
-allRounds g = carveAndOpen (roundsLeft (g .rec)) g
+abbrev pub allRounds : List ℕ → State → State
+allRounds marks g = carveAndOpen marks (roundsLeft (g .rec)) g
 
 -- kept voxels at the end, then the record's removals, openings, examinations and Euler number
 unfoldable pub lineOf : State → Line
@@ -56,15 +58,15 @@ lineOf g =
     let r = g .rec in
     carvedLine (found (r .sides) (isKept (g .status))) (r .removals) (r .openings) (r .examinations) (r .euler)
 
-unfoldable pub carvedToEnd : State → Line
-carvedToEnd g = lineOf (afterFinish (allRounds g))
+unfoldable pub carvedToEnd : List ℕ → State → Line
+carvedToEnd marks g = lineOf (afterFinish (allRounds marks g))
 
 -- ---- a refused file prints the number that read or begin gave
 
-unfoldable pub lineFrom : Outcome Buffers Record → Line
-lineFrom o = elim (o .answer) [ refused n ↦ refusedLine n | done next ↦ carvedToEnd (state next (o .lent .dist) (o .lent .status)) ]
+unfoldable pub lineFrom : List ℕ → Outcome Buffers Record → Line
+lineFrom marks o = elim (o .answer) [ refused n ↦ refusedLine n | done next ↦ carvedToEnd marks (state next (o .lent .dist) (o .lent .status)) ]
 
--- the program's own buffers hold zeros
+-- the program's own buffers hold zeros, and no voxel is marked
 abbrev pub zeros : ℕ → List ℤ
 zeros n = replicate n (pos 0)
 
@@ -72,7 +74,10 @@ unfoldable pub lineAfterRead : Outcome (List ℤ) Header → Line
 lineAfterRead o =
     elim (o .answer) [
       | refused n ↦ refusedLine n
-      | done h ↦ let n = size (h .sides) in lineFrom (begin (h .sides) (h .allowed) (o .lent) (zeros n) (replicate n 0))
+      | done h ↦
+          let n = size (h .sides) in
+          let marks = noMarks (h .sides) in
+          lineFrom marks (begin (h .sides) (h .allowed) (o .lent) marks (zeros n) (replicate n 0))
     ]
 
 -- a side over 24 is refused as 1
@@ -94,7 +99,8 @@ programLine file = cond (ltb longestInput (length file)) (refusedLine 25) (fileL
 unfoldable pub lentFor : List ℕ → ℕ
 lentFor file = cond (ltb (length file) headerLength) 0 (cond (fitUpTo greatestSide (sidesIn file)) (size (sidesIn file)) 0)
 
-pub record Lent (n : ℕ) (v d : List ℤ) (b : List ℕ) : Type 0 where
+pub record Lent (n : ℕ) (v : List ℤ) (m : List ℕ) (d : List ℤ) (b : List ℕ) : Type 0 where
   pub values : v ≡ zeros n
+  pub marks : m ≡ replicate n 0
   pub distances : d ≡ zeros n
   pub statuses : b ≡ replicate n 0

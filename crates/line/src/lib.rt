@@ -35,10 +35,11 @@ fn kept_voxels(status: &[u8]) -> u64
 }
 
 // Carves until nothing is pending: no grid has as many examinations as the limit.
-fn carve_on(given: Record, dist: &[i32], status: &mut [u8]) -> Record
-    ensures { λ r. ⌜ state r (now (dist .entry)) (now (status .exit)) ≡ afterCarve (state given (now (dist .entry)) (now (status .entry))) ⌝ }
+fn carve_on(given: Record, dist: &[i32], marks: &[u8], status: &mut [u8]) -> Record
+    ensures { λ r. ⌜ state r (now (dist .entry)) (now (status .exit))
+        ≡ afterCarve (now (marks .entry)) (state given (now (dist .entry)) (now (status .entry))) ⌝ }
 {
-    match carving::carve(given, dist, status, 4294967295) {
+    match carving::carve(given, dist, marks, status, 4294967295) {
         Carved::Done {
             examined: _,
             removed: _,
@@ -54,11 +55,12 @@ struct Opening {
     next: Record,
 }
 
-fn open_on(given: Record, dist: &[i32], status: &mut [u8]) -> Opening
-    ensures state { λ r. ⌜ state (r .next) (now (dist .entry)) (now (status .exit)) ≡ afterOpen (state given (now (dist .entry)) (now (status .entry))) ⌝ }
-    ensures opened { λ r. ⌜ r .opened ≡ opens (state given (now (dist .entry)) (now (status .entry))) ⌝ }
+fn open_on(given: Record, dist: &[i32], marks: &[u8], status: &mut [u8]) -> Opening
+    ensures state { λ r. ⌜ state (r .next) (now (dist .entry)) (now (status .exit))
+        ≡ afterOpen (now (marks .entry)) (state given (now (dist .entry)) (now (status .entry))) ⌝ }
+    ensures opened { λ r. ⌜ r .opened ≡ opens (now (marks .entry)) (state given (now (dist .entry)) (now (status .entry))) ⌝ }
 {
-    match opening::open_next(given, dist, status) {
+    match opening::open_next(given, dist, marks, status) {
         Opened::Through {
             index: _,
             k: _,
@@ -73,14 +75,15 @@ fn open_on(given: Record, dist: &[i32], status: &mut [u8]) -> Opening
 }
 
 // Carves and opens in turn until open refuses.
-fn carve_and_open(given: Record, dist: &[i32], status: &mut [u8]) -> Record
-    ensures { λ r. ⌜ state r (now (dist .entry)) (now (status .exit)) ≡ allRounds (state given (now (dist .entry)) (now (status .entry))) ⌝ }
+fn carve_and_open(given: Record, dist: &[i32], marks: &[u8], status: &mut [u8]) -> Record
+    ensures { λ r. ⌜ state r (now (dist .entry)) (now (status .exit))
+        ≡ allRounds (now (marks .entry)) (state given (now (dist .entry)) (now (status .entry))) ⌝ }
 {
     let mut current = given;
     let mut opened = true;
     while opened {
-        let carved = carve_on(current, dist, status);
-        let o = open_on(carved, dist, status);
+        let carved = carve_on(current, dist, marks, status);
+        let o = open_on(carved, dist, marks, status);
         opened = o.opened;
         current = o.next;
     }
@@ -97,11 +100,11 @@ fn finish_on(given: Record, dist: &mut [i32], status: &[u8]) -> Record
 }
 
 // The line of a grid that was begun.
-fn carved_to_end(given: Record, dist: &mut [i32], status: &mut [u8]) -> Text
+fn carved_to_end(given: Record, dist: &mut [i32], marks: &[u8], status: &mut [u8]) -> Text
     requires { ⌜ length (now status) ≡ size (given .sides) ⌝ }
-    ensures { λ r. ⌜ r ≡ printed (carvedToEnd (state given (now (dist .entry)) (now (status .entry)))) ⌝ }
+    ensures { λ r. ⌜ r ≡ printed (carvedToEnd (now (marks .entry)) (state given (now (dist .entry)) (now (status .entry)))) ⌝ }
 {
-    let carved = carve_and_open(given, dist, status);
+    let carved = carve_and_open(given, dist, marks, status);
     let ended = finish_on(carved, dist, status);
     let kept = kept_voxels(status);
     text::carved_line(Summary {
@@ -119,24 +122,34 @@ fn begun_line(
     sides: Sides,
     allowed: u16,
     values: &[i32],
+    marks: &[u8],
     dist: &mut [i32],
     status: &mut [u8],
 ) -> Text
-    ensures { λ r. ⌜ r ≡ printed (lineFrom (begin sides allowed (now (values .entry)) (now (dist .entry)) (now (status .entry)))) ⌝ }
+    ensures { λ r. ⌜ r ≡ printed (lineFrom (now (marks .entry))
+        (begin sides allowed (now (values .entry)) (now (marks .entry)) (now (dist .entry)) (now (status .entry)))) ⌝ }
 {
-    match beginning::begin(sides, allowed, values, dist, status) {
-        Begun::Ready(next) => carved_to_end(next, dist, status),
+    match beginning::begin(sides, allowed, values, marks, dist, status) {
+        Begun::Ready(next) => carved_to_end(next, dist, marks, status),
         Begun::Refused(n) => text::refused_line(n),
     }
 }
 
 // The line of a file, with buffers of zeros that are long enough where the header is right.
-fn line_in(file: &[u8], values: &mut [i32], dist: &mut [i32], status: &mut [u8]) -> Text
-    requires { ⌜ Lent (lentFor (now file)) (now values) (now dist) (now status) ⌝ }
+fn line_in(
+    file: &[u8],
+    values: &mut [i32],
+    marks: &[u8],
+    dist: &mut [i32],
+    status: &mut [u8],
+) -> Text
+    requires { ⌜ Lent (lentFor (now file)) (now values) (now marks) (now dist) (now status) ⌝ }
     ensures { λ r. ⌜ r ≡ printed (fileLine (now (file .entry))) ⌝ }
 {
     match gridfile::read_up_to(file, values, 24) {
-        ReadAnswer::Grid { sides, allowed } => begun_line(sides, allowed, values, dist, status),
+        ReadAnswer::Grid { sides, allowed } => {
+            begun_line(sides, allowed, values, marks, dist, status)
+        }
         ReadAnswer::Refused(n) => text::refused_line(n),
     }
 }
@@ -161,9 +174,16 @@ fn file_line(file: &[u8]) -> Text
 {
     let n = voxels_in(file);
     let mut values = [0i32; 13824];
+    let marks = [0u8; 13824];
     let mut dist = [0i32; 13824];
     let mut status = [0u8; 13824];
-    line_in(file, &mut values[..n], &mut dist[..n], &mut status[..n])
+    line_in(
+        file,
+        &mut values[..n],
+        &marks[..n],
+        &mut dist[..n],
+        &mut status[..n],
+    )
 }
 
 // The line that the program prints for its input.

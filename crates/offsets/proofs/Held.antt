@@ -15,39 +15,39 @@ use Rattle.keys.proofs.Ranks.{key-by, key-pending, key-past, key-voxel}
 use Rattle.offsets.specs.Offsets.{Offset, Offsets, heldAt, heldKey, Held, group, groups, groupKey, heldGroup}
 use Rattle.offsets.proofs.Offsets.{Named}
 
-module _ (dist : List ℤ) (offsets : List ℕ) (k : ℕ) where
-  pub held-off : width ≤ getD offsets k 0 → heldKey dist offsets k ≡ 0
+module _ (hurried : ℕ → Bool) (dist : List ℤ) (offsets : List ℕ) (k : ℕ) where
+  pub held-off : width ≤ getD offsets k 0 → heldKey hurried dist offsets k ≡ 0
   unfolding heldKey
-  held-off h = ap (λ (b : Bool). cond b (voxelKey dist (heldAt offsets k)) 0) (le-ltb (getD offsets k 0) width h)
+  held-off h = ap (λ (b : Bool). cond b (voxelKey hurried dist (heldAt offsets k)) 0) (le-ltb (getD offsets k 0) width h)
 
-  pub held-on : getD offsets k 0 < width → heldKey dist offsets k ≡ voxelKey dist (heldAt offsets k)
+  pub held-on : getD offsets k 0 < width → heldKey hurried dist offsets k ≡ voxelKey hurried dist (heldAt offsets k)
   unfolding heldKey
-  held-on h = ap (λ (b : Bool). cond b (voxelKey dist (heldAt offsets k)) 0) (lt-ltb (getD offsets k 0) width h)
+  held-on h = ap (λ (b : Bool). cond b (voxelKey hurried dist (heldAt offsets k)) 0) (lt-ltb (getD offsets k 0) width h)
 
 -- so many stretches as a group has
 pub held-some :
-    (dist : List ℤ) (offsets : List ℕ) (q count v : ℕ) → count ≡ min group (stretches (length dist) - group * q)
-    → v ≡ greatest (heldKey dist offsets) (group * q) count → v ≡ heldGroup dist offsets q
+    (hurried : ℕ → Bool) (dist : List ℤ) (offsets : List ℕ) (q count v : ℕ) → count ≡ min group (stretches (length dist) - group * q)
+    → v ≡ greatest (heldKey hurried dist offsets) (group * q) count → v ≡ heldGroup hurried dist offsets q
 unfolding heldGroup
-held-some dist offsets q count v e r = r ∙ ap (greatest (heldKey dist offsets) (group * q)) e
+held-some hurried dist offsets q count v e r = r ∙ ap (greatest (heldKey hurried dist offsets) (group * q)) e
 
-module _ (dist : List ℤ) (status : List ℕ) (lent : Lent dist status) where
+module _ (hurried : ℕ → Bool) (dist : List ℤ) (status : List ℕ) (lent : Lent dist status) where
   -- a voxel with a key is one of the voxels
-  pub key-inside : (j : ℕ) → 0 < keyAt dist status j → j < length status
+  pub key-inside : (j : ℕ) → 0 < keyAt hurried dist status j → j < length status
   key-inside j h =
       elim (decLe (length status) j) [
-        | yes u ↦ (let b : ⊥ = omega (arith, key-past dist status j u) in absurd b)
+        | yes u ↦ (let b : ⊥ = omega (arith, key-past hurried dist status j u) in absurd b)
         | no u ↦ omega arith
       ]
 
-  pub key-named : Named (keyAt dist status)
-  key-named j h = let few = lent .few in key-voxel dist status j (omega (arith, key-inside j h)) h
+  pub key-named : Named (keyAt hurried dist status)
+  key-named j h = let few = lent .few in key-voxel hurried dist status j (omega (arith, key-inside j h)) h
 
-  stretch-past : (k : ℕ) → stretches (length status) ≤ k → stretchKey (keyAt dist status) k ≡ 0
+  stretch-past : (k : ℕ) → stretches (length status) ≤ k → stretchKey (keyAt hurried dist status) k ≡ 0
   unfolding stretchKey
-  stretch-past k h = greatest-none (keyAt dist status) (width * k) width (λ j l. key-past dist status j (omega arith))
+  stretch-past k h = greatest-none (keyAt hurried dist status) (width * k) width (λ j l. key-past hurried dist status j (omega arith))
 
-  module _ (offsets : List ℕ) (O : Offsets (keyAt dist status) (stretches (length status)) offsets) where
+  module _ (offsets : List ℕ) (O : Offsets (keyAt hurried dist status) (stretches (length status)) offsets) where
     pub held : Held dist offsets
     held =
         let same = lent .same in
@@ -68,7 +68,7 @@ module _ (dist : List ℤ) (status : List ℕ) (lent : Lent dist status) where
               | no u ↦ omega (arith, o .high)
             ]
 
-    pub held-key : (k : ℕ) → k < stretches (length status) → heldKey dist offsets k ≡ stretchKey (keyAt dist status) k
+    pub held-key : (k : ℕ) → k < stretches (length status) → heldKey hurried dist offsets k ≡ stretchKey (keyAt hurried dist status) k
     held-key k h =
         let o = O .each k h in
         elim (decLt (getD offsets k 0) width) [
@@ -76,17 +76,17 @@ module _ (dist : List ℤ) (status : List ℕ) (lent : Lent dist status) where
               let j : ℕ = width * k + getD offsets k 0 in
               let w = o .on u in
               let e : heldAt offsets k ≡ width * k + getD offsets k 0 = omega arith in
-              let on = key-pending dist status j (omega (arith, o .some u)) in
-              held-on dist offsets k u ∙ ap (voxelKey dist) e ∙ sym (key-by dist status j true on) ∙ sym w
+              let on = key-pending hurried dist status j (omega (arith, o .some u)) in
+              held-on hurried dist offsets k u ∙ ap (voxelKey hurried dist) e ∙ sym (key-by hurried dist status j true on) ∙ sym w
               )
-          | no u ↦ held-off dist offsets k (omega arith) ∙ sym (o .off (omega (arith, o .high)))
+          | no u ↦ held-off hurried dist offsets k (omega arith) ∙ sym (o .off (omega (arith, o .high)))
         ]
 
-    pub held-group : (q v : ℕ) → q < groups (stretches (length dist)) → v ≡ heldGroup dist offsets q → v ≡ groupKey (keyAt dist status) q
+    pub held-group : (q v : ℕ) → q < groups (stretches (length dist)) → v ≡ heldGroup hurried dist offsets q → v ≡ groupKey (keyAt hurried dist status) q
     unfolding groupKey heldGroup
     held-group q v h r =
         r
-        ∙ greatest-same (heldKey dist offsets) w (group * q) (min group (p - group * q)) (λ k l u. held-key k (omega (arith, lent .same)))
+        ∙ greatest-same (heldKey hurried dist offsets) w (group * q) (min group (p - group * q)) (λ k l u. held-key k (omega (arith, lent .same)))
         ∙ (elim (decLe (group * q + group) p) [
           | yes u ↦ (let e : min group (p - group * q) ≡ group = omega arith in ap (greatest w (group * q)) e)
           | no u ↦ (
@@ -99,7 +99,7 @@ module _ (dist : List ℤ) (status : List ℕ) (lent : Lent dist status) where
         ])
       where
         w : ℕ → ℕ
-        w = stretchKey (keyAt dist status)
+        w = stretchKey (keyAt hurried dist status)
 
         p : ℕ
         p = stretches (length dist)

@@ -1,6 +1,6 @@
 -- For each stretch of voxels the offset of its best, for any key, and what is read from the offsets.
 use mathlib.Core.Path.{_≡_}
-use mathlib.Core.Bool.{cond}
+use mathlib.Core.Bool.{Bool, cond}
 use mathlib.Core.List.{List}
 use Prim.Native.Nat.{ℕ, _+_, _-_, _*_, _/_, _%_, _≤_, _<_, min}
 use lib.Dec.{eqb, ltb}
@@ -28,8 +28,8 @@ pub record Offsets (key : ℕ → ℕ) (p : ℕ) (offsets : List ℕ) : Type 0 w
 abbrev pub heldAt : List ℕ → ℕ → ℕ
 heldAt offsets k = width * k + getD offsets k 0 % width
 
-unfoldable pub heldKey : List ℤ → List ℕ → ℕ → ℕ
-heldKey dist offsets k = cond (ltb (getD offsets k 0) width) (voxelKey dist (heldAt offsets k)) 0
+unfoldable pub heldKey : (ℕ → Bool) → List ℤ → List ℕ → ℕ → ℕ
+heldKey hurried dist offsets k = cond (ltb (getD offsets k 0) width) (voxelKey hurried dist (heldAt offsets k)) 0
 
 pub record Held (dist : List ℤ) (offsets : List ℕ) : Type 0 where
   pub few : length dist ≤ most
@@ -50,5 +50,5 @@ unfoldable pub groupKey : (ℕ → ℕ) → ℕ → ℕ
 groupKey key q = greatest (stretchKey key) (group * q) group
 
 -- .. from the offsets
-unfoldable pub heldGroup : List ℤ → List ℕ → ℕ → ℕ
-heldGroup dist offsets q = greatest (heldKey dist offsets) (group * q) (min group (stretches (length dist) - group * q))
+unfoldable pub heldGroup : (ℕ → Bool) → List ℤ → List ℕ → ℕ → ℕ
+heldGroup hurried dist offsets q = greatest (heldKey hurried dist offsets) (group * q) (min group (stretches (length dist) - group * q))

@@ -2,6 +2,7 @@
 ghost use mathlib.Core.Path.{_≡_};
 ghost use Prim.Native.Nat.{_+_, _-_, _*_, _≤_, _<_};
 ghost use lib.ListN.{length};
+ghost use Rattle.rules.specs.Marks.{marked};
 ghost use Rattle.keys.specs.Key.{most, Lent, keyAt, greatest, stretches};
 ghost use Rattle.offsets.specs.Offsets.{offsetOf, Held, heldKey, heldGroup, groups, Offsets};
 
@@ -50,51 +51,52 @@ fn index(x: u8) -> usize
 }
 
 // The greatest key of stretch k, from its offset. Where there is none the stretch's first voxel is read, and dropped.
-pub fn held_key(dist: &[i32], offsets: &[u8], k: usize) -> u64
+pub fn held_key(dist: &[i32], marks: &[u8], offsets: &[u8], k: usize) -> u64
     requires { ⌜ Held (now dist) (now offsets) × (k < stretches (length (now dist))) ⌝ }
-    ensures { λ r. ⌜ r ≡ heldKey (now (dist .entry)) (now (offsets .entry)) k ⌝ }
+    ensures { λ r. ⌜ r ≡ heldKey (marked (now (marks .entry)) .hurried) (now (dist .entry)) (now (offsets .entry)) k ⌝ }
 {
     let o = index(offsets[k]);
-    let w = keys::voxel_key(dist, WIDTH * k + o % WIDTH);
+    let w = keys::voxel_key(dist, marks, WIDTH * k + o % WIDTH);
     if o < WIDTH { w } else { 0 }
 }
 
 // The greatest key of some stretches.
-fn some_stretches(dist: &[i32], offsets: &[u8], first: usize, count: usize) -> u64
+fn some_stretches(dist: &[i32], marks: &[u8], offsets: &[u8], first: usize, count: usize) -> u64
     requires { ⌜ Held (now dist) (now offsets) × (first + count ≤ stretches (length (now dist))) ⌝ }
-    ensures { λ r. ⌜ r ≡ greatest (heldKey (now (dist .entry)) (now (offsets .entry))) first count ⌝ }
+    ensures { λ r. ⌜ r ≡ greatest (heldKey (marked (now (marks .entry)) .hurried) (now (dist .entry)) (now (offsets .entry))) first count ⌝ }
 {
     let mut g: u64 = 0;
     let mut c: usize = 0;
     while c < count {
-        g = winners::greater(g, held_key(dist, offsets, first + c));
+        g = winners::greater(g, held_key(dist, marks, offsets, first + c));
         c += 1;
     }
     g
 }
 
 // The greatest key of group q.
-pub fn group_key(dist: &[i32], offsets: &[u8], q: usize) -> u64
+pub fn group_key(dist: &[i32], marks: &[u8], offsets: &[u8], q: usize) -> u64
     requires { ⌜ Held (now dist) (now offsets) × (q < groups (stretches (length (now dist)))) ⌝ }
-    ensures { λ r. ⌜ r ≡ heldGroup (now (dist .entry)) (now (offsets .entry)) q ⌝ }
+    ensures { λ r. ⌜ r ≡ heldGroup (marked (now (marks .entry)) .hurried) (now (dist .entry)) (now (offsets .entry)) q ⌝ }
 {
     let p = count_stretches(dist.len());
     let first = GROUP * q;
     if first + GROUP <= p {
-        return some_stretches(dist, offsets, first, GROUP);
+        return some_stretches(dist, marks, offsets, first, GROUP);
     }
-    some_stretches(dist, offsets, first, p - first)
+    some_stretches(dist, marks, offsets, first, p - first)
 }
 
 // Makes the offsets of all stretches.
-pub fn fill_offsets(dist: &[i32], status: &[u8], offsets: &mut [u8])
+pub fn fill_offsets(dist: &[i32], marks: &[u8], status: &[u8], offsets: &mut [u8])
     requires { ⌜ Lent (now dist) (now status) × (stretches (length (now status)) ≤ length (now offsets)) ⌝ }
-    ensures { λ _. ⌜ Offsets (keyAt (now (dist .entry)) (now (status .entry))) (stretches (length (now (status .entry)))) (now (offsets .exit)) ⌝ }
+    ensures { λ _. ⌜ Offsets (keyAt (marked (now (marks .entry)) .hurried) (now (dist .entry)) (now (status .entry)))
+        (stretches (length (now (status .entry)))) (now (offsets .exit)) ⌝ }
 {
     let p = count_stretches(status.len());
     let mut k: usize = 0;
     while k < p {
-        offsets[k] = offset_of(keys::stretch(dist, status, k));
+        offsets[k] = offset_of(keys::stretch(dist, marks, status, k));
         k += 1;
     }
 }

@@ -1,5 +1,6 @@
 -- The change of the Euler number by an opening: k and m are 26 at most.
 use mathlib.Core.Path.{_≡_, sym, subst}
+use mathlib.Core.List.{List}
 use Prim.Native.Nat.{ℕ, _≤_}
 use native.Mathlib.Omega.{arith}
 use lib.IntN.{ℤ, pos, natAbs, _-ℤ_}
@@ -22,8 +23,8 @@ module _ (g : State) (i : ℕ) (r : Groups) (e : GroupsOf (testAt (g .rec .sides
       let kept = neighbourhood (g .rec .sides) (isKept (g .status)) i in
       (subst (λ (x : Test). x .k ≤ 26) (sym e) (k-few kept), subst (λ (x : Test). x .m ≤ 26) (sym e) (m-few kept))
 
-  pub countable-open : OpensAt i g → (change : ℤ) → change ≡ pos (r .k) -ℤ pos (r .m) → Countable (g .rec) 1 change
-  countable-open o c h =
+  pub countable-open : (marks : List ℕ) → OpensAt marks i g → (change : ℤ) → change ≡ pos (r .k) -ℤ pos (r .m) → Countable (g .rec) 1 change
+  countable-open marks o c h =
       let f = o .working .fit in
       let n = o .left in
       countable g f 1 c (omega (arith, f .openings))

@@ -5,19 +5,24 @@ ghost use lib.IntN.{pos, _-ℤ_};
 ghost use Rattle.rules.specs.Answer.{outcome, buffers, openedAnswer};
 ghost use Rattle.rules.specs.Checks.{firstFailing};
 ghost use Rattle.rules.specs.Machine as machine;
-ghost use Rattle.rules.specs.Machine.{state, opened};
+ghost use Rattle.rules.specs.Marks.{marked};
+ghost use Rattle.rules.specs.Machine.{state, mayGo, opened};
 ghost use Rattle.opening.specs.Opening.{spentChecks, OpensAt};
 use rules::Opened;
 use rules::Record;
 use searching::Found;
 
 // The number that refuses open before a voxel is looked for, or 0.
-fn open_refusal(given: Record, dist: &[i32], status: &[u8]) -> u8
-    ensures { λ r. ⌜ r ≡ firstFailing (spentChecks (state given (now (dist .entry)) (now (status .entry)))) ⌝ }
+fn open_refusal(given: Record, dist: &[i32], marks: &[u8], status: &[u8]) -> u8
+    ensures { λ r. ⌜ r ≡ firstFailing (spentChecks (now (marks .entry)) (state given (now (dist .entry)) (now (status .entry)))) ⌝ }
 {
-    let n = closing::quiet_refusal(given, dist, status);
+    let all = marks::all(marks);
+    let n = fitness::marked_refusal(given, dist, marks, status, all);
     if n != 0 {
         return n;
+    }
+    if closing::any_pending(status) {
+        return 13;
     }
     let allowed = given.allowed as u32;
     if given.openings == allowed {
@@ -34,15 +39,15 @@ fn change(k: u32, m: u32) -> i32
     (k as i32) - (m as i32)
 }
 
-fn open_at(given: Record, dist: &[i32], status: &mut [u8], i: usize) -> Opened
-    requires { ⌜ OpensAt i (state given (now dist) (now status)) ⌝ }
+fn open_at(given: Record, dist: &[i32], marks: &[u8], status: &mut [u8], i: usize) -> Opened
+    requires { ⌜ OpensAt (now marks) i (state given (now dist) (now status)) ⌝ }
     ensures { λ r. ⌜
         outcome (openedAnswer r) (buffers (now (dist .entry)) (now (status .exit)))
-        ≡ opened i (state given (now (dist .entry)) (now (status .entry))) ⌝ }
+        ≡ opened (mayGo (marked (now (marks .entry))) (now (dist .entry))) i (state given (now (dist .entry)) (now (status .entry))) ⌝ }
 {
     let s = given.sides;
     let t = neighbourhood::groups_at(s, status, i);
-    waking::remove(s, dist, status, i);
+    waking::remove(s, dist, marks, status, i);
     Opened::Through {
         index: i,
         k: t.k,
@@ -51,20 +56,20 @@ fn open_at(given: Record, dist: &[i32], status: &mut [u8], i: usize) -> Opened
     }
 }
 
-// Removes the kept voxel outside S with a face neighbour that is gone, the farthest, the first among equals.
-pub fn open_next(given: Record, dist: &[i32], status: &mut [u8]) -> Opened
+// Removes the kept voxel outside S, not pinned, with a face neighbour that is gone, the farthest, the first among equals.
+pub fn open_next(given: Record, dist: &[i32], marks: &[u8], status: &mut [u8]) -> Opened
     ensures { λ r. ⌜
         outcome (openedAnswer r) (buffers (now (dist .entry)) (now (status .exit)))
-        ≡ machine.openNext (state given (now (dist .entry)) (now (status .entry))) ⌝ }
+        ≡ machine.openNext (now (marks .entry)) (state given (now (dist .entry)) (now (status .entry))) ⌝ }
 {
-    let n = open_refusal(given, dist, status);
+    let n = open_refusal(given, dist, marks, status);
     if n != 0 {
         return Opened::Refused(n);
     }
     let s = given.sides;
-    let next = searching::to_open(s, dist, status);
+    let next = searching::to_open(s, dist, marks, status);
     let Found::At(i) = next else {
         return Opened::Refused(15);
     };
-    open_at(given, dist, status, i)
+    open_at(given, dist, marks, status, i)
 }

@@ -14,12 +14,13 @@ use Rattle.prelude.proofs.Bools.{two}
 use Rattle.rules.specs.declared.Sides.{Sides}
 use Rattle.rules.specs.Grid.{size, distanceAt}
 use Rattle.rules.specs.Status.{isPending}
-use Rattle.rules.specs.Machine.{farther}
+use Rattle.rules.specs.Marks.{Marked}
+use Rattle.rules.specs.Machine.{sooner}
 use Rattle.rules.specs.Choice.{Foremost}
-use Rattle.rules.proofs.Foremost.{farther-order, none-first, foremost-first-of}
+use Rattle.rules.proofs.Foremost.{sooner-order, none-first, foremost-first-of}
 use Rattle.keys.specs.Key.{most, keyAt, voxelOf, greatest, width, stretches, stretchKey}
 use Rattle.keys.proofs.Greatest.{greatest-le, greatest-of}
-use Rattle.keys.proofs.Ranks.{rank-some, rank-less, rank-least, key-by, key-pending}
+use Rattle.keys.proofs.Ranks.{by-some, by-less, by-least, key-by, key-pending}
 use Rattle.winners.proofs.Root.{root-top, root-leaf}
 use Rattle.pending.specs.declared.Choice.the-variants.{Nothing, At}
 use Rattle.offsets.specs.Offsets.{group, groups, groupKey}
@@ -65,46 +66,45 @@ module _ (key : ℕ → ℕ) where
 
 -- ---- the choice
 
-module _ (dist : List ℤ) (status offsets tree : List ℕ) (I : Index dist status offsets tree) where
+module _ (m : Marked) (dist : List ℤ) (status offsets tree : List ℕ) (I : Index m dist status offsets tree) where
   -- j is pending, the root is its key, and no voxel has a greater one
   pub record Winner (j : ℕ) : Type 0 where
     pub inside : j < length status
     pub pending : isPending status j ≡ true
-    pub key : getD tree 1 0 ≡ keyAt dist status j
-    pub top : (i : ℕ) → i < length status → keyAt dist status i ≤ getD tree 1 0
+    pub key : getD tree 1 0 ≡ keyAt (m .hurried) dist status j
+    pub top : (i : ℕ) → i < length status → keyAt (m .hurried) dist status i ≤ getD tree 1 0
 
   -- a root that is not 0 is the key of a pending voxel, which comes back from it
   pub root-winner : 0 < getD tree 1 0 → Winner (voxelOf (getD tree 1 0))
   root-winner h =
-      let w = root-key (keyAt dist status) (length status) offsets tree (I .index) (I .lent .some) h in
+      let w = root-key (keyAt (m .hurried) dist status) (length status) offsets tree (I .index) (I .lent .some) h in
       let j = w .0 in
-      let p : 0 < keyAt dist status j = omega (arith, w .1) in
-      let e : j ≡ voxelOf (getD tree 1 0) = sym (ap voxelOf (w .1) ∙ key-named dist status (I .lent) j p) in
+      let p : 0 < keyAt (m .hurried) dist status j = omega (arith, w .1) in
+      let e : j ≡ voxelOf (getD tree 1 0) = sym (ap voxelOf (w .1) ∙ key-named (m .hurried) dist status (I .lent) j p) in
       subst Winner e (
       record {
-        inside = key-inside dist status (I .lent) j p;
-        pending = key-pending dist status j p;
+        inside = key-inside (m .hurried) dist status (I .lent) j p;
+        pending = key-pending (m .hurried) dist status j p;
         key = w .1;
-        top = root-greatest (keyAt dist status) (length status) offsets tree (I .index);
+        top = root-greatest (keyAt (m .hurried) dist status) (length status) offsets tree (I .index);
       }
       )
 
   module _ (s : Sides) (grid : size s ≡ length status) where
-    winner-foremost : (j : ℕ) → SFits w32 (distanceAt dist j) → Winner j → Foremost s (farther dist) (isPending status) j
-    unfolding farther
+    winner-foremost : (j : ℕ) → SFits w32 (distanceAt dist j) → Winner j → Foremost s (sooner m dist) (isPending status) j
     winner-foremost j f v =
         let few = I .lent .few in
         let inside = v .inside in
-        let own = v .key ∙ key-by dist status j true (v .pending) in
+        let own = v .key ∙ key-by (m .hurried) dist status j true (v .pending) in
         record {
           below = omega arith;
           chosen = v .pending;
           farthest = λ i u e.
-              rank-least (distanceAt dist j) (distanceAt dist i) f
-              (omega (arith, rank-some (distanceAt dist j), v .top i (omega arith), key-by dist status i true e));
+              by-least m dist i j f
+              (omega (arith, by-some (m .hurried) (distanceAt dist j) j, v .top i (omega arith), key-by (m .hurried) dist status i true e));
           earliest = λ i u e.
-              rank-less (distanceAt dist i) (distanceAt dist j)
-              (omega (arith, rank-some (distanceAt dist i), v .top i (omega arith), key-by dist status i true e));
+              by-less m dist j i f
+              (omega (arith, by-some (m .hurried) (distanceAt dist i) i, v .top i (omega arith), key-by (m .hurried) dist status i true e));
         }
 
   idle : getD tree 1 0 ≡ 0 → (j : ℕ) → j < length status → isPending status j ≡ false
@@ -112,8 +112,8 @@ module _ (dist : List ℤ) (status offsets tree : List ℕ) (I : Index dist stat
       elim (two (isPending status j)) [
         | inl p ↦ (
             let few = I .lent .few in
-            let t = root-greatest (keyAt dist status) (length status) offsets tree (I .index) j u in
-            let b : ⊥ = omega (arith, key-by dist status j true p, rank-some (distanceAt dist j)) in
+            let t = root-greatest (keyAt (m .hurried) dist status) (length status) offsets tree (I .index) j u in
+            let b : ⊥ = omega (arith, key-by (m .hurried) dist status j true p, by-some (m .hurried) (distanceAt dist j) j) in
             absurd b
             )
         | inr p ↦ p
@@ -122,19 +122,19 @@ module _ (dist : List ℤ) (status offsets tree : List ℕ) (I : Index dist stat
   never : {A : Type 0} (j : ℕ) → Nothing ≡ At j → A
   never j q = let z : _≡_ {A = ℕ} 0 1 = cc in let b : ⊥ = omega arith in absurd b
 
-  pub best-nothing : getD tree 1 0 ≡ 0 → Best dist status Nothing
+  pub best-nothing : getD tree 1 0 ≡ 0 → Best m dist status Nothing
   best-nothing e =
       record {
-        rule = λ s n. sym (none-first s (farther dist) (farther-order dist) (isPending status) (λ j u. idle e j (omega arith)));
+        rule = λ s n. sym (none-first s (sooner m dist) (sooner-order m dist) (isPending status) (λ j u. idle e j (omega arith)));
         inside = λ j q. never j q;
         pending = λ j q. never j q;
         nothing = λ _. idle e;
       }
 
-  pub best-at : (j : ℕ) → 0 < getD tree 1 0 → j ≡ voxelOf (getD tree 1 0) → SFits w32 (distanceAt dist j) → Best dist status (At j)
+  pub best-at : (j : ℕ) → 0 < getD tree 1 0 → j ≡ voxelOf (getD tree 1 0) → SFits w32 (distanceAt dist j) → Best m dist status (At j)
   best-at j h e f =
       record {
-        rule = λ s n. sym (foremost-first-of s (farther dist) (farther-order dist) (isPending status) j (winner-foremost s n j f v));
+        rule = λ s n. sym (foremost-first-of s (sooner m dist) (sooner-order m dist) (isPending status) j (winner-foremost s n j f v));
         inside = λ i q. let s : j ≡ i = cc in omega (arith, v .inside);
         pending = λ i q. let s : j ≡ i = cc in ap (isPending status) (sym s) ∙ v .pending;
         nothing = λ q. never j (sym q);

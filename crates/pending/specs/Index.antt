@@ -11,7 +11,8 @@ use lib.ListN.{length, getD, set}
 use Rattle.rules.specs.declared.Sides.{Sides}
 use Rattle.rules.specs.Grid.{size}
 use Rattle.rules.specs.Status.{statusOf, pendingByte, woken, isPending, firstOf}
-use Rattle.rules.specs.Machine.{farther}
+use Rattle.rules.specs.Marks.{Marked}
+use Rattle.rules.specs.Machine.{sooner}
 use Rattle.keys.specs.Key.{most, Lent, keyAt, voxelKey, voxelOf, greatest, width, stretches, stretchKey}
 use Rattle.offsets.specs.Offsets.{Offsets, Held, group, groups, groupKey, heldGroup}
 use Rattle.winners.specs.Tree.{Nodes, Changed, Crowning}
@@ -33,9 +34,9 @@ pub record Indexed (key : ℕ → ℕ) (n : ℕ) (offsets tree : List ℕ) : Typ
   pub nodes : Nodes (groups (stretches n)) tree
   pub leaf : (q : ℕ) → q < groups (stretches n) → getD tree (groups (stretches n) + q) 0 ≡ groupKey key q
 
-pub record Index (dist : List ℤ) (status offsets tree : List ℕ) : Type 0 where
+pub record Index (m : Marked) (dist : List ℤ) (status offsets tree : List ℕ) : Type 0 where
   pub lent : Lent dist status
-  pub index : Indexed (keyAt dist status) (length status) offsets tree
+  pub index : Indexed (keyAt (m .hurried) dist status) (length status) offsets tree
 
 -- room for it
 pub record Room (dist : List ℤ) (status offsets tree : List ℕ) : Type 0 where
@@ -49,31 +50,31 @@ pub record Room (dist : List ℤ) (status offsets tree : List ℕ) : Type 0 wher
 unfoldable pub adjoin : ℕ → ℕ → Bool
 adjoin w root = not (eqb w 0) && eqb ((w - 1) / width) ((root - 1) / width)
 
-pub record Refreshing (dist : List ℤ) (offsets tree : List ℕ) (k w : ℕ) : Type 0 where
+pub record Refreshing (m : Marked) (dist : List ℤ) (offsets tree : List ℕ) (k w : ℕ) : Type 0 where
   pub held : Held dist offsets
   pub inside : k < stretches (length dist)
   pub nodes : Nodes (groups (stretches (length dist))) tree
   pub below : w ≤ getD tree 1 0
   pub next : adjoin w (getD tree 1 0) ≡ true → Crowning (groups (stretches (length dist))) (k / group) w tree
-  pub own : adjoin w (getD tree 1 0) ≡ true → w ≡ heldGroup dist offsets (k / group)
+  pub own : adjoin w (getD tree 1 0) ≡ true → w ≡ heldGroup (m .hurried) dist offsets (k / group)
 
-abbrev pub Refreshed : List ℤ → List ℕ → List ℕ → List ℕ → ℕ → Type 0
-Refreshed dist offsets before after k = Changed (groups (stretches (length dist))) (k / group) (heldGroup dist offsets (k / group)) before after
+abbrev pub Refreshed : Marked → List ℤ → List ℕ → List ℕ → List ℕ → ℕ → Type 0
+Refreshed m dist offsets before after k = Changed (groups (stretches (length dist))) (k / group) (heldGroup (m .hurried) dist offsets (k / group)) before after
 
 -- ---- a status byte is written
 
-pub record Clearing (dist : List ℤ) (status offsets tree : List ℕ) (j s : ℕ) : Type 0 where
-  pub index : Index dist status offsets tree
+pub record Clearing (m : Marked) (dist : List ℤ) (status offsets tree : List ℕ) (j s : ℕ) : Type 0 where
+  pub index : Index m dist status offsets tree
   pub inside : j < length status
   pub idle : pendingByte s ≡ false
 
-pub record Written (dist : List ℤ) (before after offsets tree : List ℕ) (j s : ℕ) : Type 0 where
+pub record Written (m : Marked) (dist : List ℤ) (before after offsets tree : List ℕ) (j s : ℕ) : Type 0 where
   pub status : after ≡ set before j s
-  pub index : Index dist after offsets tree
+  pub index : Index m dist after offsets tree
 
 -- the byte is made pending
-abbrev pub Raised : List ℤ → List ℕ → List ℕ → List ℕ → List ℕ → ℕ → Type 0
-Raised dist before after offsets tree j = Written dist before after offsets tree j (woken (statusOf before j))
+abbrev pub Raised : Marked → List ℤ → List ℕ → List ℕ → List ℕ → List ℕ → ℕ → Type 0
+Raised m dist before after offsets tree j = Written m dist before after offsets tree j (woken (statusOf before j))
 
 -- ---- the answer
 
@@ -82,8 +83,8 @@ chosen Nothing = none
 chosen (At j) = some j
 
 -- document 01's choice among the pending voxels of a grid with these buffers
-pub record Best (dist : List ℤ) (status : List ℕ) (c : Choice) : Type 0 where
-  pub rule : (s : Sides) → size s ≡ length status → chosen c ≡ firstOf s (farther dist) (isPending status)
+pub record Best (m : Marked) (dist : List ℤ) (status : List ℕ) (c : Choice) : Type 0 where
+  pub rule : (s : Sides) → size s ≡ length status → chosen c ≡ firstOf s (sooner m dist) (isPending status)
   pub inside : (j : ℕ) → c ≡ At j → j < length status
   pub pending : (j : ℕ) → c ≡ At j → isPending status j ≡ true
   pub nothing : c ≡ Nothing → (j : ℕ) → j < length status → isPending status j ≡ false

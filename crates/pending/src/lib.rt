@@ -7,6 +7,7 @@ ghost use mir.Syntax.{w32};
 ghost use mir.Val.{SFits};
 ghost use Rattle.rules.specs.Grid.{distanceAt};
 ghost use Rattle.rules.specs.Status.{woken};
+ghost use Rattle.rules.specs.Marks.{marked};
 ghost use Rattle.keys.specs.Key.{most, Lent, keyAt, voxelOf, greatest, stretches};
 ghost use Rattle.offsets.specs.Offsets.{offsetOf, Held, heldKey, heldGroup, groups, Offsets};
 ghost use Rattle.pending.specs.Index.{Leafing, Room, Index, Clearing, Written, Raised, Best};
@@ -28,13 +29,14 @@ pub enum Choice {
 }
 
 // Makes the leaves of a tree with h of them.
-fn fill_leaves(dist: &[i32], offsets: &[u8], tree: &mut [u64], h: usize)
+fn fill_leaves(dist: &[i32], marks: &[u8], offsets: &[u8], tree: &mut [u64], h: usize)
     requires { ⌜ Leafing (now dist) (now offsets) (now tree) h ⌝ }
-    ensures { λ _. ⌜ ((q : ℕ) → q < h → getD (now (tree .exit)) (h + q) 0 ≡ heldGroup (now (dist .entry)) (now (offsets .entry)) q) ⌝ }
+    ensures { λ _. ⌜ ((q : ℕ) → q < h → getD (now (tree .exit)) (h + q) 0
+        ≡ heldGroup (marked (now (marks .entry)) .hurried) (now (dist .entry)) (now (offsets .entry)) q) ⌝ }
 {
     let mut q: usize = 0;
     while q < h {
-        tree[h + q] = offsets::group_key(dist, offsets, q);
+        tree[h + q] = offsets::group_key(dist, marks, offsets, q);
         q += 1;
     }
 }
@@ -52,16 +54,16 @@ fn adjoin(w: u64, root: u64) -> bool
 
 // Makes the leaf of stretch k's group and the nodes above it anew, where w is the stretch's greatest key. The voxel that was examined
 // last mostly has its like in the same stretch, which is then the greatest of all.
-fn refresh(dist: &[i32], offsets: &[u8], tree: &mut [u64], k: usize, w: u64)
-    requires { ⌜ Refreshing (now dist) (now offsets) (now tree) k w ⌝ }
-    ensures { λ _. ⌜ Refreshed (now (dist .entry)) (now (offsets .entry)) (now (tree .entry)) (now (tree .exit)) k ⌝ }
+fn refresh(dist: &[i32], marks: &[u8], offsets: &[u8], tree: &mut [u64], k: usize, w: u64)
+    requires { ⌜ Refreshing (marked (now marks)) (now dist) (now offsets) (now tree) k w ⌝ }
+    ensures { λ _. ⌜ Refreshed (marked (now (marks .entry))) (now (dist .entry)) (now (offsets .entry)) (now (tree .entry)) (now (tree .exit)) k ⌝ }
 {
     let h = offsets::count_groups(dist.len());
     if adjoin(w, tree[1]) {
         winners::crown(tree, h, k / GROUP, w);
         return;
     }
-    let v = offsets::group_key(dist, offsets, k / GROUP);
+    let v = offsets::group_key(dist, marks, offsets, k / GROUP);
     winners::replace(tree, h, k / GROUP, v);
 }
 
@@ -73,35 +75,52 @@ fn wake(s: u8) -> u8
 }
 
 // The index of the lent buffers.
-pub fn build(dist: &[i32], status: &[u8], offsets: &mut [u8], tree: &mut [u64])
+pub fn build(dist: &[i32], marks: &[u8], status: &[u8], offsets: &mut [u8], tree: &mut [u64])
     requires { ⌜ Room (now dist) (now status) (now offsets) (now tree) ⌝ }
-    ensures { λ _. ⌜ Index (now (dist .entry)) (now (status .entry)) (now (offsets .exit)) (now (tree .exit)) ⌝ }
+    ensures { λ _. ⌜ Index (marked (now (marks .entry))) (now (dist .entry)) (now (status .entry)) (now (offsets .exit)) (now (tree .exit)) ⌝ }
 {
     let h = offsets::count_groups(dist.len());
-    offsets::fill_offsets(dist, status, offsets);
-    fill_leaves(dist, offsets, tree, h);
+    offsets::fill_offsets(dist, marks, status, offsets);
+    fill_leaves(dist, marks, offsets, tree, h);
     winners::join_nodes(tree, h);
 }
 
 // Voxel j, pending or not, has the status byte s from now on, which is not pending.
-pub fn clear(dist: &[i32], status: &mut [u8], offsets: &mut [u8], tree: &mut [u64], j: usize, s: u8)
-    requires { ⌜ Clearing (now dist) (now status) (now offsets) (now tree) j s ⌝ }
-    ensures { λ _. ⌜ Written (now (dist .entry)) (now (status .entry)) (now (status .exit)) (now (offsets .exit)) (now (tree .exit)) j s ⌝ }
+pub fn clear(
+    dist: &[i32],
+    marks: &[u8],
+    status: &mut [u8],
+    offsets: &mut [u8],
+    tree: &mut [u64],
+    j: usize,
+    s: u8,
+)
+    requires { ⌜ Clearing (marked (now marks)) (now dist) (now status) (now offsets) (now tree) j s ⌝ }
+    ensures { λ _. ⌜ Written (marked (now (marks .entry))) (now (dist .entry)) (now (status .entry)) (now (status .exit)) (now (offsets .exit))
+        (now (tree .exit)) j s ⌝ }
 {
     status[j] = s;
-    let w = keys::stretch(dist, status, j / WIDTH);
+    let w = keys::stretch(dist, marks, status, j / WIDTH);
     offsets[j / WIDTH] = offsets::offset_of(w);
-    refresh(dist, offsets, tree, j / WIDTH, w);
+    refresh(dist, marks, offsets, tree, j / WIDTH, w);
 }
 
 // Voxel j, pending or not, is pending from now on.
-pub fn raise(dist: &[i32], status: &mut [u8], offsets: &mut [u8], tree: &mut [u64], j: usize)
-    requires { ⌜ Index (now dist) (now status) (now offsets) (now tree) × (j < length (now status)) ⌝ }
-    ensures { λ _. ⌜ Raised (now (dist .entry)) (now (status .entry)) (now (status .exit)) (now (offsets .exit)) (now (tree .exit)) j ⌝ }
+pub fn raise(
+    dist: &[i32],
+    marks: &[u8],
+    status: &mut [u8],
+    offsets: &mut [u8],
+    tree: &mut [u64],
+    j: usize,
+)
+    requires { ⌜ Index (marked (now marks)) (now dist) (now status) (now offsets) (now tree) × (j < length (now status)) ⌝ }
+    ensures { λ _. ⌜ Raised (marked (now (marks .entry))) (now (dist .entry)) (now (status .entry)) (now (status .exit)) (now (offsets .exit))
+        (now (tree .exit)) j ⌝ }
 {
     status[j] = wake(status[j]);
-    let w = keys::voxel_key(dist, j);
-    if w <= offsets::held_key(dist, offsets, j / WIDTH) {
+    let w = keys::voxel_key(dist, marks, j);
+    if w <= offsets::held_key(dist, marks, offsets, j / WIDTH) {
         return;
     }
     let h = offsets::count_groups(dist.len());
@@ -120,9 +139,9 @@ fn voxel(dist: &[i32], w: u64) -> usize
 }
 
 // The pending voxel that comes first.
-pub fn best(dist: &[i32], status: &[u8], offsets: &[u8], tree: &[u64]) -> Choice
-    requires { ⌜ Index (now dist) (now status) (now offsets) (now tree) ⌝ }
-    ensures { λ r. ⌜ Best (now (dist .entry)) (now (status .entry)) r ⌝ }
+pub fn best(dist: &[i32], marks: &[u8], status: &[u8], offsets: &[u8], tree: &[u64]) -> Choice
+    requires { ⌜ Index (marked (now marks)) (now dist) (now status) (now offsets) (now tree) ⌝ }
+    ensures { λ r. ⌜ Best (marked (now (marks .entry))) (now (dist .entry)) (now (status .entry)) r ⌝ }
 {
     let w = tree[1];
     if w == 0 {

@@ -15,8 +15,9 @@ use mir.Val.{SFits, toZ, ofZ}
 use mir.Facts.{toZ-ofZ}
 use Rattle.prelude.proofs.Bools.{two}
 use Rattle.rules.specs.Grid.{isNegative}
+use Rattle.rules.specs.Marks.{Marked}
 use Rattle.searching.specs.declared.Held.{Held}
-use Rattle.searching.specs.Argmax.{heightAt, keyAt, rank, higher, heldOf, Greatest, Holding, Leading}
+use Rattle.searching.specs.Argmax.{surfaceHeight, surfaceKey, heightAt, keyAt, rank, higher, heldOf, Greatest, Holding, Leading}
 
 -- ---- ranks
 
@@ -49,9 +50,13 @@ rank-same (pos m) (pos n) h e = let q : m ≡ n = omega arith in ap pos q
 rank-same (pos m) (negsuc n) h e = let z : ⊥ = omega arith in absurd z
 rank-same (negsuc m) y h e = let z : ⊥ = omega arith in absurd z
 
-pub key-is : (dist : List ℤ) (status : List ℕ) (a l i : ℕ) → keyAt dist status a l i ≡ rank (heightAt dist status a l i)
+pub key-is : (m : Marked) (dist : List ℤ) (status : List ℕ) (a l i : ℕ) → keyAt m dist status a l i ≡ rank (heightAt m dist status a l i)
 unfolding keyAt
-key-is dist status a l i = refl
+key-is m dist status a l i = refl
+
+pub surface-key-is : (dist : List ℤ) (status : List ℕ) (a l i : ℕ) → surfaceKey dist status a l i ≡ rank (surfaceHeight dist status a l i)
+unfolding surfaceKey
+surface-key-is dist status a l i = refl
 
 -- ---- the higher of two stretches
 

@@ -1,3 +1,4 @@
 pub mod Argmax
 pub mod Surface
 pub mod Opening
+pub mod Pins

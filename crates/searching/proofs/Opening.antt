@@ -15,13 +15,14 @@ use Rattle.rules.specs.declared.Sides.{Sides}
 use Rattle.rules.specs.Grid.{size, isNegative, distanceAt}
 use Rattle.rules.specs.Begin.{exposed}
 use Rattle.rules.specs.Status.{isKept, removable, firstOf, openable}
-use Rattle.rules.specs.Machine.{isInside, outside, farther}
+use Rattle.rules.specs.Machine.{isInside, outside, mayGo, farther}
+use Rattle.rules.specs.Marks.{Marked, marked}
 use Rattle.rules.specs.Choice.{Foremost}
 use Rattle.rules.proofs.Places.{fit}
 use Rattle.rules.proofs.Foremost.{farther-order, none-first, foremost-first-of}
 use Rattle.neighbourhood.proofs.Interior.{first-below, room}
 use Rattle.neighbourhood.proofs.Bodies.{kept-inner}
-use Rattle.searching.specs.Argmax.{enclosed, surfaceAt, heightOf, heightAt, keyAt, rank, Leading, Layers, Searchable}
+use Rattle.searching.specs.Argmax.{enclosed, surfaceAt, shownAt, heightOf, heightAt, keyAt, rank, Leading, Layers, Searchable}
 use Rattle.searching.proofs.Argmax.{rank-some}
 use Rattle.searching.proofs.Surface.{exposed-is}
 
@@ -39,9 +40,9 @@ less (negsuc m) y p h = let z : ⊥ = omega arith in absurd z
 
 -- ---- rows and layers of a grid
 
-pub layers : (s : Sides) (dist : List ℤ) (status : List ℕ) → Searchable s dist status → Layers (s .a) (s .a * s .b) (size s)
+pub layers : (s : Sides) (dist : List ℤ) (marks status : List ℕ) → Searchable s dist marks status → Layers (s .a) (s .a * s .b) (size s)
 unfolding size
-layers s dist status g =
+layers s dist marks status g =
     let f = fit s (g .body .sides) in
     let ab : s .a * 3 ≤ s .a * s .b = mul-le-mul-left (s .a) (f .b-low) in
     let abc : s .a * s .b * 3 ≤ s .a * s .b * s .c = mul-le-mul-left (s .a * s .b) (f .c-low) in
@@ -51,7 +52,10 @@ layers s dist status g =
 
 -- ---- what can be opened, and where
 
-module _ (s : Sides) (dist : List ℤ) (status : List ℕ) (g : Searchable s dist status) where
+module _ (s : Sides) (dist : List ℤ) (marks status : List ℕ) (g : Searchable s dist marks status) where
+  abbrev m : Marked
+  m = marked marks
+
   abbrev l : ℕ
   l = s .a * s .b
 
@@ -59,10 +63,10 @@ module _ (s : Sides) (dist : List ℤ) (status : List ℕ) (g : Searchable s dis
   first = 1 + s .a + l
 
   abbrev may : ℕ → Bool
-  may = openable s (outside dist) status
+  may = openable s (mayGo m dist) status
 
   abbrev key : ℕ → ℕ
-  key = keyAt dist status (s .a) l
+  key = keyAt m dist status (s .a) l
 
   -- a kept voxel lies among those searched
   kept-range : (j : ℕ) → j < size s → isKept status j ≡ true → (first ≤ j) × (j < size s - first)
@@ -72,20 +76,23 @@ module _ (s : Sides) (dist : List ℤ) (status : List ℕ) (g : Searchable s dis
       let r = room s j n .ends in
       (b, omega arith)
 
-  -- kept, outside S, and on the surface
+  -- kept, outside S, on the surface and not pinned
   open-split : (j : ℕ) → j < size s → may j ≡ true
-      → (isKept status j ≡ true) × (isNegative (distanceAt dist j) ≡ false) × (surfaceAt status (s .a) l j ≡ true)
-  unfolding openable removable outside isInside surfaceAt
+      → (isKept status j ≡ true) × (isNegative (distanceAt dist j) ≡ false) × (shownAt m status (s .a) l j ≡ true)
+  unfolding openable removable mayGo outside isInside surfaceAt shownAt
   open-split j h e =
-      let p = and-true (isKept status j && not (isNegative (distanceAt dist j))) (exposed s (isKept status) j) e in
-      let q = and-true (isKept status j) (not (isNegative (distanceAt dist j))) (p .0) in
-      (q .0, not-true _ (q .1), true-and _ _ (q .0) (sym (exposed-is s status j (kept-inner s status (g .body) j h (q .0))) ∙ p .1))
+      let p = and-true (isKept status j && mayGo m dist j) (exposed s (isKept status) j) e in
+      let q = and-true (isKept status j) (mayGo m dist j) (p .0) in
+      let r = and-true (not (isNegative (distanceAt dist j))) (not (m .pinned j)) (q .1) in
+      let x = exposed-is s status j (kept-inner s status (g .body) j h (q .0)) in
+      (q .0, not-true _ (r .0), true-and (surfaceAt status (s .a) l j) _ (true-and _ _ (q .0) (sym x ∙ p .1)) (r .1))
 
-  open-join : (j : ℕ) → j < size s → surfaceAt status (s .a) l j ≡ true → isNegative (distanceAt dist j) ≡ false → may j ≡ true
-  unfolding openable removable outside isInside surfaceAt
+  open-join : (j : ℕ) → j < size s → shownAt m status (s .a) l j ≡ true → isNegative (distanceAt dist j) ≡ false → may j ≡ true
+  unfolding openable removable mayGo outside isInside surfaceAt shownAt
   open-join j h e d =
-      let p = and-true (isKept status j) (not (enclosed status (s .a) l j)) e in
-      true-and _ _ (true-and _ _ (p .0) (ap not d)) (exposed-is s status j (kept-inner s status (g .body) j h (p .0)) ∙ p .1)
+      let w = and-true (surfaceAt status (s .a) l j) (not (m .pinned j)) e in
+      let p = and-true (isKept status j) (not (enclosed status (s .a) l j)) (w .0) in
+      true-and _ _ (true-and _ _ (p .0) (true-and _ _ (ap not d) (w .1))) (exposed-is s status j (kept-inner s status (g .body) j h (p .0)) ∙ p .1)
 
   key-open : (j : ℕ) → j < size s → may j ≡ true → (key j ≡ rank (distanceAt dist j)) × (0 < rank (distanceAt dist j))
   unfolding keyAt heightAt heightOf
@@ -96,7 +103,7 @@ module _ (s : Sides) (dist : List ℤ) (status : List ℕ) (g : Searchable s dis
   open-key : (j : ℕ) → j < size s → 0 < key j → may j ≡ true
   unfolding keyAt heightAt heightOf
   open-key j h p =
-      elim (two (surfaceAt status (s .a) l j)) [
+      elim (two (shownAt m status (s .a) l j)) [
         | inl e ↦
             (let q = ap (λ (t : Bool). rank (cond t (distanceAt dist j) (negsuc 0))) e in
             open-join j h e (sign (distanceAt dist j) (let r : 0 < rank (distanceAt dist j) = omega arith in r)))
@@ -109,8 +116,8 @@ module _ (s : Sides) (dist : List ℤ) (status : List ℕ) (g : Searchable s dis
 
   -- ---- the search
 
-  module _ (m : ℕ) (top : (j : ℕ) → first ≤ j → j < size s - first → key j ≤ m) where
-    pub nothing : m ≡ 0 → firstOf s (farther dist) may ≡ none
+  module _ (most : ℕ) (top : (j : ℕ) → first ≤ j → j < size s - first → key j ≤ most) where
+    pub nothing : most ≡ 0 → firstOf s (farther dist) may ≡ none
     nothing z =
         none-first s (farther dist) (farther-order dist) may
         (λ j h.
@@ -123,14 +130,14 @@ module _ (s : Sides) (dist : List ℤ) (status : List ℕ) (g : Searchable s dis
               absurd b)
         ])
 
-    module _ (p : 0 < m) (i : ℕ) (w : Leading key first (size s - first) m i) where
+    module _ (p : 0 < most) (i : ℕ) (w : Leading key first (size s - first) most i) where
       below : i < size s
       below = omega (arith, w .high)
 
       chosen : may i ≡ true
       chosen = open-key i below (omega (arith, w .own))
 
-      own-rank : (rank (distanceAt dist i) ≡ m) × (0 < rank (distanceAt dist i))
+      own-rank : (rank (distanceAt dist i) ≡ most) × (0 < rank (distanceAt dist i))
       own-rank = let k = key-open i below chosen in (sym (k .0) ∙ w .own, k .1)
 
       first-open : Foremost s (farther dist) may i

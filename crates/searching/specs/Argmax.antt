@@ -10,6 +10,7 @@ use lib.Signed.{ltZ}
 use Rattle.rules.specs.declared.Sides.{Sides}
 use Rattle.rules.specs.Grid.{size, distanceAt}
 use Rattle.rules.specs.Status.{isKept}
+use Rattle.rules.specs.Marks.{Marked}
 use Rattle.neighbourhood.specs.Neighbourhood.{Body}
 use Rattle.searching.specs.declared.Found.{Found}
 use Rattle.searching.specs.declared.Found.the-variants.{Nothing, At}
@@ -32,7 +33,11 @@ enclosed status a l i =
 unfoldable pub surfaceAt : List ℕ → ℕ → ℕ → ℕ → Bool
 surfaceAt status a l i = isKept status i && not (enclosed status a l i)
 
--- the distance of a voxel on the surface, otherwise -1
+-- the same, and not pinned
+unfoldable pub shownAt : Marked → List ℕ → ℕ → ℕ → ℕ → Bool
+shownAt m status a l i = surfaceAt status a l i && not (m .pinned i)
+
+-- the distance of a voxel that may be opened, otherwise -1
 unfoldable pub heightOf : ℤ → Bool → ℤ
 heightOf d surface = cond surface d (negsuc 0)
 
@@ -41,11 +46,18 @@ abbrev pub rank : ℤ → ℕ
 rank (pos n) = n + 1
 rank (negsuc n) = 0
 
-unfoldable pub heightAt : List ℤ → List ℕ → ℕ → ℕ → ℕ → ℤ
-heightAt dist status a l i = heightOf (distanceAt dist i) (surfaceAt status a l i)
+-- the same of voxel i, pinned or not
+unfoldable pub surfaceHeight : List ℤ → List ℕ → ℕ → ℕ → ℕ → ℤ
+surfaceHeight dist status a l i = heightOf (distanceAt dist i) (surfaceAt status a l i)
 
-unfoldable pub keyAt : List ℤ → List ℕ → ℕ → ℕ → ℕ → ℕ
-keyAt dist status a l i = rank (heightAt dist status a l i)
+unfoldable pub surfaceKey : List ℤ → List ℕ → ℕ → ℕ → ℕ → ℕ
+surfaceKey dist status a l i = rank (surfaceHeight dist status a l i)
+
+unfoldable pub heightAt : Marked → List ℤ → List ℕ → ℕ → ℕ → ℕ → ℤ
+heightAt m dist status a l i = heightOf (distanceAt dist i) (shownAt m status a l i)
+
+unfoldable pub keyAt : Marked → List ℤ → List ℕ → ℕ → ℕ → ℕ → ℕ
+keyAt m dist status a l i = rank (heightAt m dist status a l i)
 
 unfoldable pub higher : ℤ → ℤ → ℤ
 higher x y = cond (ltZ x y) y x
@@ -78,6 +90,10 @@ pub record Leading (f : ℕ → ℕ) (first end m r : ℕ) : Type 0 where
 
 -- ---- what is searched
 
+-- a distance and a mark for each of n voxels
+abbrev pub Lent : List ℤ → List ℕ → ℕ → Type 0
+Lent dist marks n = (length dist ≡ n) × (length marks ≡ n)
+
 -- voxels with a layer before them and one after, in buffers of n
 pub record Span (a l first end n : ℕ) : Type 0 where
   pub one : 1 ≤ a
@@ -99,7 +115,7 @@ pub record Layers (a l n : ℕ) : Type 0 where
   pub layer : l ≤ 4096
   pub ends : 2 * (1 + a + l) ≤ n
 
--- a body and its distances
-pub record Searchable (s : Sides) (dist : List ℤ) (status : List ℕ) : Type 0 where
+-- a body, its distances and its marks
+pub record Searchable (s : Sides) (dist : List ℤ) (marks status : List ℕ) : Type 0 where
   pub body : Body s status
-  pub distances : length dist ≡ size s
+  pub lent : Lent dist marks (size s)

@@ -3,9 +3,10 @@ ghost use mathlib.Core.Path.{_≡_};
 ghost use Prim.Native.Nat.{_+_, _-_, _≤_, _<_};
 ghost use lib.ListN.{length};
 ghost use Rattle.rules.specs.Status.{firstOf, openable};
-ghost use Rattle.rules.specs.Machine.{outside, farther};
-ghost use Rattle.searching.specs.Argmax.{found, surfaceAt, heightOf, heightAt, keyAt, rank, higher};
-ghost use Rattle.searching.specs.Argmax.{heldOf, Greatest, Holding, Leading, Span, Peak, Layers, Searchable};
+ghost use Rattle.rules.specs.Marks.{marked};
+ghost use Rattle.rules.specs.Machine.{mayGo, farther};
+ghost use Rattle.searching.specs.Argmax.{found, surfaceAt, heightOf, surfaceHeight, surfaceKey, heightAt, keyAt, rank, higher};
+ghost use Rattle.searching.specs.Argmax.{heldOf, Greatest, Holding, Leading, Lent, Span, Peak, Layers, Searchable};
 use rules::Sides;
 
 // The voxel that comes first, if there is one.
@@ -50,26 +51,76 @@ fn higher(x: i32, y: i32) -> i32
     x
 }
 
-fn height_at(dist: &[i32], status: &[u8], a: usize, l: usize, i: usize) -> i32
+fn surface_height(dist: &[i32], status: &[u8], a: usize, l: usize, i: usize) -> i32
     requires { ⌜ Span a l i (i + 1) (length (now status)) × (length (now dist) ≡ length (now status)) ⌝ }
-    ensures { λ r. ⌜ r ≡ heightAt (now (dist .entry)) (now (status .entry)) a l i ⌝ }
+    ensures { λ r. ⌜ r ≡ surfaceHeight (now (dist .entry)) (now (status .entry)) a l i ⌝ }
 {
     let d = dist[i];
     height(d, on_surface(status, a, l, i))
 }
 
+fn height_at(dist: &[i32], marks: &[u8], status: &[u8], a: usize, l: usize, i: usize) -> i32
+    requires { ⌜ Span a l i (i + 1) (length (now status)) × Lent (now dist) (now marks) (length (now status)) ⌝ }
+    ensures { λ r. ⌜ r ≡ heightAt (marked (now (marks .entry))) (now (dist .entry)) (now (status .entry)) a l i ⌝ }
+{
+    let d = dist[i];
+    let p = marks::pins(marks[i]);
+    height(d, on_surface(status, a, l, i) & !p)
+}
+
 // The greatest height of a stretch of voxels, without its place: so that a compiler does many voxels at a time.
-fn greatest(dist: &[i32], status: &[u8], a: usize, l: usize, first: usize, end: usize) -> i32
+fn plain_greatest(dist: &[i32], status: &[u8], a: usize, l: usize, first: usize, end: usize) -> i32
     requires { ⌜ Span a l first end (length (now status)) × (length (now dist) ≡ length (now status)) ⌝ }
-    ensures { λ r. ⌜ Greatest (keyAt (now (dist .entry)) (now (status .entry)) a l) first end (rank r) ⌝ }
+    ensures { λ r. ⌜ Greatest (surfaceKey (now (dist .entry)) (now (status .entry)) a l) first end (rank r) ⌝ }
 {
     let mut best: i32 = -1;
     let mut i = first;
     while i < end {
-        best = higher(best, height_at(dist, status, a, l, i));
+        best = higher(best, surface_height(dist, status, a, l, i));
         i += 1;
     }
     best
+}
+
+// The same of the voxels that are not pinned.
+fn pinned_greatest(
+    dist: &[i32],
+    marks: &[u8],
+    status: &[u8],
+    a: usize,
+    l: usize,
+    first: usize,
+    end: usize,
+) -> i32
+    requires { ⌜ Span a l first end (length (now status)) × Lent (now dist) (now marks) (length (now status)) ⌝ }
+    ensures { λ r. ⌜ Greatest (keyAt (marked (now (marks .entry))) (now (dist .entry)) (now (status .entry)) a l) first end (rank r) ⌝ }
+{
+    let mut best: i32 = -1;
+    let mut i = first;
+    while i < end {
+        best = higher(best, height_at(dist, marks, status, a, l, i));
+        i += 1;
+    }
+    best
+}
+
+// The same, where a stretch without marks has the quicker loop.
+fn greatest(
+    dist: &[i32],
+    marks: &[u8],
+    status: &[u8],
+    a: usize,
+    l: usize,
+    first: usize,
+    end: usize,
+) -> i32
+    requires { ⌜ Span a l first end (length (now status)) × Lent (now dist) (now marks) (length (now status)) ⌝ }
+    ensures { λ r. ⌜ Greatest (keyAt (marked (now (marks .entry))) (now (dist .entry)) (now (status .entry)) a l) first end (rank r) ⌝ }
+{
+    if loops::joined(marks, first, end) == 0 {
+        return plain_greatest(dist, status, a, l, first, end);
+    }
+    pinned_greatest(dist, marks, status, a, l, first, end)
 }
 
 fn keep(best: Held, height: i32, first: usize, end: usize) -> Held
@@ -97,9 +148,10 @@ fn stretch(left: usize) -> usize
 }
 
 // The first stretch of the greatest height; voxels before the first and after the last of these lie on the border.
-fn highest(dist: &[i32], status: &[u8], a: usize, l: usize) -> Held
-    requires { ⌜ Layers a l (length (now status)) × (length (now dist) ≡ length (now status)) ⌝ }
-    ensures { λ r. ⌜ Holding (keyAt (now (dist .entry)) (now (status .entry)) a l) (1 + a + l) (length (now (status .entry)) - (1 + a + l)) r ⌝ }
+fn highest(dist: &[i32], marks: &[u8], status: &[u8], a: usize, l: usize) -> Held
+    requires { ⌜ Layers a l (length (now status)) × Lent (now dist) (now marks) (length (now status)) ⌝ }
+    ensures { λ r. ⌜ Holding (keyAt (marked (now (marks .entry))) (now (dist .entry)) (now (status .entry)) a l) (1 + a + l)
+        (length (now (status .entry)) - (1 + a + l)) r ⌝ }
 {
     let first = 1 + a + l;
     let end = status.len() - first;
@@ -111,22 +163,24 @@ fn highest(dist: &[i32], status: &[u8], a: usize, l: usize) -> Held
     let mut i = first;
     while i < end {
         let e = i + stretch(end - i);
-        best = keep(best, greatest(dist, status, a, l, i, e), i, e);
+        best = keep(best, greatest(dist, marks, status, a, l, i, e), i, e);
         i = e;
     }
     best
 }
 
 // The first voxel of a stretch that has its greatest height.
-fn first_of(dist: &[i32], status: &[u8], a: usize, l: usize, held: Held) -> usize
-    requires { ⌜ Peak (keyAt (now dist) (now status) a l) a l (length (now status)) held × (length (now dist) ≡ length (now status)) ⌝ }
-    ensures { λ r. ⌜ Leading (keyAt (now (dist .entry)) (now (status .entry)) a l) (held .first) (held .end) (rank (held .height)) r ⌝ }
+fn first_of(dist: &[i32], marks: &[u8], status: &[u8], a: usize, l: usize, held: Held) -> usize
+    requires { ⌜ Peak (keyAt (marked (now marks)) (now dist) (now status) a l) a l (length (now status)) held
+        × Lent (now dist) (now marks) (length (now status)) ⌝ }
+    ensures { λ r. ⌜ Leading (keyAt (marked (now (marks .entry))) (now (dist .entry)) (now (status .entry)) a l) (held .first) (held .end)
+        (rank (held .height)) r ⌝ }
 {
     let best = held.height;
     let end = held.end;
     let mut i = held.first;
     while i < end {
-        let h = height_at(dist, status, a, l, i);
+        let h = height_at(dist, marks, status, a, l, i);
         if h == best {
             return i;
         }
@@ -135,17 +189,18 @@ fn first_of(dist: &[i32], status: &[u8], a: usize, l: usize, held: Held) -> usiz
     i
 }
 
-// The voxel to open: kept, outside S, with a face neighbour not kept, the farthest, the first among equals.
-pub fn to_open(s: Sides, dist: &[i32], status: &[u8]) -> Found
-    requires { ⌜ Searchable s (now dist) (now status) ⌝ }
-    ensures { λ r. ⌜ found r ≡ firstOf s (farther (now (dist .entry))) (openable s (outside (now (dist .entry))) (now (status .entry))) ⌝ }
+// The voxel to open: kept, outside S, not pinned, with a face neighbour not kept, the farthest, the first among equals.
+pub fn to_open(s: Sides, dist: &[i32], marks: &[u8], status: &[u8]) -> Found
+    requires { ⌜ Searchable s (now dist) (now marks) (now status) ⌝ }
+    ensures { λ r. ⌜ found r ≡ firstOf s (farther (now (dist .entry)))
+        (openable s (mayGo (marked (now (marks .entry))) (now (dist .entry))) (now (status .entry))) ⌝ }
 {
     let a = s.a;
     let l = s.a * s.b;
-    let held = highest(dist, status, a, l);
+    let held = highest(dist, marks, status, a, l);
     let height = held.height;
     if height < 0 {
         return Found::Nothing;
     }
-    Found::At(first_of(dist, status, a, l, held))
+    Found::At(first_of(dist, marks, status, a, l, held))
 }

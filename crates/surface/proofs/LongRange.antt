@@ -37,4 +37,4 @@ crossing-near g near i axis o =
     s = g .rec .sides
 
 pub points-bounded : PointsBounded
-points-bounded s T values dist status r e calls = crossing-near _ (stays-within-range s T values dist status r e calls)
+points-bounded s T values marks dist status r e calls = crossing-near _ (stays-within-range s T values marks dist status r e calls)

@@ -17,7 +17,8 @@ use Rattle.surface.specs.Surface.{crossing, BoundedAt}
 -- lies within the bound (proofs/LongRange.antt)
 abbrev pub PointsBounded : Type 0
 PointsBounded =
-    (s : Sides) (T : ℕ) (values dist : List ℤ) (status : List ℕ) (r : Record) → begin s T values dist status .answer ≡ done r → (calls : List Call)
-    → let b = begin s T values dist status in
+    (s : Sides) (T : ℕ) (values : List ℤ) (marks : List ℕ) (dist : List ℤ) (status : List ℕ) (r : Record)
+    → begin s T values marks dist status .answer ≡ done r → (calls : List Call)
+    → let b = begin s T values marks dist status in
     let g = run calls (state r (b .lent .dist) (b .lent .status)) .end in
     (i axis : ℕ) (o : Option Point) → crossing i axis g .answer ≡ done o → BoundedAt (g .rec .sides) (g .dist) i axis o

@@ -3,15 +3,16 @@ ghost use mathlib.Core.Path.{_≡_};
 ghost use Rattle.rules.specs.Answer.{outcome, buffers, takenAnswer};
 ghost use Rattle.rules.specs.Checks.{firstFailing};
 ghost use Rattle.rules.specs.Machine as machine;
-ghost use Rattle.rules.specs.Machine.{state, voxelChecks, takeChecks, taken};
+ghost use Rattle.rules.specs.Marks.{marked};
+ghost use Rattle.rules.specs.Machine.{state, mayGo, voxelChecks, takeChecks, taken};
 ghost use Rattle.rules.specs.Fit.{Working, Takeable};
 use rules::Record;
 use rules::Taken;
 
 // The number that refuses a voxel, or 0.
-fn voxel_refusal(given: Record, dist: &[i32], status: &[u8], index: usize) -> u8
+fn voxel_refusal(given: Record, dist: &[i32], marks: &[u8], status: &[u8], index: usize) -> u8
     requires { ⌜ Working (state given (now dist) (now status)) ⌝ }
-    ensures { λ r. ⌜ r ≡ firstFailing (voxelChecks index (state given (now (dist .entry)) (now (status .entry)))) ⌝ }
+    ensures { λ r. ⌜ r ≡ firstFailing (voxelChecks (marked (now (marks .entry))) index (state given (now (dist .entry)) (now (status .entry)))) ⌝ }
 {
     if status.len() <= index {
         return 5;
@@ -23,6 +24,9 @@ fn voxel_refusal(given: Record, dist: &[i32], status: &[u8], index: usize) -> u8
     if d < 0 {
         return 11;
     }
+    if marks::pinned(marks, index) {
+        return 30;
+    }
     let s = given.sides;
     if !neighbourhood::passes_at(s, status, index) {
         return 12;
@@ -30,25 +34,26 @@ fn voxel_refusal(given: Record, dist: &[i32], status: &[u8], index: usize) -> u8
     0
 }
 
-fn take_refusal(given: Record, dist: &[i32], status: &[u8], index: usize) -> u8
-    ensures { λ r. ⌜ r ≡ firstFailing (takeChecks index (state given (now (dist .entry)) (now (status .entry)))) ⌝ }
+fn take_refusal(given: Record, dist: &[i32], marks: &[u8], status: &[u8], index: usize) -> u8
+    ensures { λ r. ⌜ r ≡ firstFailing (takeChecks (now (marks .entry)) index (state given (now (dist .entry)) (now (status .entry)))) ⌝ }
 {
-    let n = fitness::working_refusal(given, dist, status);
+    let all = marks::all(marks);
+    let n = fitness::marked_refusal(given, dist, marks, status, all);
     if n != 0 {
         return n;
     }
-    voxel_refusal(given, dist, status, index)
+    voxel_refusal(given, dist, marks, status, index)
 }
 
-fn take_fit(given: Record, dist: &[i32], status: &mut [u8], index: usize) -> Taken
-    requires { ⌜ Takeable index (state given (now dist) (now status)) ⌝ }
+fn take_fit(given: Record, dist: &[i32], marks: &[u8], status: &mut [u8], index: usize) -> Taken
+    requires { ⌜ Takeable (now marks) index (state given (now dist) (now status)) ⌝ }
     ensures { λ r. ⌜
         outcome (takenAnswer r) (buffers (now (dist .entry)) (now (status .exit)))
-        ≡ taken index (state given (now (dist .entry)) (now (status .entry))) ⌝ }
+        ≡ taken (mayGo (marked (now (marks .entry))) (now (dist .entry))) index (state given (now (dist .entry)) (now (status .entry))) ⌝ }
 {
     let s = given.sides;
     let t = neighbourhood::groups_at(s, status, index);
-    waking::remove(s, dist, status, index);
+    waking::remove(s, dist, marks, status, index);
     Taken::Gone {
         k: t.k,
         m: t.m,
@@ -56,15 +61,15 @@ fn take_fit(given: Record, dist: &[i32], status: &mut [u8], index: usize) -> Tak
     }
 }
 
-// Removes a kept voxel outside S that passes, pending or not.
-pub fn take(given: Record, dist: &[i32], status: &mut [u8], index: usize) -> Taken
+// Removes a kept voxel outside S that is not pinned and passes, pending or not.
+pub fn take(given: Record, dist: &[i32], marks: &[u8], status: &mut [u8], index: usize) -> Taken
     ensures { λ r. ⌜
         outcome (takenAnswer r) (buffers (now (dist .entry)) (now (status .exit)))
-        ≡ machine.take index (state given (now (dist .entry)) (now (status .entry))) ⌝ }
+        ≡ machine.take (now (marks .entry)) index (state given (now (dist .entry)) (now (status .entry))) ⌝ }
 {
-    let n = take_refusal(given, dist, status, index);
+    let n = take_refusal(given, dist, marks, status, index);
     if n != 0 {
         return Taken::Refused(n);
     }
-    take_fit(given, dist, status, index)
+    take_fit(given, dist, marks, status, index)
 }

@@ -1,7 +1,7 @@
 -- Waking: one voxel, the voxels of two sets one after the other, and those at the bits of a number, one bit after the other.
 use mathlib.Core.Path.{_≡_, refl, sym, ap, _∙_, subst}
 use mathlib.Core.Logic.{_⊎_, inl, inr}
-use mathlib.Core.Bool.{Bool, true, false, not, cond}
+use mathlib.Core.Bool.{Bool, true, false, not, cond, _&&_, _||_}
 use mathlib.Core.List.{List}
 use Prim.Native.Nat.{ℕ, _+_, _-_, _*_, _/_, _%_, _^_, _≤_, _<_, min}
 use native.Mathlib.Omega.{arith}
@@ -14,7 +14,8 @@ use lib.Seq.{getD-set-same, getD-set-other}
 use Rattle.prelude.proofs.Bools.{two, not-both}
 use Rattle.rules.specs.Grid.{isNegative, distanceAt}
 use Rattle.rules.specs.Status.{statusOf, pendingByte, woken}
-use Rattle.rules.specs.Machine.{isInside, outside}
+use Rattle.rules.specs.Marks.{Marked}
+use Rattle.rules.specs.Machine.{isInside, outside, mayGo}
 use Rattle.rules.proofs.Topology.Bytes.{woken-pending}
 use Rattle.bits.specs.Bits.{has}
 use Rattle.neighbourhood.specs.Neighbourhood.{Room}
@@ -121,25 +122,29 @@ module _ (free : ℕ → Bool) (status : List ℕ) (j : ℕ) where
             subst (λ (i : ℕ). statusOf (set status j v) i ≡ statusOf status i) (sym q) (getD-set-same status j v 0 h ∙ e),
           )
 
--- by the sign of its distance
-module _ (dist : List ℤ) (j : ℕ) where
-  pub outside-is : outside dist j ≡ not (isNegative (distanceAt dist j))
-  unfolding outside isInside
-  outside-is = refl
+-- by the sign of its distance and its pin
+module _ (m : Marked) (dist : List ℤ) (j : ℕ) where
+  pub may-go-is : mayGo m dist j ≡ not (isNegative (distanceAt dist j) || m .pinned j)
+  unfolding mayGo outside isInside
+  may-go-is = go (isNegative (distanceAt dist j))
+    where
+      go : (t : Bool) → (not t && not (m .pinned j)) ≡ not (t || m .pinned j)
+      go true = refl
+      go false = refl
 
   pub woken-by-sign :
       (status : List ℕ) (v : ℕ)
       → j < length status
-      → v ≡ wokenIf (distanceAt dist j) (statusOf status j)
-      → Woken (Only (outside dist) j) status (set status j v)
+      → v ≡ wokenIf (distanceAt dist j) (m .pinned j) (statusOf status j)
+      → Woken (Only (mayGo m dist) j) status (set status j v)
   unfolding wokenIf
   woken-by-sign status v h e =
-      elim (two (isNegative (distanceAt dist j))) [
+      elim (two (isNegative (distanceAt dist j) || m .pinned j)) [
         | inl t ↦
-            woken-as-is (outside dist) status j v h (outside-is ∙ ap not t)
+            woken-as-is (mayGo m dist) status j v h (may-go-is ∙ ap not t)
             (e ∙ ap (λ (u : Bool). cond u (statusOf status j) (woken (statusOf status j))) t)
         | inr t ↦
-            woken-one (outside dist) status j v h (outside-is ∙ ap not t)
+            woken-one (mayGo m dist) status j v h (may-go-is ∙ ap not t)
             (e ∙ ap (λ (u : Bool). cond u (statusOf status j) (woken (statusOf status j))) t)
       ]
 

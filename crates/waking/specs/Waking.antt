@@ -1,7 +1,7 @@
 -- Waking: which positions of a neighbourhood can wake, and the statuses before and after some voxels were woken.
 use mathlib.Core.Path.{_≡_}
 use mathlib.Core.Logic.{_⊎_}
-use mathlib.Core.Bool.{Bool, true, not, cond, _&&_}
+use mathlib.Core.Bool.{Bool, true, not, cond, _&&_, _||_}
 use mathlib.Core.List.{List}
 use Prim.Native.Nat.{ℕ, _+_, _*_, _/_, _%_, _≤_, _<_, _^_}
 use lib.Dec.{eqb}
@@ -24,8 +24,8 @@ idleBit code c = eqb (c % 2) 0 && idleAt code (c / 2)
 
 -- ---- voxels woken
 
-unfoldable pub wokenIf : ℤ → ℕ → ℕ
-wokenIf d x = cond (isNegative d) x (woken x)
+unfoldable pub wokenIf : ℤ → Bool → ℕ → ℕ
+wokenIf d pinned x = cond (isNegative d || pinned) x (woken x)
 
 -- the statuses before and after the voxels of a set were woken
 pub record Woken (P : ℕ → Type 0) (before after : List ℕ) : Type 0 where

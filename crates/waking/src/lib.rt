@@ -3,7 +3,8 @@ ghost use mathlib.Core.Path.{_≡_};
 ghost use Prim.Native.Nat.{_<_};
 ghost use lib.ListN.{length};
 ghost use Rattle.rules.specs.Status.{without};
-ghost use Rattle.rules.specs.Machine.{outside};
+ghost use Rattle.rules.specs.Marks.{marked};
+ghost use Rattle.rules.specs.Machine.{mayGo};
 ghost use Rattle.bits.specs.Bits.{bits};
 ghost use Rattle.neighbourhood.specs.Neighbourhood.{offset};
 ghost use Rattle.waking.specs.Waking.{idleBit, wokenIf, Woken, Only, AtBits, fromVoxel, Position, Callable, Removable};
@@ -25,44 +26,46 @@ pub fn offset(a: usize, l: usize, p: usize) -> usize
     p % 3 + a * (p / 3 % 3) + l * (p / 9)
 }
 
-// Bit 1 is set where the distance is not negative.
-fn woken_status(d: i32, x: u8) -> u8
-    ensures { λ r. ⌜ r ≡ wokenIf d x ⌝ }
+// Bit 1 is set where the distance is not negative and the voxel is not pinned.
+fn woken_status(d: i32, pinned: bool, x: u8) -> u8
+    ensures { λ r. ⌜ r ≡ wokenIf d pinned x ⌝ }
 {
-    if d < 0 {
+    if (d < 0) | pinned {
         return x;
     }
     x | 2
 }
 
-fn wake_one(dist: &[i32], status: &mut [u8], j: usize)
+fn wake_one(dist: &[i32], marks: &[u8], status: &mut [u8], j: usize)
     requires { ⌜ (j < length (now status)) × (length (now dist) ≡ length (now status)) ⌝ }
-    ensures { λ _. ⌜ Woken (Only (outside (now (dist .entry))) j) (now (status .entry)) (now (status .exit)) ⌝ }
+    ensures { λ _. ⌜ Woken (Only (mayGo (marked (now (marks .entry))) (now (dist .entry))) j) (now (status .entry)) (now (status .exit)) ⌝ }
 {
     let d = dist[j];
-    status[j] = woken_status(d, status[j]);
+    let p = marks::pinned(marks, j);
+    status[j] = woken_status(d, p, status[j]);
 }
 
 // Wakes the voxels at the positions of the set bits, from voxel at on.
-fn wake(dist: &[i32], status: &mut [u8], a: usize, l: usize, at: usize, idle: u64)
+fn wake(dist: &[i32], marks: &[u8], status: &mut [u8], a: usize, l: usize, at: usize, idle: u64)
     requires { ⌜ Callable a l at idle (length (now status)) × (length (now dist) ≡ length (now status)) ⌝ }
-    ensures { λ _. ⌜ Woken (AtBits (outside (now (dist .entry))) idle (fromVoxel a l at)) (now (status .entry)) (now (status .exit)) ⌝ }
+    ensures { λ _. ⌜
+        Woken (AtBits (mayGo (marked (now (marks .entry))) (now (dist .entry))) idle (fromVoxel a l at)) (now (status .entry)) (now (status .exit)) ⌝ }
 {
     let mut m = idle;
     while 0 < m {
         let p = bits::lowest(m) / 2;
-        wake_one(dist, status, at + offset(a, l, p));
+        wake_one(dist, marks, status, at + offset(a, l, p));
         m = m & (m - 1);
     }
 }
 
 // Voxel i is gone, and every kept voxel that touches it and may go is pending.
-pub fn remove(s: Sides, dist: &[i32], status: &mut [u8], i: usize)
+pub fn remove(s: Sides, dist: &[i32], marks: &[u8], status: &mut [u8], i: usize)
     requires { ⌜ Removable s (now dist) (now status) i ⌝ }
-    ensures { λ _. ⌜ now (status .exit) ≡ without s (outside (now (dist .entry))) (now (status .entry)) i ⌝ }
+    ensures { λ _. ⌜ now (status .exit) ≡ without s (mayGo (marked (now (marks .entry))) (now (dist .entry))) (now (status .entry)) i ⌝ }
 {
     let idle = idle_bits(neighbourhood::gather(s, status, i));
     let at = neighbourhood::first_around(s, i);
     status[i] = 0;
-    wake(dist, status, s.a, s.a * s.b, at, idle);
+    wake(dist, marks, status, s.a, s.a * s.b, at, idle);
 }

@@ -12,7 +12,7 @@ slice-aggregate-carve-2 c = search needs
 
 carve-requires : tie.Need-carve-requires
 carve-requires c κs =
-    let s = c .before .before .before .before in
+    let s = c .before .before .before .before .before in
     lending (s .args .s) (s .args .dist .now) (s .args .status .now) _ _ (s .pre) (search needs) (search needs)
 
 same-length : tie.Need-same-length

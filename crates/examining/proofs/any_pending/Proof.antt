@@ -19,13 +19,13 @@ enum-told-2 c = search needs
 returns : tie.Need-returns
 returns c =
     let b = c .before .before in
-    let a = b .before .before .before .before .args in
+    let a = b .before .before .before .before .before .args in
     sym (below-none (isPending (a .status .now)) (length (a .status .now)) (b .best .ensures .nothing (c .enum-told .given .1)))
 
 returns-2 : tie.Need-returns-2
 returns-2 c =
     let b = c .before .before in
-    let a = b .before .before .before .before .args in
+    let a = b .before .before .before .before .before .args in
     let e = c .enum-told2 .given .1 in
     sym (below-any (isPending (a .status .now)) (length (a .status .now)) _ (b .best .ensures .inside _ e) (b .best .ensures .pending _ e))
 

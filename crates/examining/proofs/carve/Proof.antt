@@ -1,11 +1,12 @@
 -- `examining::carve` meets its contract: the index is made, then the examinations, then a look at what is left.
 use borrow.Author.Needs.{needs}
+use Rattle.rules.specs.Marks.{marked}
 use Rattle.examining.proofs.Running.{tallied}
 use Rattle.examining.proofs.carve.Statement.{statement}
 use Rattle.examining.proofs.carve.Tie as tie
 
 abbrev start : tie.After-build → tie.Start
-start c = let k = c .before .before .before in k .before .before .before .before
+start c = let k = c .before .before .before in k .before .before .before .before .before
 
 -- from a call back to the one before it
 abbrev built : tie.After-run → tie.After-build
@@ -37,7 +38,8 @@ returns c =
     let r = ran c in
     let s = start (built r) in
     let a = s .args in
-    tallied (a .s) (a .dist .now) (a .limit) (a .status .now) _ _ _ _ (c .any-pending .result) (s .pre .work) (r .run .kept .1 .1 .0) (r .run .ensures)
+    tallied (a .s) (marked (a .marks .now)) (a .dist .now) (a .limit) (a .status .now) _ _ _ _ (c .any-pending .result) (s .pre .work)
+    (r .run .kept .1 .1 .1 .0) (r .run .ensures)
     (c .any-pending .ensures)
 
 pub carve-spec : {M : Type 1} → statement M

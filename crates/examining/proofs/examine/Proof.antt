@@ -1,11 +1,13 @@
 -- `examining::examine` meets its contract: by what the test says of the neighbourhood.
-use mathlib.Core.Path.{_≡_, refl, sym, ap, _∙_, subst}
-use mathlib.Core.Bool.{Bool, true, false, cond}
+use mathlib.Core.Path.{_≡_, refl, sym, ap, _∙_, subst, ap₂}
+use mathlib.Core.Bool.{Bool, true, false, cond, _&&_}
 use Prim.Native.Nat.{ℕ}
+use native.Mathlib.Omega.{arith}
 use borrow.Author.Needs.{needs}
 use Rattle.cells.specs.Cells.{passes}
-use Rattle.rules.specs.Status.{statusOf, pendingByte, isPending, rested, testAt}
-use Rattle.rules.specs.Machine.{outside}
+use Rattle.rules.specs.Status.{statusOf, pendingByte, isPending, rested, testAt, goes}
+use Rattle.rules.specs.Marks.{marked}
+use Rattle.rules.specs.Machine.{mayGo}
 use Rattle.rules.proofs.Topology.Bytes.{rested-pending}
 use Rattle.bits.specs.Bits.{bits}
 use Rattle.neighbourhood.specs.Neighbourhood.{Inner, keptOf}
@@ -18,14 +20,14 @@ use Rattle.examining.proofs.examine.Statement.{statement}
 use Rattle.examining.proofs.examine.Tie as tie
 
 abbrev start : tie.After-gather → tie.Start
-start c = c .before .before .before .before .before
+start c = c .before .before .before .before .before .before
 
 -- the voxel lies off the border
 inner : (c : tie.Start) → Inner (c .args .s) (c .args .i)
 inner c = let p = c .pre in pending-inner (c .args .s) (c .args .status .now) (p .work) (c .args .i) (p .below) (p .pending)
 
 gather-requires : tie.Need-gather-requires
-gather-requires c κs = let s = c .before .before .before .before in (inner s, s .pre .work .body .statuses)
+gather-requires c κs = let s = c .before .before .before .before .before in (inner s, s .pre .work .body .statuses)
 
 kept-bits-requires : tie.Need-kept-bits-requires
 kept-bits-requires c κs = search needs
@@ -45,6 +47,19 @@ passing c =
     c .passes .ensures
     ∙ ap passes (code-test (a .s) (a .i) (inner s) (a .status .now) (k .kept-bits .ensures ∙ ap (λ (x : ℕ). bits 27 (keptOf x)) (g .gather .ensures)))
 
+may-go-requires : tie.Need-may-go-requires
+may-go-requires c κs =
+    let p = start (c .before .before) .pre in
+    omega (arith, p .below, p .index .lent .same, p .work .body .statuses)
+
+-- it goes, as the rule says
+going :
+    (c : tie.After-may-go)
+    → let a = start (c .before .before .before) .args in
+    (c .before .passes .result && c .may-go .result) ≡ goes (a .s) (mayGo (marked (a .marks .now)) (a .dist .now)) (a .status .now) (a .i)
+unfolding goes
+going c = ap₂ _&&_ (passing (c .before)) (c .may-go .ensures)
+
 slice-read-x : tie.Need-slice-read-x
 slice-read-x c = search needs
 
@@ -52,12 +67,12 @@ slice-read-x c = search needs
 abbrev cleared : tie.After-slice-known7 → tie.After-clear
 cleared c = c .before .before .before .before .before .before
 
-abbrev asked : tie.After-clear → tie.After-passes
+abbrev asked : tie.After-clear → tie.After-may-go
 asked c = c .before .before .before .before .before .before
 
 left-requires : tie.Need-left-requires
 left-requires c κs =
-    let s = start (c .before .before .before .before .before .before) in
+    let s = start (c .before .before .before .before .before .before .before) in
     pending-two (s .args .status .now) (s .args .i) (s .pre .pending)
 
 -- a byte that is left is not pending
@@ -70,19 +85,20 @@ clear-requires : tie.Need-clear-requires
 unfolding isPending
 clear-requires c κs =
     let p = c .before .before .before .before .before in
-    let s = start (p .before .before) in
+    let s = start (p .before .before .before) in
     let a = s .args in
     record {
       index = s .pre .index;
       inside = pending-below (a .status .now) (a .i) (s .pre .pending);
-      idle = ap pendingByte (c .left .ensures) ∙ left-idle (p .passes .result) (statusOf (a .status .now) (a .i)) (s .pre .pending);
+      idle = ap pendingByte (c .left .ensures)
+          ∙ left-idle (p .before .passes .result && p .may-go .result) (statusOf (a .status .now) (a .i)) (s .pre .pending);
     }
 
 wake-around-requires : tie.Need-wake-around-requires
 wake-around-requires c κs =
     let k = cleared (c .before .before .before .before) in
-    let s = start (asked k .before .before) in
-    record { index = k .clear .ensures .index; statuses = k .clear .kept .1 .0 ∙ s .pre .work .body .statuses; voxel = inner s }
+    let s = start (asked k .before .before .before) in
+    record { index = k .clear .ensures .index; statuses = k .clear .kept .1 .1 .0 ∙ s .pre .work .body .statuses; voxel = inner s }
 
 same-length : tie.Need-same-length
 same-length c = search needs
@@ -99,12 +115,12 @@ returns c =
     let t = w .before .before .before .before in
     let k = cleared (t .before) in
     let p = asked k in
-    let g = p .before .before in
+    let g = p .before .before .before in
     let s = start g in
     let a = s .args in
     let byte = k .before .left .ensures ∙ ap (λ (b : Bool). cond b 0 (rested (statusOf (a .status .now) (a .i)))) (t .if1 .taken) in
-    gone-examined (a .s) (a .dist .now) (a .status .now) _ _ _ (a .i) (p .passes .result) (passing p) (t .if1 .taken)
-    (removed-from (a .s) (outside (a .dist .now)) (a .status .now) (a .i) (inner s) (s .pre .work .body .statuses)
+    gone-examined (a .s) (marked (a .marks .now)) (a .dist .now) (a .status .now) _ _ _ (a .i) _ (going p) (t .if1 .taken)
+    (removed-from (a .s) (mayGo (marked (a .marks .now)) (a .dist .now)) (a .status .now) (a .i) (inner s) (s .pre .work .body .statuses)
     (ap (λ (x : ℕ). bits 54 (idleBit x)) (g .gather .ensures)) refl (written-as (k .clear .ensures) byte)
     (w .wake-around .ensures .woken)) (w .wake-around .ensures .index)
 
@@ -121,9 +137,9 @@ returns-2 : tie.Need-returns-2
 returns-2 c =
     let k = cleared (c .before) in
     let p = asked k in
-    let a = start (p .before .before) .args in
+    let a = start (p .before .before .before) .args in
     let byte = k .before .left .ensures ∙ ap (λ (b : Bool). cond b 0 (rested (statusOf (a .status .now) (a .i)))) (c .if1 .left) in
-    rest-examined (a .s) (a .dist .now) (a .status .now) _ _ _ (a .i) (p .passes .result) (passing p) (c .if1 .left)
+    rest-examined (a .s) (marked (a .marks .now)) (a .dist .now) (a .status .now) _ _ _ (a .i) _ (going p) (c .if1 .left)
     (written-as (k .clear .ensures) byte) (k .clear .ensures .index)
 
 pub examine-spec : {M : Type 1} → statement M
@@ -133,6 +149,7 @@ examine-spec =
     gather-requires
     kept-bits-requires
     passes-requires
+    may-go-requires
     slice-read-x
     left-requires
     clear-requires

@@ -3,8 +3,9 @@ use mathlib.Core.Path.{refl, subst}
 use Prim.Native.Nat.{_-_}
 use native.Mathlib.Omega.{arith}
 use borrow.Author.Needs.{needs}
-use Rattle.cells.specs.Cells.{passes}
-use Rattle.rules.specs.Status.{testAt}
+use Rattle.rules.specs.Marks.{marked}
+use Rattle.rules.specs.Machine.{mayGo}
+use Rattle.rules.specs.Status.{goes}
 use Rattle.pending.specs.Index.{Best}
 use Rattle.pending.specs.declared.Choice.the-variants.{At}
 use Rattle.examining.proofs.Running.{one-at-most, Running, running-start, running-none, running-done, running-below, running-step}
@@ -12,17 +13,17 @@ use Rattle.examining.proofs.run.Statement.{statement}
 use Rattle.examining.proofs.run.Tie as tie
 
 abbrev Inv-loop : tie.InvT-loop
-Inv-loop s dist status₀ offsets₀ tree₀ limit examined₀ removed₀ status offsets tree examined removed =
-    Running s dist limit status₀ offsets₀ tree₀ status offsets tree examined removed
+Inv-loop s dist marks status₀ offsets₀ tree₀ limit examined₀ removed₀ status offsets tree examined removed =
+    Running s (marked marks) dist limit status₀ offsets₀ tree₀ status offsets tree examined removed
 
 abbrev μ-loop : tie.MeasureT-loop
-μ-loop s dist status₀ offsets₀ tree₀ limit examined₀ removed₀ status offsets tree examined removed = limit - examined
+μ-loop s dist marks status₀ offsets₀ tree₀ limit examined₀ removed₀ status offsets tree examined removed = limit - examined
 
 loop-holds : tie.Need-loop-holds Inv-loop μ-loop
 loop-holds c =
-    let s = c .before .before .before in
+    let s = c .before .before .before .before in
     let a = s .args in
-    running-start (a .s) (a .dist .now) (a .limit) (a .status .now) (a .offsets .now) (a .tree .now) (s .pre .0) (s .pre .1)
+    running-start (a .s) (marked (a .marks .now)) (a .dist .now) (a .limit) (a .status .now) (a .offsets .now) (a .tree .now) (s .pre .0) (s .pre .1)
 
 best-requires : tie.Need-best-requires Inv-loop μ-loop
 best-requires c κs = c .before .before .before .before .loop .inv .index
@@ -34,7 +35,7 @@ enum-told : tie.Need-enum-told Inv-loop μ-loop
 enum-told c = search needs
 
 abbrev start : tie.At-loop Inv-loop μ-loop → tie.Start Inv-loop μ-loop
-start c = c .before .before .before .before
+start c = c .before .before .before .before .before
 
 abbrev at-best : tie.After-best Inv-loop μ-loop → tie.At-loop Inv-loop μ-loop
 at-best c = c .before .before .before .before .before
@@ -53,18 +54,19 @@ returns c =
     let b = c .before .before in
     let l = at-best b in
     let a = start l .args in
-    running-none (a .s) (a .dist .now) (a .limit) (a .status .now) (a .offsets .now) (a .tree .now) (l .loop .status) (l .loop .offsets)
+    running-none (a .s) (marked (a .marks .now)) (a .dist .now) (a .limit) (a .status .now) (a .offsets .now) (a .tree .now) (l .loop .status)
+    (l .loop .offsets)
     (l .loop .tree) (l .loop .examined) (l .loop .removed) (l .loop .inv) _ refl refl
-    (subst (Best (a .dist .now) (l .loop .status)) (c .enum-told .given .1) (b .best .ensures))
+    (subst (Best (marked (a .marks .now)) (a .dist .now) (l .loop .status)) (c .enum-told .given .1) (b .best .ensures))
 
 -- the voxel chosen
 best-at :
     (c : tie.After-next Inv-loop μ-loop)
-    → let l = at-best (c .before .before) in Best (start l .args .dist .now) (l .loop .status) (At (c .next .given .0 .0))
+    → let l = at-best (c .before .before) in Best (marked (start l .args .marks .now)) (start l .args .dist .now) (l .loop .status) (At (c .next .given .0 .0))
 best-at c =
     let b = c .before .before in
     let l = at-best b in
-    subst (Best (start l .args .dist .now) (l .loop .status)) (c .next .given .1) (b .best .ensures)
+    subst (Best (marked (start l .args .marks .now)) (start l .args .dist .now) (l .loop .status)) (c .next .given .1) (b .best .ensures)
 
 abbrev chosen-at : tie.After-examine Inv-loop μ-loop → tie.After-next Inv-loop μ-loop
 chosen-at c = c .before .before .before .before .before
@@ -77,7 +79,8 @@ examine-requires c κs =
     let b = best-at x in
     let k = l .loop .inv in
     let h =
-    running-below (a .s) (a .dist .now) (a .limit) (a .status .now) (a .offsets .now) (a .tree .now) (l .loop .status) (l .loop .offsets)
+    running-below (a .s) (marked (a .marks .now)) (a .dist .now) (a .limit) (a .status .now) (a .offsets .now) (a .tree .now) (l .loop .status)
+    (l .loop .offsets)
     (l .loop .tree) (l .loop .examined) (l .loop .removed) k _ b in
     record { index = k .index; work = k .work; below = h; pending = b .pending _ refl }
 
@@ -91,7 +94,8 @@ add-removed c =
     let f = start l .fits .limit in
     let k = l .loop .inv in
     let t = b .before .before .before .before .loop-test .taken in
-    let o = one-at-most (passes (testAt (start l .args .s) (l .loop .status) (x .next .given .0 .0))) in
+    let o = one-at-most (goes (start l .args .s) (mayGo (marked (start l .args .marks .now)) (start l .args .dist .now)) (l .loop .status)
+    (x .next .given .0 .0)) in
     record { fits = omega (arith, k .fewer, e .examine .ensures .count) }
 
 add-examined : tie.Need-add-examined Inv-loop μ-loop
@@ -119,7 +123,8 @@ loop-again c =
     let b = x .before .before in
     let l = at-best b in
     let a = start l .args in
-    running-step (a .s) (a .dist .now) (a .limit) (a .status .now) (a .offsets .now) (a .tree .now) (l .loop .status) (l .loop .offsets)
+    running-step (a .s) (marked (a .marks .now)) (a .dist .now) (a .limit) (a .status .now) (a .offsets .now) (a .tree .now) (l .loop .status)
+    (l .loop .offsets)
     (l .loop .tree) (l .loop .examined) (l .loop .removed) (l .loop .inv) _ (best-at x) _ _ _ _
     (b .before .before .before .before .loop-test .taken) (e .examine .ensures) (search needs) (search needs) (search needs)
 
@@ -136,7 +141,8 @@ returns-2 : tie.Need-returns-2 Inv-loop μ-loop
 returns-2 c =
     let l = c .before in
     let a = start l .args in
-    running-done (a .s) (a .dist .now) (a .limit) (a .status .now) (a .offsets .now) (a .tree .now) (l .loop .status) (l .loop .offsets)
+    running-done (a .s) (marked (a .marks .now)) (a .dist .now) (a .limit) (a .status .now) (a .offsets .now) (a .tree .now) (l .loop .status)
+    (l .loop .offsets)
     (l .loop .tree) (l .loop .examined) (l .loop .removed) (l .loop .inv) _ refl refl (c .loop-test .left)
 
 pub run-spec : {M : Type 1} → statement M

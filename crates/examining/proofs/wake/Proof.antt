@@ -6,6 +6,7 @@ use borrow.Author.Needs.{needs}
 use lib.ListN.{length}
 use lib.Bits.{and-le-r}
 use lib.Dec.{lit<}
+use Rattle.rules.specs.Marks.{marked}
 use Rattle.bits.specs.Bits.{has}
 use Rattle.waking.specs.Waking.{fromVoxel}
 use Rattle.waking.proofs.Idle.{has-beyond}
@@ -15,23 +16,24 @@ use Rattle.examining.proofs.wake.Statement.{statement}
 use Rattle.examining.proofs.wake.Tie as tie
 
 abbrev Inv-loop : tie.InvT-loop
-Inv-loop dist status₀ offsets₀ tree₀ a l at idle m₀ status offsets tree m =
-    Calling dist idle (fromVoxel a l at) status₀ offsets₀ tree₀ status offsets tree m
+Inv-loop dist marks status₀ offsets₀ tree₀ a l at idle m₀ status offsets tree m =
+    Calling (marked marks) dist idle (fromVoxel a l at) status₀ offsets₀ tree₀ status offsets tree m
 
 abbrev μ-loop : tie.MeasureT-loop
-μ-loop dist status₀ offsets₀ tree₀ a l at idle m₀ status offsets tree m = m
+μ-loop dist marks status₀ offsets₀ tree₀ a l at idle m₀ status offsets tree m = m
 
 loop-holds : tie.Need-loop-holds Inv-loop μ-loop
 loop-holds c =
-    let s = c .before .before .before in
+    let s = c .before .before .before .before in
     let a = s .args in
-    calling-start (a .dist .now) (a .idle) (fromVoxel (a .a) (a .l) (a .at)) (a .status .now) (a .offsets .now) (a .tree .now) (s .pre .index)
+    calling-start (marked (a .marks .now)) (a .dist .now) (a .idle) (fromVoxel (a .a) (a .l) (a .at)) (a .status .now) (a .offsets .now) (a .tree .now)
+    (s .pre .index)
 
 lowest-requires : tie.Need-lowest-requires Inv-loop μ-loop
 lowest-requires c κs = c .loop-test .taken
 
 abbrev start : tie.At-loop Inv-loop μ-loop → tie.Start Inv-loop μ-loop
-start c = c .before .before .before .before
+start c = c .before .before .before .before .before
 
 -- the position of the lowest bit
 position : (c : tie.After-lowest Inv-loop μ-loop) → c .lowest .result / 2 < 27
@@ -85,7 +87,8 @@ loop-again c =
     let t = o .before .before .before .before in
     let l = t .before .before in
     let a = start l .args in
-    calling-next (a .dist .now) (a .idle) (fromVoxel (a .a) (a .l) (a .at)) (a .status .now) (a .offsets .now) (a .tree .now) (l .loop .status)
+    calling-next (marked (a .marks .now)) (a .dist .now) (a .idle) (fromVoxel (a .a) (a .l) (a .at)) (a .status .now) (a .offsets .now) (a .tree .now)
+    (l .loop .status)
     (l .loop .offsets) (l .loop .tree) _ _ _ (l .loop .m)
     (t .lowest .result) (l .loop .inv) (t .lowest .ensures) (rw (o .offset .ensures) at (w .wake-one .ensures))
     (search needs) (search needs) (search needs)
@@ -104,7 +107,8 @@ returns c =
     let l = c .before in
     let a = start l .args in
     let z : l .loop .m ≡ 0 = omega (arith, c .loop-test .left) in
-    calling-done (a .dist .now) (a .idle) (fromVoxel (a .a) (a .l) (a .at)) (a .status .now) (a .offsets .now) (a .tree .now) (l .loop .status)
+    calling-done (marked (a .marks .now)) (a .dist .now) (a .idle) (fromVoxel (a .a) (a .l) (a .at)) (a .status .now) (a .offsets .now) (a .tree .now)
+    (l .loop .status)
     (l .loop .offsets) (l .loop .tree) (l .loop .m) (l .loop .inv)
     (λ t. ap (λ (m : ℕ). has m t) z ∙ has-beyond 0 0 t (lit< tt) (omega arith))
 

@@ -11,7 +11,7 @@ use Rattle.examining.proofs.wake_around.Statement.{statement}
 use Rattle.examining.proofs.wake_around.Tie as tie
 
 abbrev start : tie.After-idle-bits → tie.Start
-start c = c .before .before .before .before .before
+start c = c .before .before .before .before .before .before
 
 first-around-requires : tie.Need-first-around-requires
 first-around-requires c κs = search needs

@@ -1,36 +1,22 @@
 -- `examining::wake_one` meets its contract.
-use mathlib.Core.Path.{_≡_, sym, _∙_}
-use borrow.Author.Needs.{sfits-of, needs}
-use lib.IntN.{pos}
-use lib.Signed.{ltZ}
-use mir.Syntax.{w32}
-use mir.Val.{toZ, ofZ}
-use Rattle.prelude.proofs.Signs.{held-negative}
-use Rattle.rules.specs.Grid.{isNegative, distanceAt}
+use mathlib.Core.Path.{sym, _∙_}
+use borrow.Author.Needs.{needs}
+use Rattle.prelude.proofs.Bools.{not-true, not-false}
+use Rattle.rules.specs.Marks.{marked}
 use Rattle.examining.proofs.Calling.{stays, wakes}
 use Rattle.examining.proofs.wake_one.Statement.{statement}
 use Rattle.examining.proofs.wake_one.Tie as tie
 
-mul-d : tie.Need-mul-d
-mul-d c = search needs
-
-shared-slice-copy-out-d : tie.Need-shared-slice-copy-out-d
-shared-slice-copy-out-d c = search needs
-
--- the test of the sign
-sign :
-    (c : tie.After-d)
-    → let a = c .before .before .before .before .args in
-    let z = distanceAt (a .dist .now) (a .j) in
-    ltZ (toZ w32 (ofZ w32 z)) (pos 0) ≡ isNegative z
-sign c = let a = c .before .before .before .before .args in held-negative {z = distanceAt (a .dist .now) (a .j)} (sfits-of (c .d .given))
+may-go-requires : tie.Need-may-go-requires
+may-go-requires c κs = search needs
 
 returns : tie.Need-returns
 returns c =
-    let d = c .before in
-    let s = d .before .before .before .before in
+    let g = c .before in
+    let s = g .before .before .before .before .before in
     let a = s .args in
-    stays (a .dist .now) (a .status .now) (a .offsets .now) (a .tree .now) (a .j) (sym (sign d) ∙ c .if1 .taken) (s .pre .0)
+    stays (marked (a .marks .now)) (a .dist .now) (a .status .now) (a .offsets .now) (a .tree .now) (a .j)
+    (sym (g .may-go .ensures) ∙ not-true _ (c .if1 .taken)) (s .pre .0)
 
 raise-requires : tie.Need-raise-requires
 raise-requires c κs = search needs
@@ -49,17 +35,17 @@ returns-2 c =
     let k-back = c .before .before .before in
     let k = k-back .before .before .before in
     let e = k .before .before .before .before in
-    let d = e .before in
-    let s = d .before .before .before .before in
+    let g = e .before in
+    let s = g .before .before .before .before .before in
     let a = s .args in
-    wakes (a .dist .now) (a .status .now) _ _ (a .j) _ (s .pre .1) (sym (sign d) ∙ e .if1 .left) (k .raise .ensures)
+    wakes (marked (a .marks .now)) (a .dist .now) (a .status .now) _ _ (a .j) _ (s .pre .1)
+    (sym (g .may-go .ensures) ∙ not-false _ (e .if1 .left)) (k .raise .ensures)
 
 pub wake-one-spec : {M : Type 1} → statement M
 wake-one-spec =
     tie.close
     (tie.spec
-    mul-d
-    shared-slice-copy-out-d
+    may-go-requires
     returns
     raise-requires
     same-length

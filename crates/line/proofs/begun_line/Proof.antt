@@ -1,7 +1,5 @@
 -- `line::begun_line` meets its contract.
-use mathlib.Core.Path.{ap, _∙_}
 use Rattle.line.proofs.Reading.{begin-long, ready, line-begun, line-begin-refused}
-use Rattle.text.specs.Written.{printed}
 use borrow.Author.Needs.{needs}
 use Rattle.line.proofs.begun_line.Statement.{statement}
 use Rattle.line.proofs.begun_line.Tie as tie
@@ -16,7 +14,7 @@ carved-to-end-requires : tie.Need-carved-to-end-requires
 carved-to-end-requires c κs =
     let k = c .before .before in
     let b = k .before .before .before .before .before .before in
-    begin-long _ _ _ _ _ _ _ _ (ready _ _ _ _ _ _ _ _ (b .begin .ensures) _ (k .before .next .given .1))
+    begin-long _ _ _ _ _ _ _ _ _ (ready _ _ _ _ _ _ _ _ _ (b .begin .ensures) _ (k .before .next .given .1))
 
 enum-known-n : tie.Need-enum-known-n
 enum-known-n c = search needs
@@ -35,7 +33,7 @@ returns c =
     let e = c .before .before .before in
     let k = e .before .before .before in
     let b = k .before .before .before .before .before .before in
-    e .carved-to-end .ensures ∙ ap printed (line-begun _ _ _ _ _ _ _ _ (b .begin .ensures) _ (k .before .next .given .1))
+    line-begun _ _ _ _ _ _ _ _ _ (b .begin .ensures) _ (k .before .next .given .1) _ (e .carved-to-end .ensures)
 
 same-length-3 : tie.Need-same-length-3
 same-length-3 c = search needs
@@ -47,7 +45,7 @@ returns-2 : tie.Need-returns-2
 returns-2 c =
     let k = c .before in
     let b = k .before .before .before .before .before .before in
-    c .refused-line .ensures ∙ ap printed (line-begin-refused _ _ _ _ _ _ _ _ (b .begin .ensures) _ (k .before .n .given .1))
+    line-begin-refused _ _ _ _ _ _ _ _ _ (b .begin .ensures) _ (k .before .n .given .1) _ (c .refused-line .ensures)
 
 pub begun-line-spec : {M : Type 1} → statement M
 begun-line-spec =

@@ -1,6 +1,7 @@
 -- `line::carve_on` meets its contract.
 use Rattle.rules.specs.Answer.{carvedAnswer}
-use Rattle.line.specs.Program.{afterCarve}
+use Rattle.rules.specs.Machine.{state, carve}
+use Rattle.line.specs.Program.{noLimit, afterCarve}
 use Rattle.line.proofs.Rounds.{after-answer}
 use borrow.Author.Needs.{needs}
 use Rattle.line.proofs.carve_on.Statement.{statement}
@@ -23,8 +24,9 @@ unfolding afterCarve
 returns c =
     let o = c .before .before .before .before .before in
     let e = c .before .next .given .1 in
-    let d = o .before .before .before .args .dist .now in
-    after-answer carvedAnswer (λ r. r .next) _ d e (o .carve .ensures)
+    let a = o .before .before .before .before .args in
+    let d = a .dist .now in
+    after-answer carvedAnswer (λ r. r .next) _ d (carve (a .marks .now) noLimit (state (a .given) d (a .status .now))) e (o .carve .ensures)
 
 same-length-2 : tie.Need-same-length-2
 same-length-2 c = search needs
@@ -34,8 +36,9 @@ unfolding afterCarve
 returns-2 c =
     let o = c .before .before .before .before in
     let e = c .enum-told .given .1 in
-    let d = o .before .before .before .args .dist .now in
-    after-answer carvedAnswer (λ r. r .next) _ d e (o .carve .ensures)
+    let a = o .before .before .before .before .args in
+    let d = a .dist .now in
+    after-answer carvedAnswer (λ r. r .next) _ d (carve (a .marks .now) noLimit (state (a .given) d (a .status .now))) e (o .carve .ensures)
 
 pub carve-on-spec : {M : Type 1} → statement M
 carve-on-spec =

@@ -18,8 +18,8 @@ finish-on-requires c κs = search needs
 kept-voxels-requires : tie.Need-kept-voxels-requires
 kept-voxels-requires c κs = search needs
 
-cast-t17 : tie.Need-cast-t17
-cast-t17 c = search needs
+cast-t18 : tie.Need-cast-t18
+cast-t18 c = search needs
 
 carved-line-requires : tie.Need-carved-line-requires
 carved-line-requires c κs = search needs
@@ -38,9 +38,9 @@ returns c =
     let k = c .before .before .before in
     let f = k .before .before .before in
     let v = f .before .before .before .before .before in
-    let a = v .before .before .before .before in
+    let a = v .before .before .before .before .before in
     c .carved-line .ensures
-    ∙ ap printed (line-ended _ _ _ _ _ _ _ _ _ (v .carve-and-open .kept .1 .1 .0 ∙ a .pre) (v .carve-and-open .ensures) (f .finish-on .ensures)
+    ∙ ap printed (line-ended _ _ _ _ _ _ _ _ _ _ (v .carve-and-open .kept .1 .1 .1 .0 ∙ a .pre) (v .carve-and-open .ensures) (f .finish-on .ensures)
     (k .kept-voxels .ensures) (toZ-ofZ (euler-fits (c .before))))
 
 pub carved-to-end-spec : {M : Type 1} → statement M
@@ -50,7 +50,7 @@ carved-to-end-spec =
     carve-and-open-requires
     finish-on-requires
     kept-voxels-requires
-    cast-t17
+    cast-t18
     carved-line-requires
     same-length
     same-length-2

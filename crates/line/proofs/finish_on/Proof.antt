@@ -22,7 +22,7 @@ returns : tie.Need-returns
 unfolding afterFinish
 returns c =
     let f = c .before .before .before .before in
-    after-answer finishedAnswer (λ r. r) _ (f .finish .last .1 .0) (c .before .next .given .1) (f .finish .ensures)
+    after-answer finishedAnswer (λ r. r) _ (f .finish .last .1 .0) _ (c .before .next .given .1) (f .finish .ensures)
 
 same-length-2 : tie.Need-same-length-2
 same-length-2 c = search needs
@@ -31,7 +31,7 @@ returns-2 : tie.Need-returns-2
 unfolding afterFinish
 returns-2 c =
     let f = c .before .before .before in
-    after-answer finishedAnswer (λ r. r) _ (f .finish .last .1 .0) (c .enum-told .given .1) (f .finish .ensures)
+    after-answer finishedAnswer (λ r. r) _ (f .finish .last .1 .0) _ (c .enum-told .given .1) (f .finish .ensures)
 
 pub finish-on-spec : {M : Type 1} → statement M
 finish-on-spec =

@@ -35,9 +35,10 @@ returns c =
     let l = c .before .before .before in
     let k = l .before .before .before .before .before in
     let r = k .before .before .before in
-    let s = r .before .before .before .before in
+    let s = r .before .before .before .before .before in
     let lent = s .pre in
-    printed-grid _ _ _ _ (r .read-up-to .ensures) (lent .values) _ _ _ _ _ (l .begun-line .ensures) (k .sides .given .1) (lent .distances) (lent .statuses)
+    printed-grid _ _ _ _ (r .read-up-to .ensures) (lent .values) _ _ _ _ _ _ (l .begun-line .ensures) (k .sides .given .1) (lent .marks)
+    (lent .distances) (lent .statuses)
 
 same-length-4 : tie.Need-same-length-4
 same-length-4 c = search needs
@@ -46,7 +47,7 @@ returns-2 : tie.Need-returns-2
 returns-2 c =
     let k = c .before .before in
     let r = k .before .before .before in
-    let s = r .before .before .before .before in
+    let s = r .before .before .before .before .before in
     c .refused-line .ensures ∙ ap printed (line-refused _ _ _ _ (r .read-up-to .ensures) (s .pre .values) _ (k .n .given .1))
 
 pub line-in-spec : {M : Type 1} → statement M

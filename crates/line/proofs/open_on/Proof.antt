@@ -1,5 +1,6 @@
 -- `line::open_on` meets its contract.
 use Rattle.rules.specs.Answer.{openedAnswer}
+use Rattle.rules.specs.Machine.{state, openNext}
 use Rattle.line.specs.Program.{afterOpen}
 use Rattle.line.proofs.Rounds.{after-answer, opens-answer}
 use borrow.Author.Needs.{needs}
@@ -23,8 +24,10 @@ unfolding afterOpen
 returns c =
     let o = c .before .before .before .before .before in
     let e = c .before .next .given .1 in
-    let d = o .before .before .before .args .dist .now in
-    (after-answer openedAnswer (λ r. r .next) _ d e (o .open-next .ensures), opens-answer _ d e (o .open-next .ensures))
+    let a = o .before .before .before .before .args in
+    let d = a .dist .now in
+    let g = state (a .given) d (a .status .now) in
+    (after-answer openedAnswer (λ r. r .next) _ d (openNext (a .marks .now) g) e (o .open-next .ensures), opens-answer _ _ d e (o .open-next .ensures))
 
 same-length-2 : tie.Need-same-length-2
 same-length-2 c = search needs
@@ -34,8 +37,10 @@ unfolding afterOpen
 returns-2 c =
     let o = c .before .before .before .before in
     let e = c .enum-told .given .1 in
-    let d = o .before .before .before .args .dist .now in
-    (after-answer openedAnswer (λ r. r .next) _ d e (o .open-next .ensures), opens-answer _ d e (o .open-next .ensures))
+    let a = o .before .before .before .before .args in
+    let d = a .dist .now in
+    let g = state (a .given) d (a .status .now) in
+    (after-answer openedAnswer (λ r. r .next) _ d (openNext (a .marks .now) g) e (o .open-next .ensures), opens-answer _ _ d e (o .open-next .ensures))
 
 pub open-on-spec : {M : Type 1} → statement M
 open-on-spec =

@@ -5,6 +5,7 @@ use borrow.Author.Needs.{needs}
 use native.Mathlib.Nat.{zero-add}
 use native.Mathlib.Omega.{arith}
 use lib.ListN.{length, getD}
+use Rattle.rules.specs.Marks.{marked}
 use Rattle.keys.specs.Key.{keyAt, stretches, stretchKey}
 use Rattle.offsets.specs.Offsets.{offsetOf}
 use Rattle.offsets.proofs.Offsets.{Filling, filling-start, filling-step, offset-made}
@@ -13,11 +14,15 @@ use Rattle.offsets.proofs.fill_offsets.Statement.{statement}
 use Rattle.offsets.proofs.fill_offsets.Tie as tie
 
 abbrev Inv-loop : tie.InvT-loop
-Inv-loop dist status offsets₀ p k₀ offsets k =
-    (p ≡ stretches (length status)) × Filling (λ m. offsetOf (stretchKey (keyAt dist status) m)) 0 p offsets₀ offsets k
+Inv-loop dist marks status offsets₀ p k₀ offsets k =
+    (p ≡ stretches (length status)) × Filling (λ m. offsetOf (stretchKey (keyAt (marked marks .hurried) dist status) m)) 0 p offsets₀ offsets k
 
 abbrev μ-loop : tie.MeasureT-loop
-μ-loop dist status offsets₀ p k₀ offsets k = p - k
+μ-loop dist marks status offsets₀ p k₀ offsets k = p - k
+
+-- the offset of a key that was computed
+offset-from : (r v w : ℕ) → r ≡ offsetOf v → v ≡ w → r ≡ offsetOf w
+offset-from r v w e q = e ∙ ap offsetOf q
 
 count-stretches-requires : tie.Need-count-stretches-requires Inv-loop μ-loop
 count-stretches-requires c κs = search needs
@@ -44,11 +49,13 @@ loop-again : tie.Need-loop-again Inv-loop μ-loop
 loop-again c =
     let b = c .before in
     let l = b .before .before in
-    let s = l .before .before .before .before in
+    let s = l .before .before .before .before .before in
+    let a = s .args in
+    let key = stretchKey (keyAt (marked (a .marks .now) .hurried) (a .dist .now) (a .status .now)) (l .loop .k) in
     let i = l .loop .inv in (
       i .0,
       filling-step _ 0 _ _ (l .loop .offsets) (l .loop .k) _ _ (omega arith) (omega (arith, s .pre .1, i .0)) (b .before .loop-test .taken)
-          (c .offset-of .ensures ∙ ap offsetOf (b .stretch .ensures)) (i .1),
+          (offset-from _ _ key (c .offset-of .ensures) (b .stretch .ensures)) (i .1),
     )
 
 same-length : tie.Need-same-length Inv-loop μ-loop
@@ -57,12 +64,12 @@ same-length c = c .before .loop .inv .1 .same
 returns : tie.Need-returns Inv-loop μ-loop
 returns c =
     let l = c .before in
-    let s = l .before .before .before .before in
+    let s = l .before .before .before .before .before in
     let i = l .loop .inv in
     record {
       room = omega (arith, s .pre .1, i .1 .same);
       each = λ k u.
-          offset-made (keyAt (s .args .dist .now) (s .args .status .now)) k (key-named _ _ (s .pre .0)) _ _ refl
+          offset-made (keyAt (marked (s .args .marks .now) .hurried) (s .args .dist .now) (s .args .status .now)) k (key-named _ _ _ (s .pre .0)) _ _ refl
           (ap (λ (x : ℕ). getD (l .loop .offsets) x 0) (sym (zero-add k)) ∙ i .1 .filled k (omega (arith, c .loop-test .left, i .0)));
     }
 

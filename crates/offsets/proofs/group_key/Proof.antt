@@ -1,5 +1,6 @@
 -- `group_key` meets its contract: a group is whole, or ends with the last stretch.
 use native.Mathlib.Omega.{arith}
+use Rattle.rules.specs.Marks.{marked}
 use Rattle.offsets.specs.Offsets.{group}
 use Rattle.offsets.proofs.Held.{held-some}
 use borrow.Author.Needs.{needs}
@@ -22,9 +23,10 @@ returns : tie.Need-returns
 returns c =
     let i = c .before in
     let n = i .before in
-    let s = n .before .before in
+    let s = n .before .before .before in
     let a = s .args in
-    held-some _ _ (a .q) group (c .some-stretches .result) (omega (arith, i .if1 .taken, n .count-stretches .ensures)) (c .some-stretches .ensures)
+    held-some (marked (a .marks .now) .hurried) _ _ (a .q) group (c .some-stretches .result) (omega (arith, i .if1 .taken, n .count-stretches .ensures))
+    (c .some-stretches .ensures)
 
 sub-some-stretches : tie.Need-sub-some-stretches
 sub-some-stretches c = search needs
@@ -36,9 +38,10 @@ returns-2 : tie.Need-returns-2
 returns-2 c =
     let i = c .before in
     let n = i .before in
-    let s = n .before .before in
+    let s = n .before .before .before in
     let a = s .args in
-    held-some _ _ (a .q) _ (c .some-stretches2 .result) (omega (arith, i .if1 .left, n .count-stretches .ensures)) (c .some-stretches2 .ensures)
+    held-some (marked (a .marks .now) .hurried) _ _ (a .q) _ (c .some-stretches2 .result) (omega (arith, i .if1 .left, n .count-stretches .ensures))
+    (c .some-stretches2 .ensures)
 
 pub group-key-spec : {M : Type 1} → statement M
 group-key-spec =

@@ -3,6 +3,7 @@ use mathlib.Core.Path.{sym, ap, _∙_, subst}
 use Prim.Native.Nat.{ℕ, _+_, _*_, _%_, _≤_, _<_}
 use native.Mathlib.Omega.{arith}
 use lib.ListN.{length}
+use Rattle.rules.specs.Marks.{marked}
 use Rattle.keys.specs.Key.{voxelKey}
 use Rattle.offsets.proofs.Held.{held-on, held-off}
 use borrow.Author.Needs.{needs}
@@ -22,31 +23,32 @@ add-voxel-key : tie.Need-add-voxel-key
 add-voxel-key c = search needs
 
 -- where the offset leads to
-inside : (c : tie.After-index) → let s = c .before .before .before in 64 * s .args .k + c .index .result % 64 < length (s .args .dist .now)
+inside : (c : tie.After-index) → let s = c .before .before .before .before in 64 * s .args .k + c .index .result % 64 < length (s .args .dist .now)
 inside c =
-    let s = c .before .before .before in
+    let s = c .before .before .before .before in
     subst (λ (o : ℕ). 64 * s .args .k + o % 64 < length (s .args .dist .now)) (sym (c .index .ensures)) (s .pre .0 .inside (s .args .k) (s .pre .1))
 
 voxel-key-requires : tie.Need-voxel-key-requires
 voxel-key-requires c κs =
-    let s = c .before .before .before in
+    let s = c .before .before .before .before in
     let i = inside c in
     (i, omega (arith, s .pre .0 .few))
 
 returns : tie.Need-returns
 returns c =
     let i = c .before .before in
-    let s = i .before .before .before in
+    let s = i .before .before .before .before in
     let e = i .index .ensures in
     c .before .voxel-key .ensures
-    ∙ ap (λ (o : ℕ). voxelKey (s .args .dist .now) (64 * s .args .k + o % 64)) e
-    ∙ sym (held-on _ (s .args .offsets .now) (s .args .k) (subst (λ (o : ℕ). o < 64) e (c .if1 .taken)))
+    ∙ ap (λ (o : ℕ). voxelKey (marked (s .args .marks .now) .hurried) (s .args .dist .now) (64 * s .args .k + o % 64)) e
+    ∙ sym (held-on (marked (s .args .marks .now) .hurried) _ (s .args .offsets .now) (s .args .k) (subst (λ (o : ℕ). o < 64) e (c .if1 .taken)))
 
 returns-2 : tie.Need-returns-2
 returns-2 c =
     let i = c .before .before in
-    let s = i .before .before .before in
-    sym (held-off (s .args .dist .now) (s .args .offsets .now) (s .args .k) (subst (λ (o : ℕ). 64 ≤ o) (i .index .ensures) (c .if1 .left)))
+    let s = i .before .before .before .before in
+    sym (held-off (marked (s .args .marks .now) .hurried) (s .args .dist .now) (s .args .offsets .now) (s .args .k)
+    (subst (λ (o : ℕ). 64 ≤ o) (i .index .ensures) (c .if1 .left)))
 
 pub held-key-spec : {M : Type 1} → statement M
 held-key-spec =

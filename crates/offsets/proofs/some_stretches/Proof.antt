@@ -3,6 +3,7 @@ use mathlib.Core.Path.{_≡_, refl, ap, _∙_}
 use Prim.Native.Nat.{_-_, _≤_}
 use borrow.Author.Needs.{needs}
 use native.Mathlib.Omega.{arith}
+use Rattle.rules.specs.Marks.{marked}
 use Rattle.keys.specs.Key.{greatest}
 use Rattle.keys.proofs.Greatest.{greatest-more, greatest-empty}
 use Rattle.offsets.specs.Offsets.{heldKey}
@@ -10,10 +11,10 @@ use Rattle.offsets.proofs.some_stretches.Statement.{statement}
 use Rattle.offsets.proofs.some_stretches.Tie as tie
 
 abbrev Inv-loop : tie.InvT-loop
-Inv-loop dist offsets first count g₀ c₀ g c = (c ≤ count) × (g ≡ greatest (heldKey dist offsets) first c)
+Inv-loop dist marks offsets first count g₀ c₀ g c = (c ≤ count) × (g ≡ greatest (heldKey (marked marks .hurried) dist offsets) first c)
 
 abbrev μ-loop : tie.MeasureT-loop
-μ-loop dist offsets first count g₀ c₀ g c = count - c
+μ-loop dist marks offsets first count g₀ c₀ g c = count - c
 
 loop-holds : tie.Need-loop-holds Inv-loop μ-loop
 loop-holds c = (omega arith, greatest-empty _ _ 0 refl)
@@ -36,17 +37,17 @@ loop-less c = search needs
 loop-again : tie.Need-loop-again Inv-loop μ-loop
 loop-again c =
     let l = c .before .before .before in
-    let a = l .before .before .args in
-    let e = greatest-more (heldKey (a .dist .now) (a .offsets .now)) (a .first) (l .loop .c) in
+    let a = l .before .before .before .args in
+    let e = greatest-more (heldKey (marked (a .marks .now) .hurried) (a .dist .now) (a .offsets .now)) (a .first) (l .loop .c) in
     let t = c .before .before .loop-test .taken in
     (omega arith, omega (arith, c .greater .ensures, c .before .held-key .ensures))
 
 returns : tie.Need-returns Inv-loop μ-loop
 returns c =
     let l = c .before in
-    let a = l .before .before .args in
+    let a = l .before .before .before .args in
     let q : l .loop .c ≡ a .count = omega (arith, c .loop-test .left) in
-    l .loop .inv .1 ∙ ap (greatest (heldKey (a .dist .now) (a .offsets .now)) (a .first)) q
+    l .loop .inv .1 ∙ ap (greatest (heldKey (marked (a .marks .now) .hurried) (a .dist .now) (a .offsets .now)) (a .first)) q
 
 pub some-stretches-spec : {M : Type 1} → statement M
 some-stretches-spec =

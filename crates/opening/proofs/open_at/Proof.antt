@@ -5,7 +5,8 @@ use lib.IntN.{pos, _-ℤ_}
 use mir.Syntax.{w32}
 use mir.Val.{toZ, ofZ}
 use mir.Facts.{toZ-ofZ}
-use Rattle.rules.specs.Machine.{State, state}
+use Rattle.rules.specs.Marks.{marked}
+use Rattle.rules.specs.Machine.{State, state, mayGo}
 use Rattle.opening.proofs.Opening.{open-removable, opened-is}
 use Rattle.opening.proofs.Counting.{few, countable-open}
 use Rattle.opening.proofs.open_at.Statement.{statement}
@@ -16,19 +17,19 @@ lent-to c = state (c .args .given) (c .args .dist .now) (c .args .status .now)
 
 groups-at-requires : tie.Need-groups-at-requires
 groups-at-requires c κs =
-    let s = c .before .before .before in
-    let r = open-removable (s .args .i) (lent-to s) (s .pre) in
+    let s = c .before .before .before .before in
+    let r = open-removable (s .args .marks .now) (s .args .i) (lent-to s) (s .pre) in
     (r .voxel, r .statuses)
 
 remove-requires : tie.Need-remove-requires
 remove-requires c κs =
-    let s = c .before .before .before .before .before in
-    open-removable (s .args .i) (lent-to s) (s .pre)
+    let s = c .before .before .before .before .before .before in
+    open-removable (s .args .marks .now) (s .args .i) (lent-to s) (s .pre)
 
 change-requires : tie.Need-change-requires
 change-requires c κs =
     let t = c .before .before .before .before in
-    let s = t .before .before .before .before in
+    let s = t .before .before .before .before .before in
     few (lent-to s) (s .args .i) (t .groups-at .result) (t .groups-at .ensures)
 
 -- the change as the machine holds it
@@ -40,8 +41,8 @@ changed c = toZ-ofZ (sfits-of (c .change .ok)) ∙ c .change .ensures
 counted-requires : tie.Need-counted-requires
 counted-requires c κs =
     let t = c .before .before .before .before .before in
-    let s = t .before .before .before .before in
-    countable-open (lent-to s) (s .args .i) (t .groups-at .result) (t .groups-at .ensures) (s .pre) _ (changed c)
+    let s = t .before .before .before .before .before in
+    countable-open (lent-to s) (s .args .i) (t .groups-at .result) (t .groups-at .ensures) (s .args .marks .now) (s .pre) _ (changed c)
 
 same-length : tie.Need-same-length
 same-length c = search needs
@@ -51,8 +52,9 @@ returns c =
     let h = c .before in
     let r = h .before .before .before in
     let t = r .before .before in
-    let s = t .before .before .before .before in
-    opened-is (lent-to s) (s .args .i) (t .groups-at .result) _ _ _ (t .groups-at .ensures) (c .counted .ensures) (changed h) (r .remove .ensures)
+    let s = t .before .before .before .before .before in
+    opened-is (mayGo (marked (s .args .marks .now)) (lent-to s .dist)) (lent-to s) (s .args .i) (t .groups-at .result) _ _ _ (t .groups-at .ensures)
+    (c .counted .ensures) (changed h) (r .remove .ensures)
 
 pub open-at-spec : {M : Type 1} → statement M
 open-at-spec =

@@ -1,7 +1,8 @@
 -- `opening::open_next` meets its contract: refused by a number, or by 15 where nothing is found, or done.
 use mathlib.Core.Path.{_≡_, sym, ap, _∙_}
 use borrow.Author.Needs.{needs}
-use Rattle.rules.specs.Machine.{State, state, toOpen}
+use Rattle.rules.specs.Marks.{marked}
+use Rattle.rules.specs.Machine.{State, state, mayGo, toOpen}
 use Rattle.searching.specs.Argmax.{found}
 use Rattle.opening.proofs.Opening.{searchable, open-refused, open-fit, open-nothing, opens-at, open-done}
 use Rattle.opening.proofs.open_next.Statement.{statement}
@@ -10,8 +11,11 @@ use Rattle.opening.proofs.open_next.Tie as tie
 abbrev lent-to : tie.Start → State
 lent-to c = state (c .args .given) (c .args .dist .now) (c .args .status .now)
 
+abbrev at : tie.After-to-open → tie.Start
+at c = c .before .before .before .before .before .before .before .before
+
 -- the search in the rule's words
-searched : (c : tie.After-to-open) → found (c .to-open .result) ≡ toOpen (lent-to (c .before .before .before .before .before .before .before))
+searched : (c : tie.After-to-open) → found (c .to-open .result) ≡ toOpen (mayGo (marked (at c .args .marks .now)) (lent-to (at c) .dist)) (lent-to (at c))
 unfolding toOpen
 searched c = c .to-open .ensures
 
@@ -24,14 +28,17 @@ same-length c = search needs
 returns : tie.Need-returns
 returns c =
     let r = c .before in
-    open-refused (lent-to (r .before .before .before)) _ (r .open-refusal .ensures) (c .if1 .taken)
+    let s = r .before .before .before .before in
+    open-refused (s .args .marks .now) (lent-to s) _ (r .open-refusal .ensures) (c .if1 .taken)
 
 to-open-requires : tie.Need-to-open-requires
 to-open-requires c κs =
     let e = c .before .before in
     let r = e .before in
-    let g = lent-to (r .before .before .before) in
-    searchable g (open-fit g _ (r .open-refusal .ensures) (e .if1 .left))
+    let s = r .before .before .before .before in
+    let g = lent-to s in
+    let m = s .args .marks .now in
+    searchable m g (open-fit m g _ (r .open-refusal .ensures) (e .if1 .left))
 
 enum-known-next : tie.Need-enum-known-next
 enum-known-next c = search needs
@@ -47,8 +54,10 @@ returns-2 c =
     let t = c .before .before in
     let e = t .before .before .before in
     let r = e .before in
-    let g = lent-to (r .before .before .before) in
-    open-nothing g _ (r .open-refusal .ensures) (e .if1 .left) (sym (searched t) ∙ ap found (c .enum-told .given .1))
+    let s = r .before .before .before .before in
+    let g = lent-to s in
+    let m = s .args .marks .now in
+    open-nothing m g _ (r .open-refusal .ensures) (e .if1 .left) (sym (searched t) ∙ ap found (c .enum-told .given .1))
 
 open-at-requires : tie.Need-open-at-requires
 open-at-requires c κs =
@@ -56,8 +65,10 @@ open-at-requires c κs =
     let t = x .before .before in
     let e = t .before .before .before in
     let r = e .before in
-    let g = lent-to (r .before .before .before) in
-    opens-at g _ (r .open-refusal .ensures) (e .if1 .left) _ (sym (searched t) ∙ ap found (x .next .given .1))
+    let s = r .before .before .before .before in
+    let g = lent-to s in
+    let m = s .args .marks .now in
+    opens-at m g _ (r .open-refusal .ensures) (e .if1 .left) _ (sym (searched t) ∙ ap found (x .next .given .1))
 
 same-length-3 : tie.Need-same-length-3
 same-length-3 c = search needs
@@ -69,8 +80,10 @@ returns-3 c =
     let t = x .before .before in
     let e = t .before .before .before in
     let r = e .before in
-    let g = lent-to (r .before .before .before) in
-    open-done g _ (r .open-refusal .ensures) (e .if1 .left) _ (sym (searched t) ∙ ap found (x .next .given .1)) _ (o .open-at .ensures)
+    let s = r .before .before .before .before in
+    let g = lent-to s in
+    let m = s .args .marks .now in
+    open-done m g _ (r .open-refusal .ensures) (e .if1 .left) _ (sym (searched t) ∙ ap found (x .next .given .1)) _ (o .open-at .ensures)
 
 pub open-next-spec : {M : Type 1} → statement M
 open-next-spec =

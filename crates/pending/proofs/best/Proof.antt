@@ -10,22 +10,22 @@ shared-slice-read-w c = search needs
 
 returns : tie.Need-returns
 returns c =
-    let s = c .before .before .before .before .before in
-    best-nothing _ _ _ _ (s .pre) (c .if1 .taken)
+    let s = c .before .before .before .before .before .before in
+    best-nothing _ _ _ _ _ (s .pre) (c .if1 .taken)
 
 voxel-requires : tie.Need-voxel-requires
 voxel-requires c κs =
-    let s = c .before .before .before .before .before in
+    let s = c .before .before .before .before .before .before in
     let n = c .if1 .left in
-    let v = root-winner _ _ _ _ (s .pre) (omega arith) in
+    let v = root-winner _ _ _ _ _ (s .pre) (omega arith) in
     (omega arith, omega (arith, v .inside, s .pre .lent .same))
 
 returns-2 : tie.Need-returns-2
 returns-2 c =
     let e = c .before in
-    let s = e .before .before .before .before .before in
+    let s = e .before .before .before .before .before .before in
     let n = e .if1 .left in
-    best-at _ _ _ _ (s .pre) _ (omega arith) (c .voxel .ensures .0) (c .voxel .ensures .1)
+    best-at _ _ _ _ _ (s .pre) _ (omega arith) (c .voxel .ensures .0) (c .voxel .ensures .1)
 
 pub best-spec : {M : Type 1} → statement M
 best-spec = tie.close (tie.spec shared-slice-read-w returns voxel-requires returns-2)

@@ -3,6 +3,7 @@ use mathlib.Core.Path.{ap, _∙_}
 use Prim.Native.Nat.{ℕ, _+_}
 use native.Mathlib.Omega.{arith}
 use lib.ListN.{length}
+use Rattle.rules.specs.Marks.{marked}
 use Rattle.keys.specs.Key.{keyAt, stretches}
 use Rattle.offsets.specs.Offsets.{groups}
 use Rattle.offsets.proofs.Held.{held, held-group}
@@ -21,10 +22,10 @@ fill-leaves-requires : tie.Need-fill-leaves-requires
 fill-leaves-requires c κs =
     let f = c .before .before .before .before in
     let g = f .before .before in
-    let s = g .before .before .before .before in
+    let s = g .before .before .before .before .before in
     let lent = s .pre .lent in
     record {
-      held = held _ _ lent _ (f .fill-offsets .ensures);
+      held = held _ _ _ lent _ (f .fill-offsets .ensures);
       count = g .count-groups .ensures;
       room = omega (arith, s .pre .grouped, g .count-groups .ensures, lent .same);
     }
@@ -44,7 +45,7 @@ returns c =
     let l = j .before .before .before .before in
     let f = l .before .before .before .before .before in
     let g = f .before .before in
-    let s = g .before .before .before .before in
+    let s = g .before .before .before .before .before in
     let lent = s .pre .lent in
     let h = g .count-groups .result in
     let O = f .fill-offsets .ensures in
@@ -52,10 +53,10 @@ returns c =
     record {
       lent = lent;
       index =
-          indexed (keyAt (s .args .dist .now) (s .args .status .now)) (length (s .args .status .now)) _ _ h
+          indexed (keyAt (marked (s .args .marks .now) .hurried) (s .args .dist .now) (s .args .status .now)) (length (s .args .status .now)) _ _ h
           (e ∙ ap (λ (n : ℕ). groups (stretches n)) (lent .same)) O (j .join-nodes .ensures .nodes)
           (λ q u.
-          j .join-nodes .ensures .leaves (h + q) (omega arith) ∙ held-group _ _ lent _ O q _ (omega (arith, e)) (l .fill-leaves .ensures q u));
+          j .join-nodes .ensures .leaves (h + q) (omega arith) ∙ held-group _ _ _ lent _ O q _ (omega (arith, e)) (l .fill-leaves .ensures q u));
     }
 
 pub build-spec : {M : Type 1} → statement M

@@ -3,16 +3,17 @@ use mathlib.Core.Path.{refl}
 use Prim.Native.Nat.{_-_}
 use borrow.Author.Needs.{needs}
 use native.Mathlib.Omega.{arith}
+use Rattle.rules.specs.Marks.{marked}
 use Rattle.offsets.specs.Offsets.{heldGroup}
 use Rattle.offsets.proofs.Offsets.{Filling, filling-start, filling-step}
 use Rattle.pending.proofs.fill_leaves.Statement.{statement}
 use Rattle.pending.proofs.fill_leaves.Tie as tie
 
 abbrev Inv-loop : tie.InvT-loop
-Inv-loop dist offsets tree₀ h q₀ tree q = Filling (heldGroup dist offsets) h h tree₀ tree q
+Inv-loop dist marks offsets tree₀ h q₀ tree q = Filling (heldGroup (marked marks .hurried) dist offsets) h h tree₀ tree q
 
 abbrev μ-loop : tie.MeasureT-loop
-μ-loop dist offsets tree₀ h q₀ tree q = h - q
+μ-loop dist marks offsets tree₀ h q₀ tree q = h - q
 
 loop-holds : tie.Need-loop-holds Inv-loop μ-loop
 loop-holds c = filling-start _ _ _ _
@@ -38,7 +39,7 @@ loop-less c = search needs
 loop-again : tie.Need-loop-again Inv-loop μ-loop
 loop-again c =
     let l = c .before .before in
-    let s = l .before .before .before in
+    let s = l .before .before .before .before in
     filling-step _ _ _ _ (l .loop .tree) (l .loop .q) _ _ refl (omega (arith, s .pre .room)) (c .before .loop-test .taken) (c .group-key .ensures)
     (l .loop .inv)
 

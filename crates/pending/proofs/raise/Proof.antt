@@ -6,7 +6,9 @@ use native.Mathlib.Omega.{arith}
 use lib.ListN.{set}
 use Rattle.rules.specs.Status.{pendingByte}
 use Rattle.rules.proofs.Topology.Bytes.{woken-pending}
+use Rattle.rules.specs.Marks.{marked}
 use Rattle.keys.specs.Key.{keyAt, stretchKey}
+use Rattle.offsets.specs.Offsets.{heldKey}
 use Rattle.offsets.proofs.Held.{held, held-key}
 use Rattle.pending.proofs.Changes.{nodes-now, index-kept, index-raised}
 use borrow.Author.Needs.{needs}
@@ -29,21 +31,27 @@ voxel-key-requires c κs = search needs
 woken-byte : (c : tie.After-wake) → pendingByte (c .wake .result) ≡ true
 woken-byte c = ap pendingByte (c .wake .ensures) ∙ woken-pending _
 
+-- the key that an offset holds is that of its stretch
+key-read : (read held key : ℕ) → read ≡ held → held ≡ key → read ≡ key
+key-read read held key e q = e ∙ q
+
 -- the greatest key of the voxel's stretch
-stretch-now : (c : tie.After-held-key) → let w = c .before .before .before in let s = w .before .before .before .before .before in
-    c .held-key .result ≡ stretchKey (keyAt (s .args .dist .now) (s .args .status .now)) (s .args .j / 64)
+stretch-now : (c : tie.After-held-key) → let w = c .before .before .before in let s = w .before .before .before .before .before .before in
+    c .held-key .result ≡ stretchKey (keyAt (marked (s .args .marks .now) .hurried) (s .args .dist .now) (s .args .status .now)) (s .args .j / 64)
 stretch-now c =
     let w = c .before .before .before in
-    let s = w .before .before .before .before .before in
+    let s = w .before .before .before .before .before .before in
+    let a = s .args in
     let i = s .pre .0 in
-    c .held-key .ensures ∙ held-key _ _ (i .lent) _ (i .index .offset) _ (omega (arith, s .pre .1))
+    key-read _ (heldKey (marked (a .marks .now) .hurried) (a .dist .now) (a .offsets .now) (a .j / 64)) _
+    (c .held-key .ensures) (held-key _ _ _ (i .lent) _ (i .index .offset) _ (omega (arith, s .pre .1)))
 
 held-key-requires : tie.Need-held-key-requires
 held-key-requires c κs =
     let w = c .before .before in
-    let s = w .before .before .before .before .before in
+    let s = w .before .before .before .before .before .before in
     let i = s .pre .0 in
-    (held _ _ (i .lent) _ (i .index .offset), omega (arith, s .pre .1, i .lent .same))
+    (held _ _ _ (i .lent) _ (i .index .offset), omega (arith, s .pre .1, i .lent .same))
 
 same-length : tie.Need-same-length
 same-length c = search needs
@@ -56,12 +64,12 @@ returns c =
     let b = c .before in
     let v = b .before .before in
     let w = v .before in
-    let s = w .before .before .before .before .before in
+    let s = w .before .before .before .before .before .before in
     let a = s .args in
     record {
       status = ap (set (a .status .now) (a .j)) (w .wake .ensures);
       index =
-          index-kept _ _ (a .j) _ _ _ (s .pre .0) (s .pre .1) (woken-byte w) _ (v .voxel-key .ensures)
+          index-kept (marked (a .marks .now)) _ _ (a .j) _ _ _ (s .pre .0) (s .pre .1) (woken-byte w) _ (v .voxel-key .ensures)
           (subst (λ (x : ℕ). v .voxel-key .result ≤ x) (stretch-now b) (c .if1 .taken));
     }
 
@@ -78,10 +86,10 @@ lift-requires : tie.Need-lift-requires
 lift-requires c κs =
     let g = c .before in
     let w = g .before .before .before .before .before in
-    let s = w .before .before .before .before .before in
+    let s = w .before .before .before .before .before .before in
     let i = s .pre .0 in
     let e = g .count-groups .ensures in
-    (nodes-now _ _ (s .args .j) (w .wake .result) _ _ i (s .pre .1) _ e, omega (arith, s .pre .1, i .lent .same))
+    (nodes-now (marked (s .args .marks .now)) _ _ (s .args .j) (w .wake .result) _ _ i (s .pre .1) _ e, omega (arith, s .pre .1, i .lent .same))
 
 same-length-3 : tie.Need-same-length-3
 same-length-3 c = search needs
@@ -100,12 +108,12 @@ returns-2 c =
     let b = i .before in
     let v = b .before .before in
     let w = v .before in
-    let s = w .before .before .before .before .before in
+    let s = w .before .before .before .before .before .before in
     let a = s .args in
     record {
       status = ap (set (a .status .now) (a .j)) (w .wake .ensures);
       index =
-          index-raised _ _ (a .j) _ _ _ (s .pre .0) (s .pre .1) (woken-byte w) _ (v .voxel-key .ensures) _ _ _
+          index-raised (marked (a .marks .now)) _ _ (a .j) _ _ _ (s .pre .0) (s .pre .1) (woken-byte w) _ (v .voxel-key .ensures) _ _ _
           (subst (λ (x : ℕ). x < v .voxel-key .result) (stretch-now b) (i .if1 .left)) refl (g .count-groups .ensures) (l .lift .ensures);
     }
 

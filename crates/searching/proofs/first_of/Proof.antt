@@ -6,32 +6,33 @@ use borrow.Author.Needs.{sfits-of, needs}
 use mir.Val.{SFits, toZ, ofZ}
 use mir.Facts.{toZ-ofZ}
 use mir.Syntax.{w32}
+use Rattle.rules.specs.Marks.{marked}
 use Rattle.searching.specs.Argmax.{heightAt, keyAt, rank}
 use Rattle.searching.proofs.Argmax.{key-is, Skipped, skipped-start, skipped-other, skipped-same, skipped-all}
 use Rattle.searching.proofs.first_of.Statement.{statement}
 use Rattle.searching.proofs.first_of.Tie as tie
 
 abbrev Inv-loop : tie.InvT-loop
-Inv-loop dist status a l best end i₀ i = (i ≤ end) × Skipped (keyAt dist status a l) i₀ i (rank (toZ w32 best))
+Inv-loop dist marks status a l best end i₀ i = (i ≤ end) × Skipped (keyAt (marked marks) dist status a l) i₀ i (rank (toZ w32 best))
 
 abbrev μ-loop : tie.MeasureT-loop
-μ-loop dist status a l best end i₀ i = end - i
+μ-loop dist marks status a l best end i₀ i = end - i
 
-height-fits : (c : tie.After-struct-told Inv-loop μ-loop) → SFits w32 (c .before .before .args .held .height)
+height-fits : (c : tie.After-struct-told Inv-loop μ-loop) → SFits w32 (c .before .before .before .args .held .height)
 height-fits c = record { sfits = c .struct-told .given .0 .1 }
 
 -- the height as the machine reads it
 same-height :
     (c : tie.After-struct-told Inv-loop μ-loop)
-    → let h = c .before .before .args .held .height in rank (toZ w32 (ofZ w32 h)) ≡ rank h
+    → let h = c .before .before .before .args .held .height in rank (toZ w32 (ofZ w32 h)) ≡ rank h
 same-height c = ap rank (toZ-ofZ (height-fits c))
 
 loop-holds : tie.Need-loop-holds Inv-loop μ-loop
 loop-holds c =
-    let s = c .before .before in
+    let s = c .before .before .before in
     let a = s .args in
     let p = s .pre .0 in
-    let f = keyAt (a .dist .now) (a .status .now) (a .a) (a .l) in (
+    let f = keyAt (marked (a .marks .now)) (a .dist .now) (a .status .now) (a .a) (a .l) in (
       p .span .order,
       subst (Skipped f (a .held .first) (a .held .first)) (sym (same-height c))
           (skipped-start f (a .held .first) (a .held .end) (rank (a .held .height)) (p .greatest) (p .some)),
@@ -40,7 +41,7 @@ loop-holds c =
 height-at-requires : tie.Need-height-at-requires Inv-loop μ-loop
 height-at-requires c κs =
     let l = c .before in
-    let s = l .before .before .before in
+    let s = l .before .before .before .before in
     let p = s .pre .0 .span in
     let v = l .loop .inv .1 in
     let t = c .loop-test .taken in
@@ -51,13 +52,14 @@ returns c =
     let h = c .before in
     let l = h .before .before in
     let t = l .before in
-    let s = t .before .before in
+    let s = t .before .before .before in
     let a = s .args in
     let p = s .pre .0 in
-    let f = keyAt (a .dist .now) (a .status .now) (a .a) (a .l) in
-    let y = heightAt (a .dist .now) (a .status .now) (a .a) (a .l) (l .loop .i) in
+    let f = keyAt (marked (a .marks .now)) (a .dist .now) (a .status .now) (a .a) (a .l) in
+    let y = heightAt (marked (a .marks .now)) (a .dist .now) (a .status .now) (a .a) (a .l) (l .loop .i) in
     skipped-same f (a .held .first) (a .held .end) (rank (a .held .height)) (p .greatest) (p .some) (h .height-at .result) y (a .held .height) (l .loop .i)
-    refl (sfits-of (h .height-at .ok)) (height-fits t) (h .height-at .ensures) (key-is (a .dist .now) (a .status .now) (a .a) (a .l) (l .loop .i))
+    refl (sfits-of (h .height-at .ok)) (height-fits t) (h .height-at .ensures)
+    (key-is (marked (a .marks .now)) (a .dist .now) (a .status .now) (a .a) (a .l) (l .loop .i))
     (subst (Skipped f (a .held .first) (l .loop .i)) (same-height t) (l .loop .inv .1)) (h .before .loop-test .taken) (c .if1 .taken)
 
 add-i : tie.Need-add-i Inv-loop μ-loop
@@ -71,16 +73,16 @@ loop-again c =
     let h = c .before in
     let l = h .before .before in
     let t = l .before in
-    let s = t .before .before in
+    let s = t .before .before .before in
     let a = s .args in
     let p = s .pre .0 in
-    let f = keyAt (a .dist .now) (a .status .now) (a .a) (a .l) in
-    let y = heightAt (a .dist .now) (a .status .now) (a .a) (a .l) (l .loop .i) in (
+    let f = keyAt (marked (a .marks .now)) (a .dist .now) (a .status .now) (a .a) (a .l) in
+    let y = heightAt (marked (a .marks .now)) (a .dist .now) (a .status .now) (a .a) (a .l) (l .loop .i) in (
       omega (arith, h .before .loop-test .taken),
       subst (Skipped f (a .held .first) (l .loop .i + 1)) (sym (same-height t))
           (skipped-other f (a .held .first) (a .held .end) (rank (a .held .height)) (p .greatest) (p .some) (h .height-at .result) y (a .held .height)
           (l .loop .i) refl (sfits-of (h .height-at .ok)) (height-fits t) (h .height-at .ensures)
-          (key-is (a .dist .now) (a .status .now) (a .a) (a .l) (l .loop .i))
+          (key-is (marked (a .marks .now)) (a .dist .now) (a .status .now) (a .a) (a .l) (l .loop .i))
           (subst (Skipped f (a .held .first) (l .loop .i)) (same-height t) (l .loop .inv .1)) (c .if1 .left)),
     )
 
@@ -88,10 +90,10 @@ returns-2 : tie.Need-returns-2 Inv-loop μ-loop
 returns-2 c =
     let l = c .before in
     let t = l .before in
-    let s = t .before .before in
+    let s = t .before .before .before in
     let a = s .args in
     let p = s .pre .0 in
-    let f = keyAt (a .dist .now) (a .status .now) (a .a) (a .l) in
+    let f = keyAt (marked (a .marks .now)) (a .dist .now) (a .status .now) (a .a) (a .l) in
     absurd (skipped-all f (a .held .first) (a .held .end) (rank (a .held .height)) (p .greatest) (p .some) (l .loop .i)
     (subst (Skipped f (a .held .first) (l .loop .i)) (same-height t) (l .loop .inv .1)) (c .loop-test .left))
 

@@ -6,6 +6,7 @@ use mir.Val.{SFits}
 use mir.Syntax.{w32}
 use Rattle.prelude.proofs.Signs.{held-negative}
 use Rattle.rules.specs.Grid.{size}
+use Rattle.rules.specs.Marks.{marked}
 use Rattle.searching.specs.Argmax.{keyAt, rank, Holding, Layers}
 use Rattle.searching.proofs.Opening.{layers, nothing, at-first}
 use Rattle.searching.proofs.Argmax.{rank-none, rank-some, leading-all}
@@ -13,7 +14,7 @@ use Rattle.searching.proofs.to_open.Statement.{statement}
 use Rattle.searching.proofs.to_open.Tie as tie
 
 abbrev start : tie.After-highest → tie.Start
-start c = c .before .before .before
+start c = c .before .before .before .before
 
 height-fits : (c : tie.After-struct-told) → SFits w32 (c .before .highest .result .height)
 height-fits c = record { sfits = c .struct-told .given .0 .1 }
@@ -23,23 +24,27 @@ held :
     (c : tie.After-highest)
     → let a = start c .args in
     let l = a .s .a * a .s .b in
-    Holding (keyAt (a .dist .now) (a .status .now) (a .s .a) l) (1 + a .s .a + l) (size (a .s) - (1 + a .s .a + l)) (c .highest .result)
+    Holding (keyAt (marked (a .marks .now)) (a .dist .now) (a .status .now) (a .s .a) l) (1 + a .s .a + l) (size (a .s) - (1 + a .s .a + l))
+    (c .highest .result)
 held c =
     let a = start c .args in
     let l = a .s .a * a .s .b in
-    subst (λ (n : ℕ). Holding (keyAt (a .dist .now) (a .status .now) (a .s .a) l) (1 + a .s .a + l) (n - (1 + a .s .a + l)) (c .highest .result))
+    subst (λ (n : ℕ). Holding (keyAt (marked (a .marks .now)) (a .dist .now) (a .status .now) (a .s .a) l) (1 + a .s .a + l) (n - (1 + a .s .a + l))
+    (c .highest .result))
     (start c .pre .body .statuses) (c .highest .ensures)
 
 mul-l : tie.Need-mul-l
-mul-l c = record { fits = let y = layers _ _ _ (c .before .before .pre) in let b = y .layer in omega arith }
+mul-l c = record { fits = let y = layers _ _ _ _ (c .before .before .before .pre) in let b = y .layer in omega arith }
 
 highest-requires : tie.Need-highest-requires
 highest-requires c κs =
-    let s = c .before .before in
+    let s = c .before .before .before in
     let a = s .args in
     let p = s .pre in
-    let e = p .body .statuses in
-    (subst (Layers (a .s .a) (a .s .a * a .s .b)) (sym e) (layers (a .s) (a .dist .now) (a .status .now) p), p .distances ∙ sym e)
+    let e = p .body .statuses in (
+      subst (Layers (a .s .a) (a .s .a * a .s .b)) (sym e) (layers (a .s) (a .dist .now) (a .marks .now) (a .status .now) p),
+      (p .lent .0 ∙ sym e, p .lent .1 ∙ sym e),
+    )
 
 returns : tie.Need-returns
 returns c =
@@ -48,7 +53,7 @@ returns c =
     let s = start h in
     let a = s .args in
     let r = h .highest .result in
-    sym (nothing (a .s) (a .dist .now) (a .status .now) (s .pre) (rank (r .height)) (held h .top)
+    sym (nothing (a .s) (a .dist .now) (a .marks .now) (a .status .now) (s .pre) (rank (r .height)) (held h .top)
     (rank-none (r .height) (sym (held-negative (height-fits t)) ∙ c .if1 .taken)))
 
 first-of-requires : tie.Need-first-of-requires
@@ -60,14 +65,14 @@ first-of-requires c κs =
     let p = s .pre in
     let r = h .highest .result in
     let g = held h in
-    let y = layers (a .s) (a .dist .now) (a .status .now) p in
+    let y = layers (a .s) (a .dist .now) (a .marks .now) (a .status .now) p in
     let e = p .body .statuses in (
       record {
         span = record { one = y .one; row = y .row; low = omega (arith, g .low); order = g .span; high = omega (arith, g .high, y .ends, e) };
         greatest = g .greatest;
         some = rank-some (r .height) (sym (held-negative (height-fits t)) ∙ c .if1 .left);
       },
-      p .distances ∙ sym e,
+      (p .lent .0 ∙ sym e, p .lent .1 ∙ sym e),
     )
 
 returns-2 : tie.Need-returns-2
@@ -80,8 +85,8 @@ returns-2 c =
     let r = h .highest .result in
     let g = held h in
     let p = rank-some (r .height) (sym (held-negative (height-fits t)) ∙ o .if1 .left) in
-    let f = keyAt (a .dist .now) (a .status .now) (a .s .a) (a .s .a * a .s .b) in
-    sym (at-first (a .s) (a .dist .now) (a .status .now) (s .pre) (rank (r .height)) (g .top) p (c .first-of .result)
+    let f = keyAt (marked (a .marks .now)) (a .dist .now) (a .status .now) (a .s .a) (a .s .a * a .s .b) in
+    sym (at-first (a .s) (a .dist .now) (a .marks .now) (a .status .now) (s .pre) (rank (r .height)) (g .top) p (c .first-of .result)
     (leading-all f (1 + a .s .a + a .s .a * a .s .b) (size (a .s) - (1 + a .s .a + a .s .a * a .s .b)) r (c .first-of .result) g p (c .first-of .ensures)))
 
 pub to-open-spec : {M : Type 1} → statement M

@@ -1,16 +1,26 @@
 -- `taking::take` meets its contract: refused by the number, or done where it is 0.
-use mathlib.Core.Path.{refl, sym, _∙_}
+use mathlib.Core.Path.{refl}
+use mathlib.Core.List.{List}
 use borrow.Author.Needs.{needs}
-use Rattle.rules.specs.Machine.{State, state, lentTo, takeChecks, taken}
+use Rattle.rules.specs.Marks.{marked}
+use Rattle.rules.specs.Machine.{State, state, lentTo, mayGo, takeChecks, taken}
 use Rattle.rules.specs.Machine as machine
-use Rattle.rules.specs.Answer.{untouched}
-use Rattle.rules.proofs.Checks.{all-hold, call-refused, call-done}
+use Rattle.rules.specs.Answer.{Outcome, untouched, Buffers, Removal}
+use Rattle.rules.specs.Checks.{Check}
+use Rattle.rules.proofs.Checks.{held-none, call-refused, call-done}
 use Rattle.rules.proofs.Fit.{takeable}
 use Rattle.taking.proofs.take.Statement.{statement}
 use Rattle.taking.proofs.take.Tie as tie
 
 abbrev lent-to : tie.Start → State
 lent-to c = state (c .args .given) (c .args .dist .now) (c .args .status .now)
+
+-- what is answered where no check fails, and the checks
+abbrev worked : tie.Start → Outcome Buffers Removal
+worked c = taken (mayGo (marked (c .args .marks .now)) (lent-to c .dist)) (c .args .index) (lent-to c)
+
+abbrev checks : tie.Start → List Check
+checks c = takeChecks (c .args .marks .now) (c .args .index) (lent-to c)
 
 take-refusal-requires : tie.Need-take-refusal-requires
 take-refusal-requires c κs = search needs
@@ -22,17 +32,17 @@ returns : tie.Need-returns
 unfolding machine.take
 returns c =
     let r = c .before in
-    let s = r .before .before .before in
+    let s = r .before .before .before .before in
     let g = lent-to s in
-    call-refused (untouched (lentTo g)) (taken (s .args .index) g) (takeChecks (s .args .index) g) _ (r .take-refusal .ensures) (c .if1 .taken)
+    call-refused (untouched (lentTo g)) (worked s) (checks s) _ (r .take-refusal .ensures) (c .if1 .taken)
 
 take-fit-requires : tie.Need-take-fit-requires
 take-fit-requires c κs =
     let e = c .before in
     let r = e .before in
-    let s = r .before .before .before in
+    let s = r .before .before .before .before in
     let g = lent-to s in
-    takeable g (s .args .index) (all-hold (takeChecks (s .args .index) g) refl (sym (r .take-refusal .ensures) ∙ e .if1 .left))
+    takeable g (s .args .marks .now) (s .args .index) (held-none (checks s) _ (r .take-refusal .ensures) refl (e .if1 .left))
 
 same-length-2 : tie.Need-same-length-2
 same-length-2 c = search needs
@@ -43,9 +53,9 @@ returns-2 c =
     let f = c .before .before in
     let e = f .before .before in
     let r = e .before in
-    let s = r .before .before .before in
+    let s = r .before .before .before .before in
     let g = lent-to s in
-    call-done (untouched (lentTo g)) (taken (s .args .index) g) (takeChecks (s .args .index) g) _ (r .take-refusal .ensures) refl (e .if1 .left) _
+    call-done (untouched (lentTo g)) (worked s) (checks s) _ (r .take-refusal .ensures) refl (e .if1 .left) _
     (f .take-fit .ensures)
 
 pub take-spec : {M : Type 1} → statement M

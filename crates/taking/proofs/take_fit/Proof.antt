@@ -1,6 +1,7 @@
 -- `taking::take_fit` meets its contract.
 use borrow.Author.Needs.{needs}
-use Rattle.rules.specs.Machine.{State, state}
+use Rattle.rules.specs.Marks.{marked}
+use Rattle.rules.specs.Machine.{State, state, mayGo}
 use Rattle.taking.proofs.Taking.{take-removable, taken-is}
 use Rattle.counting.proofs.Counting.{countable-still}
 use Rattle.taking.proofs.take_fit.Statement.{statement}
@@ -11,21 +12,21 @@ lent-to c = state (c .args .given) (c .args .dist .now) (c .args .status .now)
 
 groups-at-requires : tie.Need-groups-at-requires
 groups-at-requires c κs =
-    let s = c .before .before .before in
-    let r = take-removable (s .args .index) (lent-to s) (s .pre) in
+    let s = c .before .before .before .before in
+    let r = take-removable (s .args .marks .now) (s .args .index) (lent-to s) (s .pre) in
     (r .voxel, r .statuses)
 
 remove-requires : tie.Need-remove-requires
 remove-requires c κs =
-    let s = c .before .before .before .before .before in
-    take-removable (s .args .index) (lent-to s) (s .pre)
+    let s = c .before .before .before .before .before .before in
+    take-removable (s .args .marks .now) (s .args .index) (lent-to s) (s .pre)
 
 counted-requires : tie.Need-counted-requires
 counted-requires c κs =
     let r = c .before .before in
     let s-back = r .before .before .before in
-    let s = s-back .before .before .before in
-    countable-still (lent-to s) (s .pre .working .fit)
+    let s = s-back .before .before .before .before in
+    countable-still (lent-to s) (s .pre .marking .working .fit)
 
 same-length : tie.Need-same-length
 same-length c = search needs
@@ -34,8 +35,9 @@ returns : tie.Need-returns
 returns c =
     let r = c .before .before .before in
     let t = r .before .before in
-    let s = t .before .before .before .before in
-    taken-is (lent-to s) (s .args .index) (t .groups-at .result) _ _ (t .groups-at .ensures) (c .counted .ensures) (r .remove .ensures)
+    let s = t .before .before .before .before .before in
+    taken-is (mayGo (marked (s .args .marks .now)) (lent-to s .dist)) (lent-to s) (s .args .index) (t .groups-at .result) _ _ (t .groups-at .ensures)
+    (c .counted .ensures) (r .remove .ensures)
 
 pub take-fit-spec : {M : Type 1} → statement M
 take-fit-spec =

@@ -24,15 +24,15 @@ lent-to c = state (c .args .given) (c .args .dist .now) (c .args .status .now)
 returns : tie.Need-returns
 unfolding firstFailing
 returns c =
-    let p = c .before .before in
+    let p = c .before .before .before in
     let l = p .pre .fit .voxels .lent .statuses in
     let h : size (p .args .given .sides) ≤ p .args .index = omega (arith, c .if1 .taken) in
     simp (le-leb _ _ h)
 
-below : (c : tie.Else1) → let p = c .before .before .args in p .index < size (p .given .sides)
-below c = let l = c .before .before .pre .fit .voxels .lent .statuses in omega (arith, c .if1 .left)
+below : (c : tie.Else1) → let p = c .before .before .before .args in p .index < size (p .given .sides)
+below c = let l = c .before .before .before .pre .fit .voxels .lent .statuses in omega (arith, c .if1 .left)
 
-within : (c : tie.Else1) → leb (size (c .before .before .args .given .sides)) (c .before .before .args .index) ≡ false
+within : (c : tie.Else1) → leb (size (c .before .before .before .args .given .sides)) (c .before .before .before .args .index) ≡ false
 within c = lt-leb _ _ (below c)
 
 shared-slice-read-if2 : tie.Need-shared-slice-read-if2
@@ -42,7 +42,7 @@ returns-2 : tie.Need-returns-2
 unfolding firstFailing isKept
 returns-2 c = simp (within (c .before .before), even-gone _ (c .if2 .taken))
 
-kept : (c : tie.Else2) → let a = c .before .before .before .before .args in isKept (a .status .now) (a .index) ≡ true
+kept : (c : tie.Else2) → let a = c .before .before .before .before .before .args in isKept (a .status .now) (a .index) ≡ true
 unfolding isKept
 kept c = odd-kept _ (c .if2 .left)
 
@@ -52,40 +52,53 @@ mul-d c = search needs
 shared-slice-copy-out-d : tie.Need-shared-slice-copy-out-d
 shared-slice-copy-out-d c = search needs
 
-sign : (c : tie.After-d) → let a = c .before .before .before .before .before .args in SFits w32 (distanceAt (a .dist .now) (a .index))
+sign : (c : tie.After-d) → let a = c .before .before .before .before .before .before .args in SFits w32 (distanceAt (a .dist .now) (a .index))
 sign c = sfits-of (c .d .given)
 
 returns-3 : tie.Need-returns-3
 unfolding firstFailing isInside
 returns-3 c = let e = c .before .before in simp (within (e .before .before), kept e, sym (held-negative (sign (c .before))) ∙ c .if3 .taken)
 
-outer : (c : tie.Else3) → let a = c .before .before .before .before .before .before .args in isInside (a .dist .now) (a .index) ≡ false
+outer : (c : tie.Else3) → let a = c .before .before .before .before .before .before .before .args in isInside (a .dist .now) (a .index) ≡ false
 unfolding isInside
 outer c = sym (held-negative (sign (c .before))) ∙ c .if3 .left
 
-passes-at-requires : tie.Need-passes-at-requires
-passes-at-requires c κs =
-    let e = c .before .before .before in
-    let b = e .before .before in
-    let s = b .before .before in
-    let r = kept-removable (lent-to s) (s .pre .fit) (s .args .index) (below b) (kept e) in
-    (r .voxel, r .statuses)
+pinned-requires : tie.Need-pinned-requires
+pinned-requires c κs = search needs
 
 returns-4 : tie.Need-returns-4
 unfolding firstFailing
 returns-4 c =
     let p = c .before in
-    let o = p .before .before in
+    let o = p .before in
     let e = o .before .before in
-    simp (within (e .before .before), kept e, outer o, ← p .passes-at .ensures, c .if4 .taken)
+    simp (within (e .before .before), kept e, outer o, ← p .pinned .ensures, c .if4 .taken)
+
+passes-at-requires : tie.Need-passes-at-requires
+passes-at-requires c κs =
+    let e = c .before .before .before .before .before in
+    let b = e .before .before in
+    let s = b .before .before .before in
+    let r = kept-removable (lent-to s) (s .pre .fit) (s .args .index) (below b) (kept e) in
+    (r .voxel, r .statuses)
 
 returns-5 : tie.Need-returns-5
 unfolding firstFailing
 returns-5 c =
     let p = c .before in
-    let o = p .before .before in
+    let q = p .before .before in
+    let o = q .before .before in
     let e = o .before .before in
-    simp (within (e .before .before), kept e, outer o, ← p .passes-at .ensures, c .if4 .left)
+    simp (within (e .before .before), kept e, outer o, ← q .before .pinned .ensures, q .if4 .left, ← p .passes-at .ensures, c .if5 .taken)
+
+returns-6 : tie.Need-returns-6
+unfolding firstFailing
+returns-6 c =
+    let p = c .before in
+    let q = p .before .before in
+    let o = q .before .before in
+    let e = o .before .before in
+    simp (within (e .before .before), kept e, outer o, ← q .before .pinned .ensures, q .if4 .left, ← p .passes-at .ensures, c .if5 .left)
 
 pub voxel-refusal-spec : {M : Type 1} → statement M
 voxel-refusal-spec =
@@ -97,6 +110,8 @@ voxel-refusal-spec =
     mul-d
     shared-slice-copy-out-d
     returns-3
-    passes-at-requires
+    pinned-requires
     returns-4
-    returns-5)
+    passes-at-requires
+    returns-5
+    returns-6)

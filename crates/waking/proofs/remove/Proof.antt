@@ -4,7 +4,8 @@ use Prim.Native.Nat.{ℕ, _*_, _^_, _<_}
 use native.Mathlib.Omega.{arith}
 use borrow.Author.Needs.{needs}
 use lib.ListN.{length, set, length-set}
-use Rattle.rules.specs.Machine.{outside}
+use Rattle.rules.specs.Marks.{marked}
+use Rattle.rules.specs.Machine.{mayGo}
 use Rattle.rules.specs.Grid.{size}
 use Rattle.bits.specs.Bits.{bits}
 use Rattle.neighbourhood.specs.Neighbourhood.{Room}
@@ -16,7 +17,7 @@ use Rattle.waking.proofs.remove.Statement.{statement}
 use Rattle.waking.proofs.remove.Tie as tie
 
 abbrev start : tie.After-first-around → tie.Start
-start c = c .before .before .before .before .before
+start c = c .before .before .before .before .before .before
 
 gather-requires : tie.Need-gather-requires
 gather-requires c κs = search needs
@@ -59,7 +60,7 @@ returns c =
     let s = start f in
     let a = s .args in
     let d = f .before in
-    removed-from (a .s) (outside (a .dist .now)) (a .status .now) (a .i) (s .pre .voxel) (s .pre .statuses)
+    removed-from (a .s) (mayGo (marked (a .marks .now)) (a .dist .now)) (a .status .now) (a .i) (s .pre .voxel) (s .pre .statuses)
     (d .idle-bits .ensures ∙ ap (λ (x : ℕ). bits 54 (idleBit x)) (d .before .gather .ensures)) (f .first-around .ensures) refl (w .wake .ensures)
 
 pub remove-spec : {M : Type 1} → statement M

@@ -6,7 +6,8 @@ use borrow.Author.Needs.{needs}
 use lib.Dec.{lit<}
 use lib.ListN.{length}
 use lib.Bits.{and-le-l, and-le-r}
-use Rattle.rules.specs.Machine.{outside}
+use Rattle.rules.specs.Marks.{marked}
+use Rattle.rules.specs.Machine.{mayGo}
 use Rattle.bits.specs.Bits.{has}
 use Rattle.waking.specs.Waking.{fromVoxel}
 use Rattle.waking.proofs.Idle.{has-beyond}
@@ -15,16 +16,16 @@ use Rattle.waking.proofs.wake.Statement.{statement}
 use Rattle.waking.proofs.wake.Tie as tie
 
 abbrev Inv-loop : tie.InvT-loop
-Inv-loop dist status₀ a l at idle m₀ status m =
-    (m ≤ idle) × (length status ≡ length status₀) × (Rousing (outside dist) idle (fromVoxel a l at) status₀ m status)
+Inv-loop dist marks status₀ a l at idle m₀ status m =
+    (m ≤ idle) × (length status ≡ length status₀) × (Rousing (mayGo (marked marks) dist) idle (fromVoxel a l at) status₀ m status)
 
 abbrev μ-loop : tie.MeasureT-loop
-μ-loop dist status₀ a l at idle m₀ status m = m
+μ-loop dist marks status₀ a l at idle m₀ status m = m
 
 loop-holds : tie.Need-loop-holds Inv-loop μ-loop
 loop-holds c =
-    let a = c .before .args in
-    (omega arith, refl, rousing-start (outside (a .dist .now)) (a .idle) (fromVoxel (a .a) (a .l) (a .at)) (a .status .now))
+    let a = c .before .before .args in
+    (omega arith, refl, rousing-start (mayGo (marked (a .marks .now)) (a .dist .now)) (a .idle) (fromVoxel (a .a) (a .l) (a .at)) (a .status .now))
 
 lowest-requires : tie.Need-lowest-requires Inv-loop μ-loop
 lowest-requires c κs = c .loop-test .taken
@@ -33,23 +34,23 @@ lowest-requires c κs = c .loop-test .taken
 position : (c : tie.After-lowest Inv-loop μ-loop) → c .lowest .result / 2 < 27
 position c =
     let l = c .before .before in
-    let s = l .before .before in
+    let s = l .before .before .before in
     lowest-position (s .args .idle) (l .loop .m) (c .lowest .result) (s .pre .0 .few) (l .loop .inv .0) (c .lowest .ensures)
 
 offset-requires : tie.Need-offset-requires Inv-loop μ-loop
 offset-requires c κs =
-    let p = c .before .before .before .before .before .pre .0 in
+    let p = c .before .before .before .before .before .before .pre .0 in
     record { row = p .room .row; layer = p .room .layer; below = position (c .before) }
 
 abbrev start : tie.At-loop Inv-loop μ-loop → tie.Start Inv-loop μ-loop
-start c = c .before .before
+start c = c .before .before .before
 
 inside :
     (c : tie.After-offset Inv-loop μ-loop)
     → let a = start (c .before .before .before .before) .args in a .at + c .offset .result < length (a .status .now)
 inside c =
     let w = c .before .before in
-    let s = w .before .before .before .before in
+    let s = w .before .before .before .before .before in
     let a = s .args in
     omega (arith, c .offset .ensures, position-below (a .a) (a .l) (a .at) _ (length (a .status .now)) (s .pre .0 .room) (position w))
 
@@ -61,7 +62,7 @@ wake-one-requires c κs =
     let i = inside c in
     let l = c .before .before .before .before in
     let v = l .loop .inv .1 in
-    (omega arith, l .before .before .pre .1 ∙ sym v)
+    (omega arith, l .before .before .before .pre .1 ∙ sym v)
 
 sub-m : tie.Need-sub-m Inv-loop μ-loop
 sub-m c = search needs
@@ -79,12 +80,13 @@ loop-again c =
     let o = w .before in
     let t = o .before .before in
     let l = t .before .before in
-    let s = l .before .before in
+    let s = l .before .before .before in
     let a = s .args in
     let v = l .loop .inv in (
       omega (arith, v .0, and-le-l (l .loop .m) (l .loop .m - 1)),
       w .wake-one .ensures .same ∙ v .1,
-      rousing-next (outside (a .dist .now)) (a .idle) (fromVoxel (a .a) (a .l) (a .at)) (a .status .now) (l .loop .m) (t .lowest .result) (l .loop .status) _
+      rousing-next (mayGo (marked (a .marks .now)) (a .dist .now)) (a .idle) (fromVoxel (a .a) (a .l) (a .at)) (a .status .now) (l .loop .m)
+          (t .lowest .result) (l .loop .status) _
           (v .2) (t .lowest .ensures)
           (rw (o .offset .ensures) at (w .wake-one .ensures)),
     )
@@ -95,10 +97,10 @@ same-length c = search needs
 returns : tie.Need-returns Inv-loop μ-loop
 returns c =
     let l = c .before in
-    let s = l .before .before in
+    let s = l .before .before .before in
     let a = s .args in
     let z : l .loop .m ≡ 0 = omega (arith, c .loop-test .left) in
-    rousing-done (outside (a .dist .now)) (a .idle) (fromVoxel (a .a) (a .l) (a .at)) (a .status .now) (l .loop .m) _ (l .loop .inv .2)
+    rousing-done (mayGo (marked (a .marks .now)) (a .dist .now)) (a .idle) (fromVoxel (a .a) (a .l) (a .at)) (a .status .now) (l .loop .m) _ (l .loop .inv .2)
     (λ t. ap (λ (m : ℕ). has m t) z ∙ has-beyond 0 0 t (lit< tt) (omega arith))
 
 pub wake-spec : {M : Type 1} → statement M

@@ -1,9 +1,10 @@
 -- `waking::wake_one` meets its contract.
-use mathlib.Core.Path.{ap, _∙_}
-use borrow.Author.Needs.{needs}
+use mathlib.Core.Path.{ap₂, _∙_}
+use mathlib.Core.Bool.{Bool}
 use borrow.Author.Needs.{sfits-of, needs}
 use lib.IntN.{ℤ}
 use mir.Facts.{toZ-ofZ}
+use Rattle.rules.specs.Marks.{marked}
 use Rattle.rules.specs.Status.{statusOf}
 use Rattle.waking.specs.Waking.{wokenIf}
 use Rattle.waking.proofs.Waking.{woken-by-sign}
@@ -15,6 +16,9 @@ mul-d c = search needs
 
 shared-slice-copy-out-d : tie.Need-shared-slice-copy-out-d
 shared-slice-copy-out-d c = search needs
+
+pinned-requires : tie.Need-pinned-requires
+pinned-requires c κs = search needs
 
 slice-read-woken-status : tie.Need-slice-read-woken-status
 slice-read-woken-status c = search needs
@@ -30,11 +34,14 @@ same-length c = search needs
 
 returns : tie.Need-returns
 returns c =
-    let d = c .before .before in
-    let p = d .before .before in
+    let q = c .before .before in
+    let d = q .before in
+    let p = d .before .before .before in
     let a = p .args in
-    woken-by-sign (a .dist .now) (a .j) (a .status .now) _ (p .pre .0)
-    (c .woken-status .ensures ∙ ap (λ (z : ℤ). wokenIf z (statusOf (a .status .now) (a .j))) (toZ-ofZ (sfits-of (d .d .given))))
+    let x = statusOf (a .status .now) (a .j) in
+    woken-by-sign (marked (a .marks .now)) (a .dist .now) (a .j) (a .status .now) _ (p .pre .0)
+    (c .woken-status .ensures
+    ∙ ap₂ (λ (z : ℤ) (t : Bool). wokenIf z t x) (toZ-ofZ (sfits-of (d .d .given))) (q .pinned .ensures))
 
 pub wake-one-spec : {M : Type 1} → statement M
 wake-one-spec =
@@ -42,6 +49,7 @@ wake-one-spec =
     (tie.spec
     mul-d
     shared-slice-copy-out-d
+    pinned-requires
     slice-read-woken-status
     woken-status-requires
     slice-write-status

@@ -1,0 +1,83 @@
+-- The status with marks, by the one without them.
+use mathlib.Core.Path.{_≡_, refl, sym, ap, _∙_, subst}
+use mathlib.Core.Logic.{inl, inr}
+use mathlib.Core.Bool.{Bool, true, false, not, cond, _&&_, _||_}
+use mathlib.Core.List.{List}
+use Prim.Native.Nat.{ℕ, _≤_, _<_}
+use native.Mathlib.Omega.{arith}
+use borrow.Author.Tests.{ltb-true, ltb-false}
+use lib.Dec.{eqb, ltb}
+use lib.IntN.{ℤ}
+use lib.ListN.{length, getD, List·getD-eq-default}
+use Rattle.prelude.proofs.Bools.{two}
+use Rattle.prelude.proofs.Ranges.{is-map-range, getD-map-range, length-map-range}
+use Rattle.rules.specs.declared.Sides.{Sides}
+use Rattle.rules.specs.Grid.{size, voxels}
+use Rattle.rules.specs.Marks.{pinnedMark, hurriedMark, marked, unmarked}
+use Rattle.rules.specs.Machine.{isInside}
+use Rattle.rules.specs.Begin.{isIn, inside, inBox, exposed, worked, waitsFirst, statusAt, startStatus}
+use Rattle.rules.proofs.Topology.Start.{worked-signs}
+use Rattle.loops.specs.InPlace.{Each}
+use Rattle.beginning.specs.Work.{metOf, metAt, WorkedOut}
+
+-- kept, in S, hurried, pinned, exposed
+met-rule : (kept in-s h p x : Bool)
+    → let y = cond {A = ℕ} kept (cond (not in-s && x) 3 1) 0 in
+    cond (in-s || eqb y 0) y (cond h 3 (cond p 1 y)) ≡ cond kept (cond (not in-s && (h || (not p && x))) 3 1) 0
+met-rule false true h p x = refl
+met-rule false false h p x = refl
+met-rule true true h p x = refl
+met-rule true false true p true = refl
+met-rule true false true p false = refl
+met-rule true false false true true = refl
+met-rule true false false true false = refl
+met-rule true false false false true = refl
+met-rule true false false false false = refl
+
+module _ (s : Sides) (values : List ℤ) (marks : List ℕ) where
+  abbrev S : List ℕ
+  S = inside s values
+
+  abbrev kept : ℕ → Bool
+  kept = inBox s S
+
+  abbrev dist : List ℤ
+  dist = worked s values S
+
+  met-same : (k : ℕ) → k < size s → metAt dist (marked marks) k (statusAt s unmarked S kept k) ≡ statusAt s (marked marks) S kept k
+  unfolding metOf statusAt waitsFirst isInside
+  met-same k h =
+      let m = marked marks in
+      let y = cond {A = ℕ} (kept k) (cond (not (isIn S k) && exposed s kept k) 3 1) 0 in
+      ap (λ (t : Bool). cond (t || eqb y 0) y (cond (m .hurried k) 3 (cond (m .pinned k) 1 y))) (worked-signs s values k h)
+      ∙ met-rule (kept k) (isIn S k) (m .hurried k) (m .pinned k) (exposed s kept k)
+
+  -- beyond the last mark nothing is asked
+  beyond : (k : ℕ) → length marks ≤ k → statusAt s unmarked S kept k ≡ statusAt s (marked marks) S kept k
+  unfolding statusAt waitsFirst marked pinnedMark hurriedMark
+  beyond k h =
+      ap (λ (t : ℕ). cond (kept k) (cond (not (isIn S k) && (hurriedMark t || (not (pinnedMark t) && exposed s kept k))) 3 1) 0)
+      (sym (List·getD-eq-default marks 0 h))
+
+  pub met-is : length marks ≤ size s → (before after : List ℕ) → before ≡ startStatus s unmarked S kept
+      → Each 0 (metAt dist (marked marks)) 0 (length marks) before after → after ≡ startStatus s (marked marks) S kept
+  unfolding startStatus voxels
+  met-is n before after e E =
+      is-map-range (statusAt s (marked marks) S kept) 0 (size s) after (E .len ∙ ap length e ∙ length-map-range (statusAt s unmarked S kept) (size s))
+      (λ k h.
+      (let was : getD before k 0 ≡ statusAt s unmarked S kept k =
+      ap (λ (l : List ℕ). getD l k 0) e ∙ getD-map-range (statusAt s unmarked S kept) 0 (size s) k h in
+      elim (two (ltb k (length marks))) [
+        | inl t ↦ E .inside k (omega arith) (ltb-true k _ t) ∙ ap (metAt dist (marked marks) k) was ∙ met-same k h
+        | inr t ↦ E .outside k (λ q. ltb-false k _ t) ∙ was ∙ beyond k (ltb-false k _ t)
+      ]))
+
+  pub worked-with : length marks ≤ size s → (d : List ℤ) (before after : List ℕ) → WorkedOut s unmarked values d before
+      → Each 0 (metAt d (marked marks)) 0 (length marks) before after → WorkedOut s (marked marks) values d after
+  worked-with n d before after w E =
+      record {
+        distances = w .distances;
+        statuses =
+            met-is n before after (w .statuses)
+            (subst (λ (l : List ℤ). Each 0 (metAt l (marked marks)) 0 (length marks) before after) (w .distances) E);
+      }
