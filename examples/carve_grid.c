@@ -25,6 +25,8 @@ enum { MOST_PATCHES = MOST };
 /* One byte more than there is room for shows whether a file is longer. */
 static uint8_t file[WATTLERUGBY_LONGEST_FILE + 8 * MOST_PATCHES + 1];
 static int32_t values[MOST];
+/* all 0, since no voxel is marked: here an operator's pins and hurries would stand */
+static uint8_t marks[MOST];
 static int32_t dist[MOST];
 static uint8_t status[MOST];
 static double points[3 * MOST_POINTS];
@@ -51,12 +53,12 @@ static wattlerugby_record carve_to_the_end(wattlerugby_record record, size_t n, 
     wattlerugby_open_answer opened;
     do {
         do {
-            carved = wattlerugby_carve(record, dist, n, status, n, SLICE);
+            carved = wattlerugby_carve(record, dist, n, marks, n, status, n, SLICE);
             record = carved.next;
             printf("carve: examined %u, removed %u, %s\n", (unsigned)carved.examined, (unsigned)carved.removed,
                    carved.pending ? "some pending" : "nothing pending");
         } while (carved.pending);
-        opened = wattlerugby_open(record, dist, n, status, n);
+        opened = wattlerugby_open(record, dist, n, marks, n, status, n);
         record = opened.next;
         if (opened.refusal == 0)
             printf("open: voxel %u, k %u, m %u\n", (unsigned)opened.index, (unsigned)opened.k, (unsigned)opened.m);
@@ -140,7 +142,7 @@ int main(int argc, char **argv)
     header = wattlerugby_read(file, length, values, n);
     if (header.refusal != 0)
         return refused("read", header.refusal);
-    begun = wattlerugby_begin(header.sides, header.allowed, values, n, dist, n, status, n);
+    begun = wattlerugby_begin(header.sides, header.allowed, values, n, marks, n, dist, n, status, n);
     if (begun.refusal != 0)
         return refused("begin", begun.refusal);
 

@@ -29,17 +29,18 @@
  *     wattlerugby_open_answer opened;
  *     do {
  *         do {
- *             carved = wattlerugby_carve(record, dist, n, status, n, 1000);
+ *             carved = wattlerugby_carve(record, dist, n, marks, n, status, n, 1000);
  *             record = carved.next;
  *         } while (carved.pending);
- *         opened = wattlerugby_open(record, dist, n, status, n);
+ *         opened = wattlerugby_open(record, dist, n, marks, n, status, n);
  *         record = opened.next;
  *     } while (opened.refusal == 0);
  *     record = wattlerugby_finish(record, dist, n, status, n).next;
  *
  * It ends: a refused carve has `pending` false, and each opening removes a voxel. On a grid that begin started, opened.refusal is then 14
  * or 15. With 15 all that could be opened was; with 14 as many openings as you allowed were made, and what is still kept outside the
- * body, if anything, is filled. docs/RESULT.md says what to conclude. examples/carve_grid.c is a whole program.
+ * body, if anything, is filled. docs/RESULT.md says what to conclude. examples/carve_grid.c is a whole program. `marks` is n zeros where
+ * no voxel is marked.
  *
  * THE GRID
  *
@@ -53,7 +54,30 @@
  * call do not overlap.
  *
  * A grid in work is three things that belong together: a record, a buffer of n worked distances, and a buffer of n status bytes. They
- * stay with you between calls; lend the same two buffers, unchanged, with the record that the last call answered.
+ * stay with you between calls; lend the same two buffers, unchanged, with the record that the last call answered. Marks are lent beside
+ * them. No call writes them, and you may change them between calls.
+ *
+ * MARKS
+ *
+ * An operator may hold a voxel, or want it gone early. So begin, carve, take and open are lent a mark byte for each voxel: 0, or
+ * WATTLERUGBY_PINNED, WATTLERUGBY_HURRIED, or both. With n zeros they do what they did before version 0.8, when there were no marks. The
+ * marks that count are those of the call itself: neither record nor status remembers any.
+ *
+ * A pin holds a voxel. No call that is lent it removes the voxel, open passes it over, and no removal beside it makes it pending. So a kept
+ * voxel that every call pins is kept at the end, whatever the calls are; those that refuse do nothing, and need not pin it. More is not
+ * promised. A pin brings nothing back: a voxel that is gone, or that begin does not keep since it lies outside the box around the inside, is
+ * not held. The inside is kept anyway. And a pin holds that voxel alone, not what joins it to the rest: after openings it may hang free, as
+ * a piece of its own. As long as it is kept it is part of the body: the Euler number counts it, finish takes it in, and points lie around it.
+ *
+ * A hurry changes the order. A hurried voxel is pending from begin on if it is kept and not inside, however deep it lies, and carve examines
+ * hurried pending voxels before all others. It goes if it passes the local test, as any other, and otherwise stays. Open takes no notice.
+ *
+ * A voxel that is both is pending from begin on and examined first. That counts as an examination, and the voxel stays.
+ *
+ * Marks may change between calls. A voxel that is pending when you pin it stays pending until carve examines it: that counts, and it stays. A
+ * hurry that is new, or a pin that is taken off, makes no voxel pending; only a removal beside it does. So after such a change voxels that
+ * could go may be kept and not pending, and open may take one of them, with k and m both 1. Marks of voxels that are inside, gone or on the
+ * border have no effect; but each byte of the buffer must be 3 or less, or the call refuses with 29.
  *
  * ANSWERS
  *
@@ -73,9 +97,10 @@
  *
  * STORING A RECORD
  *
- * A record is plain numbers without pointers: copy it, keep it, store it with its two buffers, and go on later. Store and compare its
- * fields, not its bytes: between the fields is padding, which holds anything. No call looks at padding, so a record that you build
- * yourself needs no memset. A stored grid that was damaged is answered like any other input, mostly with 7.
+ * A record is plain numbers without pointers: copy it, keep it, store it with its two buffers, and with the marks where they are to hold,
+ * and go on later. Store and compare its fields, not its bytes: between the fields is padding, which holds anything. No call looks at
+ * padding, so a record that you build yourself needs no memset. A stored grid that was damaged is answered like any other input, mostly
+ * with 7.
  *
  * ROUNDING
  *
@@ -95,11 +120,11 @@
 /* ---- version */
 
 #define WATTLERUGBY_VERSION_MAJOR 0
-#define WATTLERUGBY_VERSION_MINOR 7
+#define WATTLERUGBY_VERSION_MINOR 8
 #define WATTLERUGBY_VERSION_PATCH 0
-#define WATTLERUGBY_VERSION "0.7.0"
+#define WATTLERUGBY_VERSION "0.8.0"
 
-/* The version as one number, 7000 for 0.7.0: the later of two versions has the greater one. It may stand in an #if, where it is 0 with
+/* The version as one number, 8000 for 0.8.0: the later of two versions has the greater one. It may stand in an #if, where it is 0 with
  * a header that does not have it yet. */
 #define WATTLERUGBY_VERSION_NUMBER \
     (WATTLERUGBY_VERSION_MAJOR * 1000000u + WATTLERUGBY_VERSION_MINOR * 1000u + WATTLERUGBY_VERSION_PATCH)
@@ -109,7 +134,10 @@
  * A call that takes or answers something else than it first did has a symbol of its own, which ends in the second number of the version
  * that changed it last. So where a program makes a call that its header and the archive have in different forms, the linker refuses it and
  * names that symbol; otherwise the call would run, and read past a buffer. Write the plain names: these lines map them. */
-#define wattlerugby_begin wattlerugby_begin_6
+#define wattlerugby_begin wattlerugby_begin_8
+#define wattlerugby_carve wattlerugby_carve_8
+#define wattlerugby_take wattlerugby_take_8
+#define wattlerugby_open wattlerugby_open_8
 #define wattlerugby_read wattlerugby_read_6
 #define wattlerugby_read_layer wattlerugby_read_layer_6
 #define wattlerugby_write wattlerugby_write_6
@@ -137,7 +165,7 @@ enum {
 
     /* the input */
     WATTLERUGBY_SIDE = 1,              /* a side is outside 3 to 64 */
-    WATTLERUGBY_LENGTH = 2,            /* the length of a lent value, distance or status buffer is not n */
+    WATTLERUGBY_LENGTH = 2,            /* the length of a lent value, mark, distance or status buffer is not n */
     WATTLERUGBY_BORDER_NEGATIVE = 3,   /* a border voxel is measured negative: the body reaches the edge of the grid */
     WATTLERUGBY_NO_NEGATIVE = 4,       /* no voxel is measured negative: there is no body */
     WATTLERUGBY_INDEX = 5,             /* the index, or in read a patch's index, is n or more; points: the position is over 3 n */
@@ -152,7 +180,7 @@ enum {
     WATTLERUGBY_NOT_PASSED = 12,       /* take: the voxel does not pass the local test */
     WATTLERUGBY_STILL_PENDING = 13,    /* open, finish: a voxel is pending; carve first */
     WATTLERUGBY_NO_OPENING_LEFT = 14,  /* open: as many openings as were allowed have been made */
-    WATTLERUGBY_NOTHING_TO_OPEN = 15,  /* open: no kept voxel outside the body lies bare */
+    WATTLERUGBY_NOTHING_TO_OPEN = 15,  /* open: no kept voxel outside the body lies bare, but for pinned ones */
 
     /* the grid file */
     WATTLERUGBY_SHORT = 21,            /* fewer bytes are left than the header, the layer record or the patch record now due is long */
@@ -164,7 +192,11 @@ enum {
     WATTLERUGBY_LAYER_ORDER = 27,      /* a layer's z did not come before, and is not the next: layers go from 0 up, none skipped */
 
     /* the values, lent or in a file */
-    WATTLERUGBY_VALUE = 28             /* begin, write, read: a value is neither in the range of measured values nor the missing mark */
+    WATTLERUGBY_VALUE = 28,            /* begin, write, read: a value is neither in the range of measured values nor the missing mark */
+
+    /* the marks */
+    WATTLERUGBY_MARK_BYTE = 29,        /* begin, carve, take, open: a lent mark byte is over 3 */
+    WATTLERUGBY_PINNED_VOXEL = 30      /* take: the voxel is pinned */
 };
 
 /* What a refusal number says, in English, without a full stop. Any number gets a text. */
@@ -195,6 +227,8 @@ static inline const char *wattlerugby_reason(uint8_t refusal)
     case WATTLERUGBY_ROOM: return "the lent buffer is shorter than the file";
     case WATTLERUGBY_LAYER_ORDER: return "a layer's z is not the next";
     case WATTLERUGBY_VALUE: return "a value is neither in range nor the missing mark";
+    case WATTLERUGBY_MARK_BYTE: return "a mark byte is over 3";
+    case WATTLERUGBY_PINNED_VOXEL: return "the voxel is pinned";
     default: return "no number of this library";
     }
 }
@@ -204,6 +238,14 @@ enum {
     WATTLERUGBY_GONE = 0,     /* not kept */
     WATTLERUGBY_KEPT = 1,     /* kept */
     WATTLERUGBY_PENDING = 3   /* kept, and to be examined */
+};
+
+/* What a mark byte holds: see MARKS above. */
+enum {
+    WATTLERUGBY_UNMARKED = 0,
+    WATTLERUGBY_PINNED = 1,              /* no call removes it */
+    WATTLERUGBY_HURRIED = 2,             /* pending from begin on, and examined before all others */
+    WATTLERUGBY_PINNED_AND_HURRIED = 3   /* examined first, and kept */
 };
 
 /* ---- values
@@ -270,7 +312,7 @@ typedef struct wattlerugby_begin_answer {
     wattlerugby_record next;   /* after a refusal all zeros: every call given it refuses with 1 */
 } wattlerugby_begin_answer;
 
-/* Starts a grid from n measured values. Fills both other buffers, whatever they held.
+/* Starts a grid from n measured values and n marks. Fills both other buffers, whatever they held.
  *
  * No shot reaches the middle of a thick wall, so missing points are looked at first. A gap is a group of them joined by faces, with all that
  * are joined to it. Where none of it lies on the grid's border, and every other voxel that shares a face with it is measured negative, it is
@@ -279,17 +321,19 @@ typedef struct wattlerugby_begin_answer {
  *
  * The inside is the largest group of negative voxels that touch, gaps behind the face included; other negative voxels are discarded as
  * noise, and with them the gaps that they close in. `dist` gets each voxel's worked distance, negative exactly inside. `status` gets the
- * smallest box that holds the inside as kept, with those voxels pending from which carving starts, and all else as gone.
+ * smallest box that holds the inside as kept, and all else as gone. Of the box those voxels that are not inside are pending which lie bare,
+ * unless they are only pinned, and those that are hurried. Marks change nothing else: neither the box nor a distance.
  *
  * So a missing point that counts as inside has the worked distance -1, and as all of the inside it is never lost, whatever calls follow. It
  * is told by its value: before finish, the voxels of negative distance whose value is WATTLERUGBY_MISSING are these.
  *
  * `allowed` is how many openings you allow: 0 for a body without handles. Any number is taken.
  *
- * Checks: 1, 2 (any of the three buffers), 28, 3, 4. */
+ * Checks: 1, 2 (any of the four buffers), 28, 29, 3, 4. */
 wattlerugby_begin_answer wattlerugby_begin(
     wattlerugby_sides sides, uint16_t allowed,
     const int32_t *values, size_t values_len,
+    const uint8_t *marks, size_t marks_len,
     int32_t *dist, size_t dist_len,
     uint8_t *status, size_t status_len);
 
@@ -303,19 +347,20 @@ typedef struct wattlerugby_carve_answer {
     wattlerugby_record next;
 } wattlerugby_carve_answer;
 
-/* Examines pending voxels, `limit` of them at most: each time the one with the greatest worked distance, of equals the one with the
- * smallest index. A voxel that passes the local test is gone, and the kept voxels around it that are not inside become pending. Writes
- * status bytes alone.
+/* Examines pending voxels, `limit` of them at most: hurried ones before all others, and of either each time the one with the greatest
+ * worked distance, of equals the one with the smallest index. A voxel that passes the local test and is not pinned is gone, and the kept
+ * voxels around it that are neither inside nor pinned become pending. Writes status bytes alone.
  *
- * Call it with a limit for work in slices: many small calls leave what one large call leaves. Whatever its limit, a call first checks the
- * whole grid and finds the pending voxels in it, in time proportional to n. So a small limit saves little, and carving in many small slices
- * takes longer in all: choose the largest limit that keeps your rhythm. docs/PERFORMANCE.md has both times, that of a call whatever its
- * limit and that of an examination.
+ * Call it with a limit for work in slices: many small calls leave what one large call leaves, if all are lent the same marks. Whatever its
+ * limit, a call first checks the whole grid and finds the pending voxels in it, in time proportional to n. So a small limit saves little,
+ * and carving in many small slices takes longer in all: choose the largest limit that keeps your rhythm. docs/PERFORMANCE.md has both
+ * times, that of a call whatever its limit and that of an examination.
  *
- * Checks: 1, 2, 7, 8. A limit of 0 examines nothing and is not refused. */
+ * Checks: 1, 2, 7, 29, 8. A limit of 0 examines nothing and is not refused. */
 wattlerugby_carve_answer wattlerugby_carve(
     wattlerugby_record given,
     const int32_t *dist, size_t dist_len,
+    const uint8_t *marks, size_t marks_len,
     uint8_t *status, size_t status_len,
     uint32_t limit);
 
@@ -328,13 +373,14 @@ typedef struct wattlerugby_take_answer {
     wattlerugby_record next;
 } wattlerugby_take_answer;
 
-/* Removes the voxel of that index, pending or not, if it is kept, outside, and passes the local test. Counts a removal and no
+/* Removes the voxel of that index, pending or not, if it is kept, outside, not pinned, and passes the local test. Counts a removal and no
  * examination; the voxels around it become pending as in carve. Writes status bytes alone.
  *
- * Checks: 1, 2, 7, 8, 5, 10, 11, 12. */
+ * Checks: 1, 2, 7, 29, 8, 5, 10, 11, 30, 12. */
 wattlerugby_take_answer wattlerugby_take(
     wattlerugby_record given,
     const int32_t *dist, size_t dist_len,
+    const uint8_t *marks, size_t marks_len,
     uint8_t *status, size_t status_len,
     size_t index);
 
@@ -348,14 +394,15 @@ typedef struct wattlerugby_open_answer {
     wattlerugby_record next;
 } wattlerugby_open_answer;
 
-/* Removes a voxel that does not pass, so that carving can go on: of the kept voxels outside that have a face neighbour which is not
- * kept, the one with the greatest worked distance, of equals the one with the smallest index. Counts an opening and a removal; the
- * voxels around it become pending. Writes status bytes alone.
+/* Removes a voxel that does not pass, so that carving can go on: of the kept voxels outside that are not pinned and have a face neighbour
+ * which is not kept, the one with the greatest worked distance, of equals the one with the smallest index. Counts an opening and a removal;
+ * the voxels around it become pending as in carve. Hurries have no say in it. Writes status bytes alone.
  *
- * Checks: 1, 2, 7, 8, 13, 14, 15. */
+ * Checks: 1, 2, 7, 29, 8, 13, 14, 15. */
 wattlerugby_open_answer wattlerugby_open(
     wattlerugby_record given,
     const int32_t *dist, size_t dist_len,
+    const uint8_t *marks, size_t marks_len,
     uint8_t *status, size_t status_len);
 
 /* ---- finish */

@@ -1,4 +1,4 @@
-//! Writes samples/: the grid files, and beside each its line and its picture as text.
+//! Writes samples/: the grid files, beside each its line and its picture as text, and a list of pins.
 //! usage: cargo run --example samples -- FOLDER
 
 use wattlerugby::{patch, read, written, Grid, Refusal, Sides, GONE, MISSING, NO_LIMIT};
@@ -22,7 +22,7 @@ fn main() -> std::io::Result<()> {
         std::fs::write(folder.join(format!("{}.grid", sample.name)), sample.file())?;
         std::fs::write(folder.join(format!("{}.txt", sample.name)), sample.told())?;
     }
-    Ok(())
+    std::fs::write(folder.join("torus-1.pins"), pins())
 }
 
 // ---- the bodies
@@ -125,6 +125,15 @@ fn shot_again() -> Vec<(usize, i16)> {
     let (first, _) = place(4, 4, 6);
     let gap = (2..7).flat_map(|z| (3..6).flat_map(move |y| (3..6).map(move |x| (x, y, z))));
     std::iter::once((first, 40)).chain(gap.map(|(x, y, z)| place(x, y, z))).collect()
+}
+
+/// The voxels that fill the torus's hole with T = 0, as `wattle` takes them for pins.
+pub fn pins() -> String {
+    let torus = samples().into_iter().find(|sample| sample.name == "torus-0").expect("it is among them");
+    let (carved, Sides { a, b, .. }) = (torus.carved().expect("the torus is taken"), torus.sides);
+    let filled = (0..torus.values.len()).filter(|&i| carved.mark(i, torus.values[i]) == 'o');
+    let lines = filled.map(|i| format!("{},{},{}\n", i % a, i / a % b, i / (a * b)));
+    "# what closes the hole of torus-0.grid, for torus-1.grid\n".to_string() + &lines.collect::<String>()
 }
 
 // ---- what becomes of them

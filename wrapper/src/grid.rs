@@ -1,8 +1,12 @@
-//! A grid in work: a record with the two buffers that belong to it.
+//! A grid in work: a record with the two buffers that belong to it, and its marks.
 
-use crate::{begin, carve, crossing, finish, open, read, take, Carved, Opened, Point, Points, Record, Refusal, Sides, Taken, NO_LIMIT};
+use crate::{
+    begin, carve, crossing, finish, open, read, take, Carved, Opened, Point, Points, Record, Refusal, Sides, Taken, HURRIED, NO_LIMIT,
+    PINNED, UNMARKED,
+};
 
-/// A record with its worked distances and status bytes. After each call the record is the one for the next.
+/// A record with its worked distances and status bytes, and the marks that it lends to each call: none, unless you set them. After each call
+/// the record is the one for the next.
 ///
 /// Crossings and the buffers only read, so threads may share a finished grid by `&Grid`.
 ///
@@ -32,6 +36,7 @@ use crate::{begin, carve, crossing, finish, open, read, take, Carved, Opened, Po
 pub struct Grid {
     record: Record,
     dist: Vec<i32>,
+    marks: Vec<u8>,
     status: Vec<u8>,
     ended_by: Option<Refusal>,
 }
@@ -39,10 +44,39 @@ pub struct Grid {
 impl Grid {
     /// Starts a grid from n measured values. See [`crate::begin`].
     pub fn begin(sides: Sides, allowed: u16, values: &[i32]) -> Result<Grid, Refusal> {
+        Grid::start(sides, allowed, values, vec![UNMARKED; sides.voxels().unwrap_or(0)])
+    }
+
+    /// Starts a grid from n measured values with n marks of its own, so that hurried voxels are pending at once. See [`crate::begin`].
+    ///
+    /// ```
+    /// use wattlerugby::{Grid, Refusal, Sides, GONE, HURRIED, KEPT, NO_LIMIT, PENDING, PINNED, UNMARKED};
+    ///
+    /// let sides = Sides { a: 4, b: 4, c: 3 };
+    /// let mut values = [6; 48];
+    /// (values[21], values[26]) = (-6, -6); // two voxels that touch in an edge: 22 and 25 fill the box around them
+    /// let mut marks = [UNMARKED; 48];
+    /// marks[25] = HURRIED;
+    /// let mut grid = Grid::begin_marked(sides, 0, &values, &marks)?;
+    /// grid.carve(1)?;
+    /// assert_eq!((grid.status()[22], grid.status()[25]), (PENDING, GONE)); // of equals 22 would have come first
+    ///
+    /// marks[22] = PINNED;
+    /// let mut grid = Grid::begin_marked(sides, 0, &values, &marks)?;
+    /// assert_eq!(grid.carve(NO_LIMIT)?.removed, 1);
+    /// assert_eq!((grid.status()[22], grid.status()[25]), (KEPT, GONE));
+    /// assert_eq!(grid.take(22), Err(Refusal::PINNED_VOXEL));
+    /// # Ok::<(), Refusal>(())
+    /// ```
+    pub fn begin_marked(sides: Sides, allowed: u16, values: &[i32], marks: &[u8]) -> Result<Grid, Refusal> {
+        Grid::start(sides, allowed, values, marks.to_vec())
+    }
+
+    fn start(sides: Sides, allowed: u16, values: &[i32], marks: Vec<u8>) -> Result<Grid, Refusal> {
         let n = sides.voxels().unwrap_or(0);
         let (mut dist, mut status) = (vec![0; n], vec![0; n]);
-        let record = begin(sides, allowed, values, &mut dist, &mut status)?;
-        Ok(Grid { record, dist, status, ended_by: None })
+        let record = begin(sides, allowed, values, &marks, &mut dist, &mut status)?;
+        Ok(Grid { record, dist, marks, status, ended_by: None })
     }
 
     /// Reads a grid file and begins. See [`crate::read`] for the file's numbers.
@@ -63,7 +97,7 @@ impl Grid {
     /// Resumes a grid from its parts, as [`Grid::into_parts`] gave them. Parts that every call would refuse are refused here: 1, 2, 7.
     ///
     /// Parts that are taken are fit. That they are what the calls left, and so what the proofs promise of a list of calls, is the
-    /// caller's to see to.
+    /// caller's to see to. No voxel is marked: marks that were stored go back by [`Grid::marks_mut`].
     ///
     /// ```
     /// use wattlerugby::{Grid, Refusal, Sides};
@@ -85,13 +119,15 @@ impl Grid {
     /// ```
     pub fn from_parts(record: Record, dist: Vec<i32>, mut status: Vec<u8>) -> Result<Grid, Refusal> {
         // a carve of no examinations checks 1, 2, 7, then 8, and writes nothing
-        match carve(record, &dist, &mut status, 0) {
-            Ok(_) | Err(Refusal::FINISHED) => Ok(Grid { record, dist, status, ended_by: None }),
+        let marks = vec![UNMARKED; dist.len()];
+        match carve(record, &dist, &marks, &mut status, 0) {
+            Ok(_) | Err(Refusal::FINISHED) => Ok(Grid { record, dist, marks, status, ended_by: None }),
             Err(refused) => Err(refused),
         }
     }
 
-    /// The record, the worked distances and the status bytes, to be stored or lent to the functions of this crate.
+    /// The record, the worked distances and the status bytes, to be stored or lent to the functions of this crate. Marks are no part of
+    /// them: where there are any, store [`Grid::marks`] too.
     pub fn into_parts(self) -> (Record, Vec<i32>, Vec<u8>) {
         (self.record, self.dist, self.status)
     }
@@ -111,23 +147,64 @@ impl Grid {
         &self.status
     }
 
+    /// The marks that each call is lent, by index: [`crate::UNMARKED`], [`crate::PINNED`], [`crate::HURRIED`] or
+    /// [`crate::PINNED_AND_HURRIED`].
+    pub fn marks(&self) -> &[u8] {
+        &self.marks
+    }
+
+    /// The marks, to be set for the calls from now on. With a byte over 3 these refuse with 29, until it is set right.
+    ///
+    /// ```
+    /// use wattlerugby::{Grid, Refusal, Sides, NO_LIMIT, PINNED};
+    ///
+    /// let mut values = [5; 27];
+    /// values[13] = -5;
+    /// let mut grid = Grid::begin(Sides { a: 3, b: 3, c: 3 }, 0, &values)?;
+    /// grid.marks_mut()[13] = 4;
+    /// assert_eq!(grid.carve(NO_LIMIT), Err(Refusal::MARK_BYTE));
+    /// grid.marks_mut().fill(PINNED);
+    /// grid.carve(NO_LIMIT)?;
+    /// # Ok::<(), Refusal>(())
+    /// ```
+    pub fn marks_mut(&mut self) -> &mut [u8] {
+        &mut self.marks
+    }
+
+    /// Pins a voxel for the calls from now on, which do not remove it: see Marks on the crate's page. [`Grid::marks_mut`] takes a pin off.
+    /// Refused with 5 where there is no such voxel.
+    pub fn pin(&mut self, index: usize) -> Result<(), Refusal> {
+        self.mark(index, PINNED)
+    }
+
+    /// Hurries a voxel for the calls from now on: where it is pending, carve examines it before all that are not hurried. It wakes nothing,
+    /// so a voxel that is to be pending from the start is hurried by [`Grid::begin_marked`]. Refused with 5 where there is no such voxel.
+    pub fn hurry(&mut self, index: usize) -> Result<(), Refusal> {
+        self.mark(index, HURRIED)
+    }
+
+    fn mark(&mut self, index: usize, mark: u8) -> Result<(), Refusal> {
+        *self.marks.get_mut(index).ok_or(Refusal::INDEX)? |= mark;
+        Ok(())
+    }
+
     /// Examines pending voxels, `limit` of them at most. See [`crate::carve`].
     pub fn carve(&mut self, limit: u32) -> Result<Carved, Refusal> {
-        let done = carve(self.record, &self.dist, &mut self.status, limit)?;
+        let done = carve(self.record, &self.dist, &self.marks, &mut self.status, limit)?;
         self.record = done.next;
         Ok(done)
     }
 
     /// Removes one voxel, if it may go. See [`crate::take`].
     pub fn take(&mut self, index: usize) -> Result<Taken, Refusal> {
-        let done = take(self.record, &self.dist, &mut self.status, index)?;
+        let done = take(self.record, &self.dist, &self.marks, &mut self.status, index)?;
         self.record = done.next;
         Ok(done)
     }
 
     /// Opens the body at the farthest voxel. See [`crate::open`].
     pub fn open(&mut self) -> Result<Opened, Refusal> {
-        let done = open(self.record, &self.dist, &mut self.status)?;
+        let done = open(self.record, &self.dist, &self.marks, &mut self.status)?;
         self.record = done.next;
         Ok(done)
     }
@@ -176,8 +253,9 @@ impl Grid {
 
     /// The number by which open ended [`Grid::carve_to_the_end`]; nothing where that was not called, or was refused.
     ///
-    /// [`Refusal::NOTHING_TO_OPEN`]: all that could be removed was, with openings to spare. [`Refusal::NO_OPENING_LEFT`]: as many openings
-    /// as were allowed have been made, and what is still kept outside, if anything, is filled.
+    /// [`Refusal::NOTHING_TO_OPEN`]: all that could be removed was, with openings to spare; pinned voxels, and what they shut in, are still
+    /// kept. [`Refusal::NO_OPENING_LEFT`]: as many openings as were allowed have been made, and what is still kept outside, if anything, is
+    /// filled.
     pub fn ended_by(&self) -> Option<Refusal> {
         self.ended_by
     }

@@ -1,7 +1,8 @@
 //! Carve a solid box down to a scanned body, and tell whether the body is closed.
 //!
 //! Each function here is one call of the proved library, with slices for its lent buffers. A refusal is an error that carries its number,
-//! and has written nothing. Any input at all gets an answer. [`Grid`] keeps a record and its two buffers together.
+//! and has written nothing. Any input at all gets an answer. [`Grid`] keeps a record and its two buffers together, and marks where you set
+//! any.
 //!
 //! ```
 //! use wattlerugby::{Grid, Sides, NO_LIMIT};
@@ -31,6 +32,40 @@
 //! assert_eq!(Grid::from_file(&file), Grid::begin(Sides { a: 3, b: 3, c: 3 }, 0, &values));
 //! # Ok::<(), wattlerugby::Refusal>(())
 //! ```
+//!
+//! # Marks
+//!
+//! An operator may hold a voxel, or want it gone early. So [`begin`], [`carve`], [`take`] and [`open`] are lent a mark byte for each voxel:
+//! [`UNMARKED`], [`PINNED`], [`HURRIED`] or both. A [`Grid`] has its own, all [`UNMARKED`] unless you set them, and lends them to each call.
+//!
+//! A pinned voxel is removed by no call, passed over by [`open`], and made pending by no removal. So a kept voxel that every call pins is kept
+//! at the end. A pin brings nothing back: what is gone, or lies outside the box that begin keeps, is not held; and it holds that voxel alone, so
+//! that after openings it may hang free, as a piece of its own. The inside is kept anyway.
+//!
+//! A hurried voxel is pending from [`begin`] on if it is kept and outside, and [`carve`] examines hurried pending voxels before all others. It
+//! goes if it passes, as any other. One that is both is examined first, which counts, and stays.
+//!
+//! The marks that count are those of the call itself. A pending voxel that is pinned later stays pending until it is examined, counts and
+//! stays; a hurry that is new, or a pin that is taken off, makes no voxel pending. On inside, gone and border voxels marks have no effect.
+//!
+//! ```
+//! use wattlerugby::{Grid, Refusal, Sides, GONE};
+//!
+//! // a ring: eight voxels around an empty one, in the middle layer of 5 x 5 x 3, with openings enough
+//! let mut values = [4; 75];
+//! for i in [31, 32, 33, 36, 38, 41, 42, 43] {
+//!     values[i] = -4;
+//! }
+//! let mut ring = Grid::begin(Sides { a: 5, b: 5, c: 3 }, 2, &values)?;
+//! ring.pin(37)?;
+//! ring.carve_to_the_end()?;
+//! assert_eq!(ring.ended_by(), Some(Refusal::NOTHING_TO_OPEN));
+//! assert_ne!(ring.status()[37], GONE); // its hole is held
+//! assert_eq!(ring.record().openings, 0);
+//! # Ok::<(), Refusal>(())
+//! ```
+//!
+//! # The archive
 //!
 //! The library is the archive that `rt staticlib capi` writes: build.rs looks for it in the folder that the variable `WATTLERUGBY_ARCHIVE`
 //! names (as libwattlerugby.a or libcapi.a), otherwise in target/staticlib. `cargo doc` and `cargo check` need none. The archive is for x86-64
@@ -107,6 +142,14 @@ pub const GONE: u8 = 0;
 pub const KEPT: u8 = 1;
 /// A status byte of a voxel that is kept and to be examined.
 pub const PENDING: u8 = 3;
+/// A mark byte of a voxel that is carved as ever.
+pub const UNMARKED: u8 = 0;
+/// A mark byte of a voxel that is held: no call removes it.
+pub const PINNED: u8 = 1;
+/// A mark byte of a voxel that is examined before all others, and from [`begin`] on.
+pub const HURRIED: u8 = 2;
+/// A mark byte of a voxel that is both: it is examined first, and stays.
+pub const PINNED_AND_HURRIED: u8 = 3;
 
 /// The grid's sides, 3 to 64 voxels each, along x, y and z. Voxel (x, y, z) has index x + a (y + b z).
 #[repr(C)]
@@ -291,7 +334,8 @@ fn done<T>(refusal: u8, answer: T) -> Result<T, Refusal> {
     }
 }
 
-/// Starts a grid from n measured values, and fills both other buffers with worked distances and status bytes.
+/// Starts a grid from n measured values and n marks, and fills both other buffers with worked distances and status bytes. Of the kept voxels
+/// outside those are pending which lie bare, unless they are only pinned, and those that are hurried. Marks change nothing else.
 ///
 /// No shot reaches the middle of a thick wall, so missing points are looked at first. A gap is a group of them joined by faces, with all that
 /// are joined to it. Where none of it lies on the grid's border, and every other voxel that shares a face with it is measured negative, it is
@@ -300,7 +344,7 @@ fn done<T>(refusal: u8, answer: T) -> Result<T, Refusal> {
 /// So a missing point that counts as inside has the worked distance -1, and as all of the inside it is never lost, whatever calls follow.
 /// Before [`finish`] it is told by its value: of negative distance, and [`MISSING`].
 ///
-/// Checks: 1, 2 (any of the three buffers), 28, 3, 4.
+/// Checks: 1, 2 (any of the four buffers), 28, 29, 3, 4.
 ///
 /// ```
 /// use wattlerugby::{Grid, Refusal, Sides, MISSING};
@@ -319,7 +363,7 @@ fn done<T>(refusal: u8, answer: T) -> Result<T, Refusal> {
 /// assert_eq!(grid.distances()[62], 7);
 /// # Ok::<(), wattlerugby::Refusal>(())
 /// ```
-pub fn begin(sides: Sides, allowed: u16, values: &[i32], dist: &mut [i32], status: &mut [u8]) -> Result<Record, Refusal> {
+pub fn begin(sides: Sides, allowed: u16, values: &[i32], marks: &[u8], dist: &mut [i32], status: &mut [u8]) -> Result<Record, Refusal> {
     // SAFETY: each pointer and length is one live slice's, the two mutable ones overlap nothing, and none is kept. So it is below.
     let r = unsafe {
         raw::wattlerugby_begin(
@@ -327,6 +371,8 @@ pub fn begin(sides: Sides, allowed: u16, values: &[i32], dist: &mut [i32], statu
             allowed,
             values.as_ptr(),
             values.len(),
+            marks.as_ptr(),
+            marks.len(),
             dist.as_mut_ptr(),
             dist.len(),
             status.as_mut_ptr(),
@@ -336,43 +382,73 @@ pub fn begin(sides: Sides, allowed: u16, values: &[i32], dist: &mut [i32], statu
     done(r.refusal, r.next.into())
 }
 
-/// Examines pending voxels, `limit` of them at most: each time the one with the greatest worked distance, of equals the one with the
-/// smallest index. Those that pass the local test are gone. Many small calls leave what one large call leaves.
+/// Examines pending voxels, `limit` of them at most: hurried ones before all others, and of either each time the one with the greatest worked
+/// distance, of equals the one with the smallest index. Those that pass the local test and are not pinned are gone. Many small calls with the
+/// same marks leave what one large call leaves.
 ///
-/// Checks: 1, 2, 7, 8.
+/// Checks: 1, 2, 7, 29, 8.
 ///
 /// ```
-/// use wattlerugby::{begin, carve, Sides, NO_LIMIT};
+/// use wattlerugby::{begin, carve, Sides, NO_LIMIT, PINNED_AND_HURRIED, UNMARKED};
 ///
 /// let mut values = [6; 48];
-/// (values[21], values[26]) = (-6, -6); // two voxels that touch in an edge: the box around them has two more
-/// let (mut dist, mut status) = ([0; 48], [0; 48]);
-/// let record = begin(Sides { a: 4, b: 4, c: 3 }, 0, &values, &mut dist, &mut status)?;
-/// let done = carve(record, &dist, &mut status, NO_LIMIT)?;
+/// (values[21], values[26]) = (-6, -6); // two voxels that touch in an edge: 22 and 25 fill the box around them
+/// let (mut dist, mut marks, mut status) = ([0; 48], [UNMARKED; 48], [0; 48]);
+/// let record = begin(Sides { a: 4, b: 4, c: 3 }, 0, &values, &marks, &mut dist, &mut status)?;
+/// let done = carve(record, &dist, &marks, &mut status.clone(), NO_LIMIT)?;
 /// assert_eq!((done.examined, done.removed, done.pending), (2, 2, false));
+///
+/// marks[25] = PINNED_AND_HURRIED;
+/// let done = carve(record, &dist, &marks, &mut status, NO_LIMIT)?;
+/// assert_eq!((done.examined, done.removed, done.pending), (2, 1, false));
 /// # Ok::<(), wattlerugby::Refusal>(())
 /// ```
-pub fn carve(given: impl Into<raw::Record>, dist: &[i32], status: &mut [u8], limit: u32) -> Result<Carved, Refusal> {
+pub fn carve(given: impl Into<raw::Record>, dist: &[i32], marks: &[u8], status: &mut [u8], limit: u32) -> Result<Carved, Refusal> {
     // SAFETY: as in `begin`.
-    let r = unsafe { raw::wattlerugby_carve(given.into(), dist.as_ptr(), dist.len(), status.as_mut_ptr(), status.len(), limit) };
+    let r = unsafe {
+        raw::wattlerugby_carve(
+            given.into(),
+            dist.as_ptr(),
+            dist.len(),
+            marks.as_ptr(),
+            marks.len(),
+            status.as_mut_ptr(),
+            status.len(),
+            limit,
+        )
+    };
     done(r.refusal, Carved { examined: r.examined, removed: r.removed, pending: r.pending, next: r.next.into() })
 }
 
-/// Removes the voxel of that index, pending or not, if it is kept, outside, and passes the local test.
+/// Removes the voxel of that index, pending or not, if it is kept, outside, not pinned, and passes the local test.
 ///
-/// Checks: 1, 2, 7, 8, 5, 10, 11, 12.
-pub fn take(given: impl Into<raw::Record>, dist: &[i32], status: &mut [u8], index: usize) -> Result<Taken, Refusal> {
+/// Checks: 1, 2, 7, 29, 8, 5, 10, 11, 30, 12.
+pub fn take(given: impl Into<raw::Record>, dist: &[i32], marks: &[u8], status: &mut [u8], index: usize) -> Result<Taken, Refusal> {
     // SAFETY: as in `begin`.
-    let r = unsafe { raw::wattlerugby_take(given.into(), dist.as_ptr(), dist.len(), status.as_mut_ptr(), status.len(), index) };
+    let r = unsafe {
+        raw::wattlerugby_take(
+            given.into(),
+            dist.as_ptr(),
+            dist.len(),
+            marks.as_ptr(),
+            marks.len(),
+            status.as_mut_ptr(),
+            status.len(),
+            index,
+        )
+    };
     done(r.refusal, Taken { k: r.k, m: r.m, next: r.next.into() })
 }
 
-/// Removes the kept outside voxel with a face neighbour not kept that has the greatest worked distance, of equals the smallest index.
+/// Removes the kept outside voxel with a face neighbour not kept that has the greatest worked distance, of equals the smallest index. Pinned
+/// ones are passed over, and hurries have no say.
 ///
-/// Checks: 1, 2, 7, 8, 13, 14, 15.
-pub fn open(given: impl Into<raw::Record>, dist: &[i32], status: &mut [u8]) -> Result<Opened, Refusal> {
+/// Checks: 1, 2, 7, 29, 8, 13, 14, 15.
+pub fn open(given: impl Into<raw::Record>, dist: &[i32], marks: &[u8], status: &mut [u8]) -> Result<Opened, Refusal> {
     // SAFETY: as in `begin`.
-    let r = unsafe { raw::wattlerugby_open(given.into(), dist.as_ptr(), dist.len(), status.as_mut_ptr(), status.len()) };
+    let r = unsafe {
+        raw::wattlerugby_open(given.into(), dist.as_ptr(), dist.len(), marks.as_ptr(), marks.len(), status.as_mut_ptr(), status.len())
+    };
     done(r.refusal, Opened { index: r.index, k: r.k, m: r.m, next: r.next.into() })
 }
 

@@ -110,37 +110,54 @@ pub struct WriteAnswer {
 extern "C" {
     pub fn wattlerugby_version_number() -> u32;
 
-    #[link_name = "wattlerugby_begin_6"]
+    #[link_name = "wattlerugby_begin_8"]
     pub fn wattlerugby_begin(
         sides: Sides,
         allowed: u16,
         values: *const i32,
         values_len: usize,
+        marks: *const u8,
+        marks_len: usize,
         dist: *mut i32,
         dist_len: usize,
         status: *mut u8,
         status_len: usize,
     ) -> BeginAnswer;
 
+    #[link_name = "wattlerugby_carve_8"]
     pub fn wattlerugby_carve(
         given: Record,
         dist: *const i32,
         dist_len: usize,
+        marks: *const u8,
+        marks_len: usize,
         status: *mut u8,
         status_len: usize,
         limit: u32,
     ) -> CarveAnswer;
 
+    #[link_name = "wattlerugby_take_8"]
     pub fn wattlerugby_take(
         given: Record,
         dist: *const i32,
         dist_len: usize,
+        marks: *const u8,
+        marks_len: usize,
         status: *mut u8,
         status_len: usize,
         index: usize,
     ) -> TakeAnswer;
 
-    pub fn wattlerugby_open(given: Record, dist: *const i32, dist_len: usize, status: *mut u8, status_len: usize) -> OpenAnswer;
+    #[link_name = "wattlerugby_open_8"]
+    pub fn wattlerugby_open(
+        given: Record,
+        dist: *const i32,
+        dist_len: usize,
+        marks: *const u8,
+        marks_len: usize,
+        status: *mut u8,
+        status_len: usize,
+    ) -> OpenAnswer;
 
     pub fn wattlerugby_finish(given: Record, dist: *mut i32, dist_len: usize, status: *const u8, status_len: usize) -> FinishAnswer;
 

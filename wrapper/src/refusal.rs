@@ -69,6 +69,8 @@ numbers! {
     26 ROOM "the lent buffer is shorter than the file"
     27 LAYER_ORDER "a layer's z is not the next"
     28 VALUE "a value is neither in range nor the missing mark"
+    29 MARK_BYTE "a mark byte is over 3"
+    30 PINNED_VOXEL "the voxel is pinned"
 }
 
 impl std::fmt::Debug for Refusal {

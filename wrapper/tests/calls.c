@@ -1,12 +1,15 @@
 /* Every call on a state from C, on document 01's case C, with each answer printed: a ring of eight voxels around an empty one, and one
- * opening allowed. Then a file out and in, patches to it, layers of both widths, and what the header says of null pointers, padding and
- * numbers. The status is 0 where all of that holds. */
+ * opening allowed. Then marks, a file out and in, patches to it, layers of both widths, and what the header says of null pointers, padding
+ * and numbers. The status is 0 where all of that holds. */
 #include <stdio.h>
 #include <string.h>
 
 #include "wattlerugby.h"
 
 enum { A = 5, B = 5, C = 3, N = A * B * C, ALLOWED = 1 };
+
+/* Marks for any grid here: none is larger. */
+static const uint8_t unmarked[N] = {WATTLERUGBY_UNMARKED};
 
 static void print_record(wattlerugby_record r)
 {
@@ -16,7 +19,7 @@ static void print_record(wattlerugby_record r)
 
 static wattlerugby_record carve(wattlerugby_record record, const int32_t *dist, uint8_t *status, uint32_t limit)
 {
-    wattlerugby_carve_answer r = wattlerugby_carve(record, dist, N, status, N, limit);
+    wattlerugby_carve_answer r = wattlerugby_carve(record, dist, N, unmarked, N, status, N, limit);
     if (r.refusal != 0)
         printf("carve: refused %u\n", r.refusal);
     else
@@ -28,7 +31,7 @@ static wattlerugby_record carve(wattlerugby_record record, const int32_t *dist, 
 
 static wattlerugby_record take(wattlerugby_record record, const int32_t *dist, uint8_t *status, size_t index)
 {
-    wattlerugby_take_answer r = wattlerugby_take(record, dist, N, status, N, index);
+    wattlerugby_take_answer r = wattlerugby_take(record, dist, N, unmarked, N, status, N, index);
     if (r.refusal != 0)
         printf("take %u: refused %u\n", (unsigned)index, r.refusal);
     else
@@ -38,7 +41,7 @@ static wattlerugby_record take(wattlerugby_record record, const int32_t *dist, u
 
 static wattlerugby_record open_body(wattlerugby_record record, const int32_t *dist, uint8_t *status)
 {
-    wattlerugby_open_answer r = wattlerugby_open(record, dist, N, status, N);
+    wattlerugby_open_answer r = wattlerugby_open(record, dist, N, unmarked, N, status, N);
     if (r.refusal != 0)
         printf("open: refused %u\n", r.refusal);
     else
@@ -101,7 +104,7 @@ static int ring(void)
             if (x != 2 || y != 2)
                 values[x + A * (y + B)] = -4;
 
-    begun = wattlerugby_begin(sides, ALLOWED, values, N, dist, N, status, N);
+    begun = wattlerugby_begin(sides, ALLOWED, values, N, unmarked, N, dist, N, status, N);
     if (begun.refusal != 0)
         return 1;
     printf("begin: done\n");
@@ -133,6 +136,153 @@ static int ring(void)
         putchar('\n');
     }
     return record.euler == 0 ? 0 : 1;
+}
+
+/* ---- marks, on document 01's case D: voxels 21 and 26 are inside, 22 and 25 fill the box around them. Voxel 22 comes before 25. */
+
+enum { OF_D = 48, GUARD = 0xEE };
+
+typedef struct grid_d {
+    int32_t values[OF_D];
+    int32_t dist[OF_D];
+    /* the marks stand between bytes that no mark may have: a call that looked there would answer 29 */
+    uint8_t marks[OF_D + 2];
+    uint8_t status[OF_D];
+    wattlerugby_record record;
+} grid_d;
+
+static const wattlerugby_sides sides_d = {4, 4, 3};
+
+static uint8_t begin_d(grid_d *g, size_t marks_len)
+{
+    wattlerugby_begin_answer r = wattlerugby_begin(sides_d, 1, g->values, OF_D, g->marks + 1, marks_len, g->dist, OF_D, g->status, OF_D);
+    g->record = r.next;
+    return r.refusal;
+}
+
+static void set_marks(grid_d *g, uint8_t of_22, uint8_t of_25)
+{
+    memset(g->marks, 0, sizeof g->marks);
+    g->marks[0] = GUARD;
+    g->marks[OF_D + 1] = GUARD;
+    g->marks[1 + 22] = of_22;
+    g->marks[1 + 25] = of_25;
+}
+
+static grid_d begun_d(uint8_t of_22, uint8_t of_25)
+{
+    grid_d g;
+    int i;
+    for (i = 0; i < OF_D; i++)
+        g.values[i] = i == 21 || i == 26 ? -6 : 6;
+    set_marks(&g, of_22, of_25);
+    if (begin_d(&g, OF_D) != 0)
+        printf("begin with marks: WRONG\n");
+    return g;
+}
+
+static uint8_t carve_d(grid_d *g, size_t marks_len, uint32_t limit)
+{
+    wattlerugby_carve_answer r = wattlerugby_carve(g->record, g->dist, OF_D, g->marks + 1, marks_len, g->status, OF_D, limit);
+    g->record = r.next;
+    return r.refusal;
+}
+
+static uint8_t take_d(grid_d *g, size_t marks_len, size_t index)
+{
+    wattlerugby_take_answer r = wattlerugby_take(g->record, g->dist, OF_D, g->marks + 1, marks_len, g->status, OF_D, index);
+    g->record = r.next;
+    return r.refusal;
+}
+
+static uint8_t open_d(grid_d *g, size_t marks_len)
+{
+    wattlerugby_open_answer r = wattlerugby_open(g->record, g->dist, OF_D, g->marks + 1, marks_len, g->status, OF_D);
+    g->record = r.next;
+    return r.refusal;
+}
+
+/* Whether each of the four calls refuses with this number, or with begin's own, and writes nothing. */
+static int all_refuse(const grid_d *given, size_t marks_len, uint8_t of_begin, uint8_t of_others)
+{
+    grid_d g = *given;
+    int wrong = carve_d(&g, marks_len, 1) != of_others;
+    wrong += take_d(&g, marks_len, 22) != of_others;
+    wrong += open_d(&g, marks_len) != of_others;
+    wrong += begin_d(&g, marks_len) != of_begin;
+    g.record = given->record;
+    return wrong + (memcmp(g.dist, given->dist, sizeof g.dist) != 0) + (memcmp(g.status, given->status, sizeof g.status) != 0);
+}
+
+/* Every place of the buffer is read, and no other; its length is checked; and the order of 2, 7, 29, 8 and of begin's 28, 29, 3, 4. */
+static int marks_are_read(void)
+{
+    grid_d g = begun_d(0, 0), other;
+    int i, wrong = 0;
+    wrong += all_refuse(&g, OF_D - 1, WATTLERUGBY_LENGTH, WATTLERUGBY_LENGTH);
+    wrong += all_refuse(&g, OF_D + 1, WATTLERUGBY_LENGTH, WATTLERUGBY_LENGTH);
+    for (i = 1; i <= OF_D; i++) {
+        g.marks[i] = i % 2 == 0 ? 4 : 255;
+        wrong += all_refuse(&g, OF_D, WATTLERUGBY_MARK_BYTE, WATTLERUGBY_MARK_BYTE);
+        g.marks[i] = 0;
+    }
+    memset(g.marks + 1, WATTLERUGBY_PINNED_AND_HURRIED, OF_D);
+    other = g;
+    wrong += begin_d(&other, OF_D) != 0 || carve_d(&other, OF_D, 9) != 0 || take_d(&other, OF_D, 22) != WATTLERUGBY_PINNED_VOXEL;
+    wrong += open_d(&other, OF_D) != WATTLERUGBY_NOTHING_TO_OPEN || other.record.examinations != 2 || other.record.removals != 0;
+    /* a bad mark beside something else that is wrong */
+    g.marks[1] = 4;
+    other = g;
+    other.record.euler = 1000;
+    other.values[47] = WATTLERUGBY_MISSING + 1;
+    wrong += all_refuse(&other, OF_D - 1, WATTLERUGBY_LENGTH, WATTLERUGBY_LENGTH);
+    wrong += all_refuse(&other, OF_D, WATTLERUGBY_VALUE, WATTLERUGBY_UNFIT);
+    other = g;
+    other.record.finished = 1;
+    other.values[47] = -6;
+    wrong += all_refuse(&other, OF_D, WATTLERUGBY_MARK_BYTE, WATTLERUGBY_MARK_BYTE);
+    memset(other.values, 0, sizeof other.values);
+    wrong += all_refuse(&other, OF_D, WATTLERUGBY_MARK_BYTE, WATTLERUGBY_MARK_BYTE);
+    return wrong;
+}
+
+static void print_d(const char *what, const grid_d *g)
+{
+    printf("  %s: 22 is %u, 25 is %u; examinations %u, removals %u\n", what, g->status[22], g->status[25],
+           (unsigned)g->record.examinations, (unsigned)g->record.removals);
+}
+
+static int marks(void)
+{
+    grid_d g = begun_d(0, 0);
+    int wrong = marks_are_read();
+    printf("marks:\n");
+    wrong += carve_d(&g, OF_D, 1) != 0;
+    print_d("unmarked, one examination", &g);
+    g = begun_d(0, WATTLERUGBY_HURRIED);
+    wrong += carve_d(&g, OF_D, 1) != 0;
+    print_d("25 hurried, one examination", &g);
+    g = begun_d(WATTLERUGBY_PINNED, 0);
+    print_d("22 pinned, begun", &g);
+    wrong += carve_d(&g, OF_D, WATTLERUGBY_NO_LIMIT) != 0 || take_d(&g, OF_D, 22) != WATTLERUGBY_PINNED_VOXEL;
+    wrong += take_d(&g, OF_D, 25) != WATTLERUGBY_GONE_ALREADY || open_d(&g, OF_D) != WATTLERUGBY_NOTHING_TO_OPEN;
+    print_d("22 pinned, carved to the end", &g);
+    set_marks(&g, 0, WATTLERUGBY_PINNED);
+    g.marks[1 + 21] = WATTLERUGBY_PINNED;
+    /* a pin taken off wakes nothing; 10 and 11 come before 30 */
+    wrong += carve_d(&g, OF_D, WATTLERUGBY_NO_LIMIT) != 0 || g.record.examinations != 1;
+    wrong += take_d(&g, OF_D, 25) != WATTLERUGBY_GONE_ALREADY || take_d(&g, OF_D, 21) != WATTLERUGBY_INSIDE;
+    wrong += take_d(&g, OF_D, 22) != 0;
+    print_d("the pin taken off, 22 taken", &g);
+    g = begun_d(WATTLERUGBY_PINNED_AND_HURRIED, 0);
+    wrong += carve_d(&g, OF_D, 1) != 0;
+    print_d("22 pinned and hurried, one examination", &g);
+    g = begun_d(0, 0);
+    set_marks(&g, WATTLERUGBY_PINNED, WATTLERUGBY_PINNED);
+    wrong += carve_d(&g, OF_D, 1) != 0;
+    print_d("both pinned when they are pending, one examination", &g);
+    printf("marks: %s\n", wrong ? "WRONG" : "each is read where it stands, and counts for its call");
+    return wrong;
 }
 
 /* ---- a file out, and in again */
@@ -317,9 +467,9 @@ static int widths(void)
     wrong += wattlerugby_read(file, length, again, VOXELS).refusal != WATTLERUGBY_VALUE || memcmp(values, again, sizeof values) != 0;
     values[59] = WATTLERUGBY_GREATEST_VALUE + 1;
     wrong += write_file(sides, values, VOXELS, file, 0).refusal != WATTLERUGBY_VALUE;
-    wrong += wattlerugby_begin(sides, 0, values, VOXELS, dist, VOXELS, status, VOXELS).refusal != WATTLERUGBY_VALUE;
+    wrong += wattlerugby_begin(sides, 0, values, VOXELS, unmarked, VOXELS, dist, VOXELS, status, VOXELS).refusal != WATTLERUGBY_VALUE;
     values[59] = WATTLERUGBY_LEAST_VALUE - 1;
-    wrong += wattlerugby_begin(sides, 0, values, VOXELS, dist, VOXELS, status, VOXELS).refusal != WATTLERUGBY_VALUE;
+    wrong += wattlerugby_begin(sides, 0, values, VOXELS, unmarked, VOXELS, dist, VOXELS, status, VOXELS).refusal != WATTLERUGBY_VALUE;
     printf("widths: %s\n", wrong ? "WRONG" : "both read as what was written, and a value out of range is refused");
     return wrong;
 }
@@ -332,17 +482,23 @@ static int nulls(void)
     const uint8_t header[7] = {0x56, 0x48, 3, 3, 3, 0, 0};
     const int32_t values[27] = {0};
     const int32_t dist[27] = {0};
-    const uint8_t status[27] = {0};
+    int32_t written[27] = {0};
+    uint8_t status[27] = {0};
     wattlerugby_points_answer filled;
     wattlerugby_record r;
     int wrong = 0;
     memset(&r, 0, sizeof r);
     r.sides = fit;
-    wrong += wattlerugby_begin(fit, 0, NULL, 0, NULL, 0, NULL, 0).refusal != WATTLERUGBY_LENGTH;
-    wrong += wattlerugby_begin(unfit, 0, NULL, 0, NULL, 0, NULL, 0).refusal != WATTLERUGBY_SIDE;
-    wrong += wattlerugby_carve(r, NULL, 0, NULL, 0, 1).refusal != WATTLERUGBY_LENGTH;
-    wrong += wattlerugby_take(r, NULL, 0, NULL, 0, 13).refusal != WATTLERUGBY_LENGTH;
-    wrong += wattlerugby_open(r, NULL, 0, NULL, 0).refusal != WATTLERUGBY_LENGTH;
+    wrong += wattlerugby_begin(fit, 0, NULL, 0, NULL, 0, NULL, 0, NULL, 0).refusal != WATTLERUGBY_LENGTH;
+    wrong += wattlerugby_begin(unfit, 0, NULL, 0, NULL, 0, NULL, 0, NULL, 0).refusal != WATTLERUGBY_SIDE;
+    wrong += wattlerugby_carve(r, NULL, 0, NULL, 0, NULL, 0, 1).refusal != WATTLERUGBY_LENGTH;
+    wrong += wattlerugby_take(r, NULL, 0, NULL, 0, NULL, 0, 13).refusal != WATTLERUGBY_LENGTH;
+    wrong += wattlerugby_open(r, NULL, 0, NULL, 0, NULL, 0).refusal != WATTLERUGBY_LENGTH;
+    /* the marks alone: there is no leaving them out */
+    wrong += wattlerugby_begin(fit, 0, values, 27, NULL, 0, written, 27, status, 27).refusal != WATTLERUGBY_LENGTH;
+    wrong += wattlerugby_carve(r, dist, 27, NULL, 0, status, 27, 1).refusal != WATTLERUGBY_LENGTH;
+    wrong += wattlerugby_take(r, dist, 27, NULL, 0, status, 27, 13).refusal != WATTLERUGBY_LENGTH;
+    wrong += wattlerugby_open(r, dist, 27, NULL, 0, status, 27).refusal != WATTLERUGBY_LENGTH;
     wrong += wattlerugby_finish(r, NULL, 0, NULL, 0).refusal != WATTLERUGBY_LENGTH;
     wrong += wattlerugby_crossing(r, NULL, 0, NULL, 0, 13, 0).refusal != WATTLERUGBY_LENGTH;
     wrong += wattlerugby_points(r, NULL, 0, NULL, 0, 0, NULL, 0).refusal != WATTLERUGBY_LENGTH;
@@ -388,10 +544,10 @@ static int padding(void)
     for (i = 0; i < 27; i++)
         values[i] = i == 13 ? -5 : 5;
     for (byte = 0; byte < 256; byte++) {
-        wattlerugby_record r = padded(wattlerugby_begin(sides, 0, values, 27, dist, 27, status, 27).next, byte);
-        wrong += wattlerugby_carve(r, dist, 27, status, 27, WATTLERUGBY_NO_LIMIT).refusal != 0;
-        wrong += wattlerugby_take(r, dist, 27, status, 27, 13).refusal != WATTLERUGBY_INSIDE;
-        wrong += wattlerugby_open(r, dist, 27, status, 27).refusal != WATTLERUGBY_NO_OPENING_LEFT;
+        wattlerugby_record r = padded(wattlerugby_begin(sides, 0, values, 27, unmarked, 27, dist, 27, status, 27).next, byte);
+        wrong += wattlerugby_carve(r, dist, 27, unmarked, 27, status, 27, WATTLERUGBY_NO_LIMIT).refusal != 0;
+        wrong += wattlerugby_take(r, dist, 27, unmarked, 27, status, 27, 13).refusal != WATTLERUGBY_INSIDE;
+        wrong += wattlerugby_open(r, dist, 27, unmarked, 27, status, 27).refusal != WATTLERUGBY_NO_OPENING_LEFT;
         r = padded(wattlerugby_finish(r, dist, 27, status, 27).next, byte);
         wrong += wattlerugby_crossing(r, dist, 27, status, 27, 13, 0).point.x != 1.5;
         wrong += wattlerugby_points(r, dist, 27, status, 27, 0, out, 18).count != 6 || out[9] != 1.5;
@@ -411,16 +567,16 @@ static int finished_bytes(void)
     int byte, wrong = 0;
     memset(&r, 0, sizeof r);
     r.sides = sides;
-    wrong += wattlerugby_carve(r, dist, 27, status, 27, 1).refusal != 0;
+    wrong += wattlerugby_carve(r, dist, 27, unmarked, 27, status, 27, 1).refusal != 0;
     for (byte = 1; byte < 256; byte++) {
         wattlerugby_carve_answer carved;
         wattlerugby_take_answer taken;
         wattlerugby_open_answer opened;
         wattlerugby_finish_answer closed;
         r.finished = (uint8_t)byte;
-        carved = wattlerugby_carve(r, dist, 27, status, 27, 1);
-        taken = wattlerugby_take(r, dist, 27, status, 27, 13);
-        opened = wattlerugby_open(r, dist, 27, status, 27);
+        carved = wattlerugby_carve(r, dist, 27, unmarked, 27, status, 27, 1);
+        taken = wattlerugby_take(r, dist, 27, unmarked, 27, status, 27, 13);
+        opened = wattlerugby_open(r, dist, 27, unmarked, 27, status, 27);
         closed = wattlerugby_finish(r, dist, 27, status, 27);
         wrong += carved.refusal != WATTLERUGBY_FINISHED || carved.next.finished != byte;
         wrong += taken.refusal != WATTLERUGBY_FINISHED || taken.next.finished != byte;
@@ -468,11 +624,15 @@ static void numbers(void)
     NUMBER(ROOM);
     NUMBER(LAYER_ORDER);
     NUMBER(VALUE);
+    NUMBER(MARK_BYTE);
+    NUMBER(PINNED_VOXEL);
     printf("255 %s\n", wattlerugby_reason(255));
     printf("longest file %u\n", (unsigned)WATTLERUGBY_LONGEST_FILE);
     printf("values of %d bits, %d to %d, missing %d\n", WATTLERUGBY_VALUE_BITS, WATTLERUGBY_LEAST_VALUE, WATTLERUGBY_GREATEST_VALUE,
            WATTLERUGBY_MISSING);
     printf("layers of %d bytes a value, missing %d, and of %d\n", WATTLERUGBY_NARROW, WATTLERUGBY_NARROW_MISSING, WATTLERUGBY_WIDE);
+    printf("status %d %d %d\n", WATTLERUGBY_GONE, WATTLERUGBY_KEPT, WATTLERUGBY_PENDING);
+    printf("marks %d %d %d %d\n", WATTLERUGBY_UNMARKED, WATTLERUGBY_PINNED, WATTLERUGBY_HURRIED, WATTLERUGBY_PINNED_AND_HURRIED);
 }
 
 /* ---- lengths: a line `A B C NARROW WIDE`, with the length of either width, for each side from 2 to 65 along each axis, beside some along
@@ -536,5 +696,5 @@ int main(int argc, char **argv)
         lengths();
         return 0;
     }
-    return ring() + files() + patches() + order() + widths() + nulls() + padding() + finished_bytes();
+    return ring() + marks() + files() + patches() + order() + widths() + nulls() + padding() + finished_bytes();
 }

@@ -20,17 +20,17 @@ const UNFIT: Record = Record {
 
 #[test]
 fn the_record_given_comes_back() {
-    let (mut dist, mut status) = ([0i32; N], [0u8; N]);
-    let (d, s) = (dist.as_mut_ptr(), status.as_mut_ptr());
+    let (mut dist, marks, mut status) = ([0i32; N], [3u8; N], [0u8; N]);
+    let (d, m, s) = (dist.as_mut_ptr(), marks.as_ptr(), status.as_mut_ptr());
     for finished in [0, 1, 2, 255] {
         let given = Record { finished, ..UNFIT };
-        // SAFETY: the pointers are those of two live arrays of N elements, or null with length 0.
+        // SAFETY: the pointers are those of three live arrays of N elements, or null with length 0.
         unsafe {
-            let carved = wattlerugby_carve(given, d, N, s, N, 9);
+            let carved = wattlerugby_carve(given, d, N, m, N, s, N, 9);
             assert_eq!((carved.refusal, carved.examined, carved.removed, carved.pending, carved.next), (7, 0, 0, false, given));
-            let taken = wattlerugby_take(given, d, N, s, N, 9);
+            let taken = wattlerugby_take(given, d, N, m, N, s, N, 9);
             assert_eq!((taken.refusal, taken.k, taken.m, taken.next), (7, 0, 0, given));
-            let opened = wattlerugby_open(given, d, N, s, N);
+            let opened = wattlerugby_open(given, d, N, m, N, s, N);
             assert_eq!((opened.refusal, opened.index, opened.k, opened.m, opened.next), (7, 0, 0, 0, given));
             let closed = wattlerugby_finish(given, d, N, s, N);
             assert_eq!((closed.refusal, closed.next), (7, given));
@@ -61,9 +61,9 @@ fn each_count_is_read_from_its_place() {
         Record { finished: 1, ..fit },
     ];
     let numbers = [2, 2, 2, 7, 7, 7, 7, 7, 8];
-    assert!(wattlerugby::carve(fit, &dist, &mut status, 1).is_ok());
+    assert!(wattlerugby::carve(fit, &dist, &[0; N], &mut status, 1).is_ok());
     for (given, number) in unfit.into_iter().zip(numbers) {
-        let refused = wattlerugby::carve(given, &dist, &mut status, 1).unwrap_err();
+        let refused = wattlerugby::carve(given, &dist, &[0; N], &mut status, 1).unwrap_err();
         assert_eq!(refused.0, number, "{given:?}");
     }
 }
@@ -72,16 +72,19 @@ fn each_count_is_read_from_its_place() {
 fn begin_and_its_buffers() {
     let mut values = [7i32; N];
     values[16] = -5;
-    let (mut dist, mut status) = ([0i32; N], [9u8; N]);
-    // SAFETY: the pointers are those of three live arrays of N elements.
-    let mut begin = |sides, values_len, dist_len, status_len| unsafe {
-        wattlerugby_begin(sides, 0xABCD, values.as_ptr(), values_len, dist.as_mut_ptr(), dist_len, status.as_mut_ptr(), status_len)
+    let (marks, mut dist, mut status) = ([3u8; N], [0i32; N], [9u8; N]);
+    // SAFETY: the pointers are those of four live arrays of N elements.
+    let mut begin = |[values_len, marks_len, dist_len, status_len]: [usize; 4]| unsafe {
+        let (v, m, d, s) = (values.as_ptr(), marks.as_ptr(), dist.as_mut_ptr(), status.as_mut_ptr());
+        wattlerugby_begin(SIDES, 0xABCD, v, values_len, m, marks_len, d, dist_len, s, status_len)
     };
-    for (v, d, s) in [(N - 1, N, N), (N, N - 1, N), (N, N, N - 1)] {
-        let refused = begin(SIDES, v, d, s);
+    for short in 0..4 {
+        let mut lengths = [N; 4];
+        lengths[short] -= 1;
+        let refused = begin(lengths);
         assert_eq!((refused.refusal, refused.next), (2, Record::default()));
     }
-    let begun = begin(SIDES, N, N, N);
+    let begun = begin([N; 4]);
     let record = Record { sides: SIDES, allowed: 0xABCD, euler: 1, ..Record::default() };
     assert_eq!((begun.refusal, begun.next), (0, record));
     assert_eq!((dist[16], dist[17], status[16], status[17]), (-5, 7, 1, 0));
@@ -91,7 +94,7 @@ fn begin_and_its_buffers() {
 fn a_point_has_three_coordinates() {
     let (mut values, mut dist, mut status) = ([7i32; N], [0i32; N], [0u8; N]);
     values[1 + 3 * (2 + 4 * 3)] = -7;
-    let begun = wattlerugby::begin(SIDES, 0, &values, &mut dist, &mut status).unwrap();
+    let begun = wattlerugby::begin(SIDES, 0, &values, &[0; N], &mut dist, &mut status).unwrap();
     let closed = wattlerugby::finish(begun, &mut dist, &status).unwrap();
     // SAFETY: the pointers are those of two live arrays of N elements.
     let crossed = unsafe { wattlerugby_crossing(closed.into(), dist.as_ptr(), N, status.as_ptr(), N, 43, 0) };

@@ -1,6 +1,6 @@
 //! Gaps behind the face: missing points that begin counts as inside, those that it does not, and that no list of calls loses the former.
 
-use wattlerugby::{begin, patch, read, read_layer, written, Grid, Refusal, Sides, GONE, KEPT, MISSING, NARROW, NO_LIMIT, WIDE};
+use wattlerugby::{begin, patch, read, read_layer, written, Grid, Refusal, Sides, GONE, KEPT, MISSING, NARROW, NO_LIMIT, UNMARKED, WIDE};
 
 const SIDE: usize = 7;
 const SIDES: Sides = Sides { a: SIDE, b: SIDE, c: SIDE };
@@ -193,7 +193,7 @@ fn values_stay_as_they_are() {
     let values = with(&wall(), &[(MIDDLE, MISSING), (at(3, 3, 4), MISSING), (at(1, 3, 3), MISSING)]);
     let lent = values.clone();
     let (mut dist, mut status) = (vec![0; N], vec![0; N]);
-    assert!(begin(SIDES, 0, &lent, &mut dist, &mut status).is_ok());
+    assert!(begin(SIDES, 0, &lent, &[UNMARKED; N], &mut dist, &mut status).is_ok());
     assert_eq!((dist[MIDDLE], dist[at(3, 3, 4)], dist[at(1, 3, 3)]), (-1, -1, 30));
     assert!(lent == values);
     let file = written(SIDES, 0, &values).expect("fit sides");

@@ -8,6 +8,7 @@ use std::path::Path;
 use std::process::Command;
 use wattlerugby::raw::*;
 use wattlerugby::{archive_version, write, written_length, written_width, Grid, LocalTest, Point, Refusal, Sides};
+use wattlerugby::{GONE, HURRIED, KEPT, PENDING, PINNED, PINNED_AND_HURRIED, UNMARKED};
 use wattlerugby::{GREATEST_VALUE, LEAST_VALUE, LONGEST_FILE, MISSING, NARROW, NARROW_MISSING, VERSION, WIDE};
 
 /// Compiles a C file against the header and the archive, with every warning an error, and gives what it prints when run.
@@ -78,7 +79,7 @@ fn sizes_and_offsets() {
     }
 }
 
-/// Each call's answers, a file out and in, patches, layers out of order, both widths, null pointers, padding.
+/// Each call's answers, marks, a file out and in, patches, layers out of order, both widths, null pointers, padding.
 #[test]
 fn calls() {
     let source = root().join("wrapper/tests/calls.c");
@@ -99,6 +100,8 @@ fn version_and_numbers() {
     ours.push(format!("longest file {LONGEST_FILE}"));
     ours.push(format!("values of {} bits, {LEAST_VALUE} to {GREATEST_VALUE}, missing {MISSING}", i32::BITS));
     ours.push(format!("layers of {NARROW} bytes a value, missing {NARROW_MISSING}, and of {WIDE}"));
+    ours.push(format!("status {GONE} {KEPT} {PENDING}"));
+    ours.push(format!("marks {UNMARKED} {PINNED} {HURRIED} {PINNED_AND_HURRIED}"));
     let source = root().join("wrapper/tests/calls.c");
     for header in printed_by_each(&source, "numbers", &["numbers"]) {
         assert_eq!(header.lines().collect::<Vec<_>>(), ours);

@@ -1,10 +1,12 @@
 //! What docs/RESULT.md concludes from the last answer of open, on grids from seeds.
 
-use wattlerugby::{Grid, Refusal, Sides, GONE, MISSING};
+use wattlerugby::{Grid, Refusal, Sides, GONE, HURRIED, MISSING, PINNED, UNMARKED};
 
 struct Carved {
     sides: Sides,
     inside: Vec<bool>,
+    /// Pinned, and in the box that begin keeps.
+    held: Vec<bool>,
     kept: Vec<bool>,
     ended_by: Refusal,
     openings: u32,
@@ -37,16 +39,17 @@ fn place(sides: Sides, i: usize) -> [usize; 3] {
     [i % sides.a, i / sides.a % sides.b, i / (sides.a * sides.b)]
 }
 
-fn carved(sides: Sides, allowed: u16, values: &[i32]) -> Option<Carved> {
-    let mut grid = match Grid::begin(sides, allowed, values) {
+fn carved(sides: Sides, allowed: u16, values: &[i32], marks: &[u8]) -> Option<Carved> {
+    let mut grid = match Grid::begin_marked(sides, allowed, values, marks) {
         Err(Refusal::NO_NEGATIVE) => return None,
         begun => begun.unwrap(),
     };
     let inside = grid.distances().iter().map(|&d| d < 0).collect();
+    let held = grid.status().iter().zip(marks).map(|(&s, &mark)| s != GONE && mark & PINNED != 0).collect();
     grid.carve_to_the_end().unwrap();
     let kept = grid.status().iter().map(|&s| s != GONE).collect();
     let r = grid.record();
-    Some(Carved { sides, inside, kept, ended_by: grid.ended_by().unwrap(), openings: r.openings, euler: r.euler })
+    Some(Carved { sides, inside, held, kept, ended_by: grid.ended_by().unwrap(), openings: r.openings, euler: r.euler })
 }
 
 /// What can be reached from a voxel of the set by steps within it, each step changing at most so many coordinates by one.
@@ -77,7 +80,8 @@ fn pieces(sides: Sides, set: &[bool]) -> i32 {
     count
 }
 
-fn check(c: &Carved, allowed: u16) {
+/// Gives how many pieces the body has.
+fn check(c: &Carved, allowed: u16) -> i32 {
     let nothing_to_open = c.ended_by == Refusal::NOTHING_TO_OPEN;
     assert!(nothing_to_open || c.ended_by == Refusal::NO_OPENING_LEFT);
     assert_eq!(nothing_to_open, c.openings < u32::from(allowed), "14 comes exactly where all openings are used");
@@ -87,12 +91,13 @@ fn check(c: &Carved, allowed: u16) {
         assert_eq!((pieces, c.euler), (1, 1));
     }
     if nothing_to_open {
-        let outside: Vec<bool> = c.inside.iter().map(|i| !i).collect();
+        let outside: Vec<bool> = c.inside.iter().zip(&c.held).map(|(i, h)| !i && !h).collect();
         let free = reached(c.sides, &outside, 0, 1);
         let body: Vec<bool> = free.iter().map(|f| !f).collect();
-        assert!(c.kept == body, "kept is the inside with what it closes in");
-        assert_eq!(pieces, 1);
+        assert!(c.kept == body, "kept is the inside and what is held, with what these close in");
+        assert!(pieces == 1 || c.held.contains(&true));
     }
+    pieces
 }
 
 #[test]
@@ -103,7 +108,7 @@ fn the_last_answer_of_open() {
         let sides = Sides { a: 5 + round % 4, b: 6, c: 5 + round % 3 };
         let values = noise(sides, 20 + 10 * (round as u32 % 6), &mut seed);
         for allowed in [0, 1, 3, u16::MAX] {
-            if let Some(c) = carved(sides, allowed, &values) {
+            if let Some(c) = carved(sides, allowed, &values, &vec![UNMARKED; values.len()]) {
                 check(&c, allowed);
                 let nothing_to_open = c.ended_by == Refusal::NOTHING_TO_OPEN;
                 ends[usize::from(nothing_to_open)] += 1;
@@ -113,4 +118,31 @@ fn the_last_answer_of_open() {
     }
     assert!(ends[0] > 100 && ends[1] > 100, "both ends are met: {ends:?}");
     assert!(unequal > 0, "openings and tunnels need not be equal in number");
+}
+
+/// The same with one voxel in ten pinned and others hurried: after 15 the body may have more pieces than one.
+#[test]
+fn with_pins() {
+    let mut seed = 11;
+    let (mut filled, mut free) = (0, 0);
+    for round in 0..120usize {
+        let sides = Sides { a: 5 + round % 4, b: 6, c: 5 + round % 3 };
+        let values = noise(sides, 3 + 10 * (round as u32 % 6), &mut seed);
+        let mark = |i: usize| match ((i + round) % 10, (7 * i + round) % 6) {
+            (0, 0) => PINNED | HURRIED,
+            (0, _) => PINNED,
+            (_, 0) => HURRIED,
+            _ => UNMARKED,
+        };
+        let marks: Vec<u8> = (0..values.len()).map(mark).collect();
+        for allowed in [0, 1, 3, u16::MAX] {
+            if let Some(c) = carved(sides, allowed, &values, &marks) {
+                let pieces = check(&c, allowed);
+                assert!((0..values.len()).all(|i| c.kept[i] || !c.held[i]), "a pin holds");
+                filled += usize::from(allowed == 0 && c.held.contains(&true));
+                free += usize::from(c.ended_by == Refusal::NOTHING_TO_OPEN && pieces > 1);
+            }
+        }
+    }
+    assert!(filled > 50 && free > 10, "{filled} with T = 0, {free} in pieces");
 }

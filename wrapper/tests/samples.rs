@@ -21,6 +21,23 @@ fn files_and_pictures() {
     }
 }
 
+/// What fills the torus's hole with T = 0 holds it closed with T = 1.
+#[test]
+fn the_torus_pinned() {
+    let pins = std::fs::read_to_string(root().join("samples/torus-1.pins")).expect("the list can be read");
+    assert_eq!(pins, generator::pins());
+    let file = std::fs::read(root().join("samples/torus-1.grid")).expect("the sample can be read");
+    let mut grid = Grid::from_file(&file).expect("the sample is taken");
+    for line in pins.lines().skip(1) {
+        let place: Vec<usize> = line.split(',').map(|number| number.parse().expect("a number")).collect();
+        grid.pin(place[0] + 16 * (place[1] + 16 * place[2])).expect("a voxel of the grid");
+    }
+    grid.carve_to_the_end().expect("a begun grid is carved");
+    let kept = grid.status().iter().filter(|&&s| s != GONE).count();
+    assert_eq!((kept, grid.record().openings, grid.record().euler), (344, 0, 1));
+    assert_eq!(grid.ended_by(), Some(Refusal::NOTHING_TO_OPEN));
+}
+
 /// Left out where the program was not built.
 #[test]
 fn lines_of_the_program() {

@@ -112,7 +112,7 @@ fn the_width_that_is_written() {
 fn of_begin_and_write() {
     let lent = |values: &[i32], room: usize, sides: Sides| {
         let (mut dist, mut status, mut file) = ([77; N], [77; N], vec![0xEE; room]);
-        let answers = (begin(sides, 0, values, &mut dist, &mut status).err(), write(sides, 0, values, &mut file).err());
+        let answers = (begin(sides, 0, values, &[0; N], &mut dist, &mut status).err(), write(sides, 0, values, &mut file).err());
         assert!(dist == [77; N] && status == [77; N] && file.iter().all(|&byte| byte == 0xEE));
         answers
     };
