@@ -184,11 +184,11 @@ fn carve_file(file: &[u8]) -> Result<String, Refused> {
     let mut values = vec![0; side(2) * side(3) * side(4)];
     let (sides, t) = read(file, &mut values, 24)?;
     let n = sides.n();
-    let (mut dist, mut status) = (vec![0i32; n], vec![0u8; n]);
-    let mut r = begin(sides, t, &values, &mut dist, &mut status)?;
+    let (mut dist, marks, mut status) = (vec![0i32; n], vec![0u8; n], vec![0u8; n]);
+    let mut r = begin(sides, t, &values, &marks, &mut dist, &mut status)?;
     loop {
-        carve(&mut r, &dist, &mut status, u64::MAX)?;
-        if open(&mut r, &dist, &mut status).is_err() {
+        carve(&mut r, &dist, &marks, &mut status, u64::MAX)?;
+        if open(&mut r, &dist, &marks, &mut status).is_err() {
             break;
         }
     }

@@ -1,4 +1,7 @@
-//! Sides, voxels, values and begin (document 01, "Grid and worked distances"; document 02, CR 5 for the range of values and CR 6 for gaps).
+//! Sides, voxels, values and begin (document 01, "Grid and worked distances"; document 02, CR 5 for the range of values, CR 6 for gaps and CR 7 for
+//! marks).
+
+use crate::marks::{hurried, is_mark, pinned};
 
 /// The mark of a missing point.
 pub const MISSING: i32 = -2_147_483_648;
@@ -200,16 +203,19 @@ fn steps_to(sides: &Sides, set: &[bool]) -> Vec<i64> {
     steps
 }
 
-pub fn begin(sides: Sides, t: u16, values: &[i32], dist: &mut [i32], status: &mut [u8]) -> Result<Record, Refused> {
+pub fn begin(sides: Sides, t: u16, values: &[i32], marks: &[u8], dist: &mut [i32], status: &mut [u8]) -> Result<Record, Refused> {
     if !sides.fit() {
         return Err(1);
     }
     let n = sides.n();
-    if values.len() != n || dist.len() != n || status.len() != n {
+    if values.len() != n || marks.len() != n || dist.len() != n || status.len() != n {
         return Err(2);
     }
     if !values.iter().all(|&v| is_value(v)) {
         return Err(28);
+    }
+    if !marks.iter().all(|&mark| is_mark(mark)) {
+        return Err(29);
     }
     if (0..n).any(|i| sides.border(i) && negative(values[i])) {
         return Err(3);
@@ -244,7 +250,7 @@ pub fn begin(sides: Sides, t: u16, values: &[i32], dist: &mut [i32], status: &mu
         let bare = sides.face_neighbours(i).into_iter().any(|j| !j.is_some_and(|j| kept[j]));
         status[i] = if !kept[i] {
             0
-        } else if !s[i] && bare {
+        } else if !s[i] && (hurried(marks[i]) || (bare && !pinned(marks[i]))) {
             3
         } else {
             1

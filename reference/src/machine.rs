@@ -1,8 +1,9 @@
-//! The carving machine and surface points (document 01, "The carving machine", "Surface points", numbers 5 to 15). `points`, every crossing in a
-//! row, is a call of this library and not of document 01.
+//! The carving machine and surface points (document 01, "The carving machine", "Surface points", numbers 5 to 15), with marks (document 02, CR 7).
+//! `points`, every crossing in a row, is a call of this library and not of document 01.
 
 use crate::grid::{Record, Refused};
 use crate::local::{local_test, Local};
+use crate::marks::{hurried, is_mark, pinned};
 
 pub struct Carving {
     pub examined: u64,
@@ -15,13 +16,16 @@ pub struct Opening {
     pub local: Local,
 }
 
-/// 1, 2, 7.
-fn unfit(r: &Record, dist: &[i32], status: &[u8]) -> Option<Refused> {
+/// 1, 2, 7, 29.
+fn unfit(r: &Record, dist: &[i32], marks: Option<&[u8]>, status: &[u8]) -> Option<Refused> {
     if !r.sides.fit() {
         return Some(1);
     }
     let n = r.sides.n();
     if dist.len() != n || status.len() != n {
+        return Some(2);
+    }
+    if marks.is_some_and(|marks| marks.len() != n) {
         return Some(2);
     }
     let n = n as u64;
@@ -30,11 +34,15 @@ fn unfit(r: &Record, dist: &[i32], status: &[u8]) -> Option<Refused> {
     if counts || (0..n as usize).any(voxel) {
         return Some(7);
     }
+    if marks.is_some_and(|marks| !marks.iter().all(|&mark| is_mark(mark))) {
+        return Some(29);
+    }
     None
 }
 
-fn ready(r: &Record, dist: &[i32], status: &[u8]) -> Result<(), Refused> {
-    if let Some(number) = unfit(r, dist, status) {
+/// 1, 2, 7, 29, 8.
+fn ready(r: &Record, dist: &[i32], marks: Option<&[u8]>, status: &[u8]) -> Result<(), Refused> {
+    if let Some(number) = unfit(r, dist, marks, status) {
         return Err(number);
     }
     if r.finished() {
@@ -53,12 +61,12 @@ pub fn test_at(r: &Record, status: &[u8], index: usize) -> Local {
     local_test(&block)
 }
 
-/// The voxel is gone, and every kept voxel outside S that touches it becomes pending.
-fn remove(r: &mut Record, dist: &[i32], status: &mut [u8], index: usize) {
+/// The voxel is gone, and every kept voxel outside S that touches it becomes pending, pinned ones left as they are.
+fn remove(r: &mut Record, dist: &[i32], marks: &[u8], status: &mut [u8], index: usize) {
     status[index] = 0;
     r.removals += 1;
     for j in r.sides.touching(index) {
-        if status[j] != 0 && dist[j] >= 0 {
+        if status[j] != 0 && dist[j] >= 0 && !pinned(marks[j]) {
             status[j] = 3;
         }
     }
@@ -79,18 +87,18 @@ fn any_pending(status: &[u8]) -> bool {
     status.contains(&3)
 }
 
-/// Pending voxels are kept ordered by distance and index, so that long runs end.
-pub fn carve(r: &mut Record, dist: &[i32], status: &mut [u8], limit: u64) -> Result<Carving, Refused> {
-    ready(r, dist, status)?;
-    let key = |i: usize| (std::cmp::Reverse(dist[i]), i);
+/// Pending voxels are kept in order, hurried ones first, then by distance and index, so that long runs end.
+pub fn carve(r: &mut Record, dist: &[i32], marks: &[u8], status: &mut [u8], limit: u64) -> Result<Carving, Refused> {
+    ready(r, dist, Some(marks), status)?;
+    let key = |i: usize| (!hurried(marks[i]), std::cmp::Reverse(dist[i]), i);
     let mut pending: std::collections::BTreeSet<_> = (0..status.len()).filter(|&i| status[i] == 3).map(key).collect();
     let (mut examined, mut removed) = (0, 0);
     while examined < limit {
-        let Some((_, i)) = pending.pop_first() else { break };
+        let Some((_, _, i)) = pending.pop_first() else { break };
         status[i] = 1;
         examined += 1;
-        if test_at(r, status, i).passes() {
-            remove(r, dist, status, i);
+        if !pinned(marks[i]) && test_at(r, status, i).passes() {
+            remove(r, dist, marks, status, i);
             removed += 1;
             pending.extend(r.sides.touching(i).into_iter().filter(|&j| status[j] == 3).map(key));
         }
@@ -99,8 +107,8 @@ pub fn carve(r: &mut Record, dist: &[i32], status: &mut [u8], limit: u64) -> Res
     Ok(Carving { examined, removed, pending: any_pending(status) })
 }
 
-pub fn take(r: &mut Record, dist: &[i32], status: &mut [u8], index: u64) -> Result<Local, Refused> {
-    ready(r, dist, status)?;
+pub fn take(r: &mut Record, dist: &[i32], marks: &[u8], status: &mut [u8], index: u64) -> Result<Local, Refused> {
+    ready(r, dist, Some(marks), status)?;
     if index >= r.sides.n() as u64 {
         return Err(5);
     }
@@ -111,16 +119,19 @@ pub fn take(r: &mut Record, dist: &[i32], status: &mut [u8], index: u64) -> Resu
     if dist[index] < 0 {
         return Err(11);
     }
+    if pinned(marks[index]) {
+        return Err(30);
+    }
     let local = test_at(r, status, index);
     if !local.passes() {
         return Err(12);
     }
-    remove(r, dist, status, index);
+    remove(r, dist, marks, status, index);
     Ok(local)
 }
 
-pub fn open(r: &mut Record, dist: &[i32], status: &mut [u8]) -> Result<Opening, Refused> {
-    ready(r, dist, status)?;
+pub fn open(r: &mut Record, dist: &[i32], marks: &[u8], status: &mut [u8]) -> Result<Opening, Refused> {
+    ready(r, dist, Some(marks), status)?;
     if any_pending(status) {
         return Err(13);
     }
@@ -128,18 +139,19 @@ pub fn open(r: &mut Record, dist: &[i32], status: &mut [u8]) -> Result<Opening, 
         return Err(14);
     }
     let bare = |i: usize| r.sides.face_neighbours(i).into_iter().any(|j| j.is_none_or(|j| status[j] == 0));
-    let Some(index) = foremost(dist, (0..status.len()).filter(|&i| status[i] != 0 && dist[i] >= 0 && bare(i))) else {
+    let may_go = |i: usize| status[i] != 0 && dist[i] >= 0 && !pinned(marks[i]);
+    let Some(index) = foremost(dist, (0..status.len()).filter(|&i| may_go(i) && bare(i))) else {
         return Err(15);
     };
     let local = test_at(r, status, index);
-    remove(r, dist, status, index);
+    remove(r, dist, marks, status, index);
     r.openings += 1;
     r.euler += i64::from(local.k) - i64::from(local.m);
     Ok(Opening { index, local })
 }
 
 pub fn finish(r: &mut Record, dist: &mut [i32], status: &[u8]) -> Result<(), Refused> {
-    ready(r, dist, status)?;
+    ready(r, dist, None, status)?;
     if any_pending(status) {
         return Err(13);
     }
@@ -153,7 +165,7 @@ pub fn finish(r: &mut Record, dist: &mut [i32], status: &[u8]) -> Result<(), Ref
 }
 
 pub fn crossing(r: &Record, dist: &[i32], status: &[u8], index: u64, axis: u64) -> Result<Option<[f64; 3]>, Refused> {
-    if let Some(number) = unfit(r, dist, status) {
+    if let Some(number) = unfit(r, dist, None, status) {
         return Err(number);
     }
     if !r.finished() {
@@ -193,7 +205,7 @@ pub struct Points {
 /// The points of all crossings from a position on, three doubles each, until there is no room for one more or the positions end. Position
 /// 3 i + k stands for the line from voxel i along axis k.
 pub fn points(r: &Record, dist: &[i32], status: &[u8], position: u64, out: &mut [f64]) -> Result<Points, Refused> {
-    if let Some(number) = unfit(r, dist, status) {
+    if let Some(number) = unfit(r, dist, None, status) {
         return Err(number);
     }
     if !r.finished() {

@@ -13,6 +13,7 @@ pub struct Replay {
     pub t: u16,
     pub values: Vec<i32>,
     pub dist: Vec<i32>,
+    pub marks: Vec<u8>,
     pub status: Vec<u8>,
     pub file: Vec<u8>,
     pub record: Record,
@@ -103,8 +104,8 @@ impl Replay {
     pub fn new() -> Self {
         let sides = Sides { a: 3, b: 3, c: 3 };
         let record = Record { sides, t: 0, openings: 0, removals: 0, examinations: 0, euler: 1, finished: 0 };
-        let (values, dist, status, file) = (vec![], vec![], vec![], vec![]);
-        let mut new = Replay { sides, t: 0, values, dist, status, file, record, hash_after_each: false };
+        let (values, dist, marks, status, file) = (vec![], vec![], vec![], vec![], vec![]);
+        let mut new = Replay { sides, t: 0, values, dist, marks, status, file, record, hash_after_each: false };
         new.make_buffers();
         new
     }
@@ -114,6 +115,7 @@ impl Replay {
         let n = if [s.a, s.b, s.c].iter().any(|&x| x > 64) { 0 } else { s.n() };
         self.values = vec![0; n];
         self.dist = vec![0x5A5A_5A5A; n];
+        self.marks = vec![0; n];
         self.status = vec![0x5A; n];
     }
 
@@ -127,6 +129,7 @@ impl Replay {
         Ok(match name {
             "values" => format!("{:?}", self.values),
             "dist" => format!("{:?}", self.dist),
+            "marks" => format!("{:?}", self.marks),
             "status" => format!("{:?}", self.status),
             other => return Err(format!("unknown buffer: {other}")),
         })
@@ -154,6 +157,7 @@ impl Replay {
             "T" => self.t = words.number()?,
             "values" => edit(&mut self.values, words)?,
             "dist" => edit(&mut self.dist, words)?,
+            "marks" => edit(&mut self.marks, words)?,
             "status" => edit(&mut self.status, words)?,
             "rec" => return self.record_command(words),
             "file" => self.file = words.bytes()?,
@@ -222,16 +226,16 @@ impl Replay {
     }
 
     fn call(&mut self, name: &str, words: &mut Words) -> Result<Result<String, Refused>, Mistake> {
-        let Replay { record: r, dist, status, .. } = self;
+        let Replay { record: r, dist, marks, status, .. } = self;
         Ok(match name {
-            "begin" => begin(self.sides, self.t, &self.values, dist, status).map(|new| {
+            "begin" => begin(self.sides, self.t, &self.values, marks, dist, status).map(|new| {
                 self.record = new;
                 shown(&new)
             }),
-            "carve" => carve(r, dist, status, words.number::<u32>()?.into())
+            "carve" => carve(r, dist, marks, status, words.number::<u32>()?.into())
                 .map(|c| format!("examined {} removed {} pending {} | {}", c.examined, c.removed, u8::from(c.pending), shown(r))),
-            "take" => take(r, dist, status, words.number()?).map(|t| format!("gone k {} m {} | {}", t.k, t.m, shown(r))),
-            "open" => open(r, dist, status).map(|o| format!("opened {} k {} m {} | {}", o.index, o.local.k, o.local.m, shown(r))),
+            "take" => take(r, dist, marks, status, words.number()?).map(|t| format!("gone k {} m {} | {}", t.k, t.m, shown(r))),
+            "open" => open(r, dist, marks, status).map(|o| format!("opened {} k {} m {} | {}", o.index, o.local.k, o.local.m, shown(r))),
             "finish" => finish(r, dist, status).map(|()| shown(r)),
             "crossing" => {
                 let (index, axis) = (words.number()?, words.number::<u32>()?);

@@ -24,7 +24,7 @@ fn block(sides: Sides, changes: &[(Voxel, i32)]) -> Vec<i32> {
 /// What begin leaves of the distances.
 fn worked(sides: Sides, values: &[i32]) -> Vec<i32> {
     let (mut dist, mut status) = (vec![0; sides.n()], vec![0; sides.n()]);
-    begin(sides, 0, values, &mut dist, &mut status).expect("a grid that begin takes");
+    begin(sides, 0, values, &vec![0; sides.n()], &mut dist, &mut status).expect("a grid that begin takes");
     dist
 }
 
@@ -166,7 +166,7 @@ fn a_fill_is_discarded_with_its_group() {
 fn refusals_are_those_of_the_values_as_given() {
     let refused = |values: &[i32]| {
         let (mut dist, mut status) = (vec![77; FIVE.n()], vec![77; FIVE.n()]);
-        let number = begin(FIVE, 0, values, &mut dist, &mut status).err();
+        let number = begin(FIVE, 0, values, &[0; 125], &mut dist, &mut status).err();
         assert!(number.is_none() || dist.iter().all(|&d| d == 77) && status.iter().all(|&s| s == 77));
         number
     };
@@ -185,11 +185,11 @@ fn a_filled_voxel_stays() {
     let middle = index(FIVE, [2, 2, 2]);
     let values = block(FIVE, &[([2, 2, 2], MISSING), ([1, 1, 1], 5), ([3, 1, 2], 3), ([3, 3, 3], MISSING)]);
     let (mut dist, mut status) = (vec![0; FIVE.n()], vec![0; FIVE.n()]);
-    let mut r = begin(FIVE, 65_535, &values, &mut dist, &mut status).expect("a grid that begin takes");
-    assert_eq!(take(&mut r, &dist, &mut status, middle as u64).err(), Some(11));
+    let mut r = begin(FIVE, 65_535, &values, &[0; 125], &mut dist, &mut status).expect("a grid that begin takes");
+    assert_eq!(take(&mut r, &dist, &[0; 125], &mut status, middle as u64).err(), Some(11));
     loop {
-        carve(&mut r, &dist, &mut status, u64::MAX).expect("a fit record");
-        if open(&mut r, &dist, &mut status).is_err() {
+        carve(&mut r, &dist, &[0; 125], &mut status, u64::MAX).expect("a fit record");
+        if open(&mut r, &dist, &[0; 125], &mut status).is_err() {
             break;
         }
     }

@@ -104,7 +104,7 @@ fn number_28_is_a_wide_record_s_last_check() {
 #[test]
 fn number_28_of_begin_and_of_the_writer_comes_straight_after_2() {
     let numbers = |sides: Sides, values: &[i32]| {
-        let begun = begin(sides, 0, values, &mut [0; N], &mut [0; N]).err();
+        let begun = begin(sides, 0, values, &[0; N], &mut [0; N], &mut [0; N]).err();
         let written = |room: usize| write(&sides, 0, values, &mut vec![0; room]).err();
         [begun, written(1000), written(0)]
     };
@@ -155,6 +155,6 @@ fn worked_distances_beyond_the_values() {
     let inside = sides.index([1, 1, 1]).expect("a voxel");
     values[inside] = -MOST;
     let (mut dist, mut status) = (vec![0; sides.n()], vec![0; sides.n()]);
-    assert!(begin(sides, 0, &values, &mut dist, &mut status).is_ok());
+    assert!(begin(sides, 0, &values, &vec![0; sides.n()], &mut dist, &mut status).is_ok());
     assert_eq!((dist[inside], dist[inside + 1], dist[sides.n() - 1]), (-MOST, MOST, MOST + 3 * 62));
 }

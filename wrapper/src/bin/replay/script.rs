@@ -9,6 +9,7 @@ pub struct State {
     allowed: u16,
     values: Vec<i32>,
     dist: Vec<i32>,
+    marks: Vec<u8>,
     status: Vec<u8>,
     file: Vec<u8>,
     record: Record,
@@ -22,8 +23,8 @@ impl State {
     pub fn new() -> Self {
         let sides = Sides { a: 3, b: 3, c: 3 };
         let record = Record { sides, euler: 1, ..Record::default() };
-        let mut state =
-            State { sides, allowed: 0, values: Vec::new(), dist: Vec::new(), status: Vec::new(), file: Vec::new(), record, hashes: false };
+        let (values, dist, marks, status, file) = (Vec::new(), Vec::new(), Vec::new(), Vec::new(), Vec::new());
+        let mut state = State { sides, allowed: 0, values, dist, marks, status, file, record, hashes: false };
         state.make_buffers();
         state
     }
@@ -50,6 +51,7 @@ impl State {
             "T" => self.allowed = words.number()?,
             "values" => edit(&mut self.values, words)?,
             "dist" => edit(&mut self.dist, words)?,
+            "marks" => edit(&mut self.marks, words)?,
             "status" => edit(&mut self.status, words)?,
             "rec" => return self.poke(words),
             "file" => self.file = words.bytes()?,
@@ -79,6 +81,7 @@ impl State {
         let n = if a.max(b).max(c) > 64 { 0 } else { a * b * c };
         self.values = vec![0; n];
         self.dist = vec![0x5A5A_5A5A; n];
+        self.marks = vec![wattlerugby::UNMARKED; n];
         self.status = vec![0x5A; n];
     }
 
@@ -114,6 +117,7 @@ impl State {
         match buffer {
             "values" => Ok(Some(format!("{:?}", self.values))),
             "dist" => Ok(Some(format!("{:?}", self.dist))),
+            "marks" => Ok(Some(format!("{:?}", self.marks))),
             "status" => Ok(Some(format!("{:?}", self.status))),
             _ => Err(format!("there is no buffer {buffer}")),
         }
@@ -152,15 +156,19 @@ impl State {
     }
 
     fn call(&mut self, name: &str, words: &mut Words) -> Result<Result<String, Refusal>, String> {
-        let (given, dist, status) = (self.record, &mut self.dist, &mut self.status);
+        let (given, dist, marks, status) = (self.record, &mut self.dist, &self.marks, &mut self.status);
         Ok(match name {
-            "begin" => begin(self.sides, self.allowed, &self.values, dist, status).map(|next| self.goes_on(next)),
-            "carve" => carve(given, dist, status, words.number()?).map(|c| {
+            "begin" => begin(self.sides, self.allowed, &self.values, marks, dist, status).map(|next| self.goes_on(next)),
+            "carve" => carve(given, dist, marks, status, words.number()?).map(|c| {
                 let next = self.goes_on(c.next);
                 format!("examined {} removed {} pending {} | {next}", c.examined, c.removed, u8::from(c.pending))
             }),
-            "take" => take(given, dist, status, words.number()?).map(|t| format!("gone k {} m {} | {}", t.k, t.m, self.goes_on(t.next))),
-            "open" => open(given, dist, status).map(|o| format!("opened {} k {} m {} | {}", o.index, o.k, o.m, self.goes_on(o.next))),
+            "take" => {
+                take(given, dist, marks, status, words.number()?).map(|t| format!("gone k {} m {} | {}", t.k, t.m, self.goes_on(t.next)))
+            }
+            "open" => {
+                open(given, dist, marks, status).map(|o| format!("opened {} k {} m {} | {}", o.index, o.k, o.m, self.goes_on(o.next)))
+            }
             "finish" => finish(given, dist, status).map(|next| self.goes_on(next)),
             "crossing" => crossing(given, dist, status, words.number()?, words.number()?).map(|point| match point {
                 None => "none".to_string(),

@@ -1,0 +1,14 @@
+//! Mark bytes, one for each voxel (document 02, CR 7): 0, 1 pinned, 2 hurried, 3 both.
+
+/// Any other is number 29.
+pub fn is_mark(mark: u8) -> bool {
+    mark <= 3
+}
+
+pub fn pinned(mark: u8) -> bool {
+    mark == 1 || mark == 3
+}
+
+pub fn hurried(mark: u8) -> bool {
+    mark == 2 || mark == 3
+}
