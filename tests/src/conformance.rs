@@ -180,6 +180,32 @@ mod tests {
         }
     }
 
+    #[test]
+    fn an_answer_for_other_marks_is_told() {
+        let pair = ["sides 4 4 3", "values fill 6", "values set 21 -6", "values set 26 -6", "begin"];
+        let all = [
+            ("marks set 0 4", "carve 1", "29", "carve refused: 29, at the first voxel alone"),
+            ("marks set 47 255", "open", "29", "open: 29 before 13"),
+            ("marks len 0", "take 22", "2", "take refused: 2, no marks"),
+            ("marks set 22 3", "take 22", "30", "take refused: 30, both"),
+            ("marks fill 1", "take 21", "11", "take: 11 before 30"),
+            ("marks fill 9", "begin", "29", "begin refused: 29, at two voxels or more"),
+        ];
+        for (line, call, number, met) in all {
+            let mut state = Replay::new();
+            for line in pair.into_iter().chain([line]) {
+                state.line(line).expect("a line of the language");
+            }
+            let entries = |answer: &str| Before::of(&state, call).entries(answer);
+            let name = call.split(' ').next().unwrap_or(call);
+            assert!(entries(&format!("{name} refused {number}")).is_ok_and(|all| all.contains(&met.to_string())), "{met}");
+            for other in ["2", "7", "29", "8", "11", "30", "12", "13"].into_iter().filter(|&other| other != number) {
+                assert!(entries(&format!("{name} refused {other}")).is_err(), "{met}: {other}");
+            }
+            assert!(entries(&format!("{name} ok")).is_err(), "{met}");
+        }
+    }
+
     /// A wide grid is given the length of wide layers to write, and a narrow one that of narrow ones.
     #[test]
     fn the_length_for_the_width_is_told() {

@@ -1,7 +1,8 @@
 //! Every fault that a call has, each by itself and whether or not another one is answered first. From document 01's numbers, document 02's for
-//! `write`, for patch records, for the order of layers and for values of 32 bits, and docs/RULES.md for `points`, which is ours, with the order of
+//! `write`, for patch records, for the order of layers, for values of 32 bits and for marks, and docs/RULES.md for `points`, which is ours, with the order of
 //! checks beside them, and not from the reference's code: so the kit can be asked for every pair of faults, and the reference is held to the order.
 
+use crate::marks::{pinned, wrong_mark};
 use crate::records::{contents, is_measured, negative, parts, patch_index, second_byte, written_length, written_width, LayerRecord};
 use crate::records::{GREATEST, LEAST, LONGEST_INPUT, MISSING, NARROW, PATCH_LENGTH, WIDE};
 use reference::grid::Sides;
@@ -37,13 +38,13 @@ impl Fault {
 pub const PATCH: [Check; 3] = ["patch 21", "patch 22", "5"];
 
 /// A call's checks in their order (document 01, the last two sentences of "Numbers that come from the state"; document 02, CR 1 for `write`, CR 2
-/// for what follows the layers of a file and for the program's 25, CR 4 for 27 and CR 5 for 28).
+/// for what follows the layers of a file and for the program's 25, CR 4 for 27, CR 5 for 28 and CR 7 for 29 and 30).
 pub fn order(call: &str) -> Option<&'static [Check]> {
     Some(match call {
-        "begin" => &["1", "2", "28", "3", "4"],
-        "carve" => &["1", "2", "7", "8"],
-        "take" => &["1", "2", "7", "8", "5", "10", "11", "12"],
-        "open" => &["1", "2", "7", "8", "13", "14", "15"],
+        "begin" => &["1", "2", "28", "29", "3", "4"],
+        "carve" => &["1", "2", "7", "29", "8"],
+        "take" => &["1", "2", "7", "29", "8", "5", "10", "11", "30", "12"],
+        "open" => &["1", "2", "7", "29", "8", "13", "14", "15"],
         "finish" => &["1", "2", "7", "8", "13"],
         "crossing" => &["1", "2", "7", "9", "5", "6"],
         "points" => &["1", "2", "7", "9", "5"],
@@ -64,8 +65,10 @@ pub fn faults(state: &Replay, command: &str) -> Option<Vec<Fault>> {
     match call {
         "begin" => {
             found.sides(&state.sides, 64);
-            found.lengths(&state.sides, &[("values", state.values.len()), ("dist", state.dist.len()), ("status", state.status.len())]);
+            found.lengths(&state.sides, &[("values", state.values.len()), ("marks", state.marks.len())]);
+            found.lengths(&state.sides, &[("dist", state.dist.len()), ("status", state.status.len())]);
             found.range(&state.values);
+            found.marks(&state.marks);
             found.values(&state.sides, &state.values);
         }
         "readlayer" => found.layer(&state.sides, &state.file, argument(1)),
@@ -93,6 +96,10 @@ pub fn faults(state: &Replay, command: &str) -> Option<Vec<Fault>> {
         }
         _ => {
             found.record(state);
+            if ["carve", "take", "open"].contains(&call) {
+                found.lengths(&state.record.sides, &[("marks", state.marks.len())]);
+                found.marks(&state.marks);
+            }
             found.argument(call, state, argument(1), argument(2));
         }
     }
@@ -223,6 +230,7 @@ impl Found {
             let (short, long) = match buffer {
                 "values" => ("values short", "values long"),
                 "dist" => ("dist short", "dist long"),
+                "marks" => ("marks short", "marks long"),
                 _ => ("status short", "status long"),
             };
             self.if_so((len as u128) < n, "2", short);
@@ -233,6 +241,14 @@ impl Found {
     /// 28 of values that are lent.
     fn range(&mut self, values: &[i32]) {
         wrong_values(values.iter().copied()).into_iter().for_each(|cause| self.add("28", cause));
+    }
+
+    /// 29.
+    fn marks(&mut self, marks: &[u8]) {
+        let mut causes: Vec<&str> = marks.iter().filter_map(|&mark| wrong_mark(mark)).collect();
+        causes.sort_unstable();
+        causes.dedup();
+        causes.into_iter().for_each(|cause| self.add("29", cause));
     }
 
     /// 3 and 4.
@@ -273,9 +289,10 @@ impl Found {
         self.if_so(!r.finished(), "9", "");
     }
 
-    /// 5, 6, 10 to 15.
+    /// 5, 6, 10 to 15, 30.
     fn argument(&mut self, call: &str, state: &Replay, index: u64, axis: u64) {
         let (r, dist, status) = (&state.record, &state.dist, &state.status);
+        let held = |i: usize| state.marks.get(i).is_some_and(|&mark| pinned(mark));
         let n = size(&r.sides);
         let within = u128::from(index) < n;
         self.if_so(!within, "5", "");
@@ -283,6 +300,7 @@ impl Found {
         if within && i < dist.len().min(status.len()) {
             self.if_so(status[i] == 0, "10", "");
             self.if_so(dist[i] < 0, "11", "");
+            self.if_so(held(i), "30", "");
             self.if_so(call == "take" && !passes(&r.sides, status, i), "12", "");
         }
         self.if_so(axis > 2, "6", "axis over 2");
@@ -295,7 +313,7 @@ impl Found {
         self.if_so(status.contains(&3), "13", "");
         self.if_so(r.openings == u64::from(r.t), "14", "");
         let voxels = n.min(dist.len().min(status.len()) as u128) as usize;
-        let to_open = |i: usize| status[i] != 0 && dist[i] >= 0 && bare(&r.sides, status, i);
+        let to_open = |i: usize| status[i] != 0 && dist[i] >= 0 && !held(i) && bare(&r.sides, status, i);
         self.if_so(call == "open" && !(0..voxels).any(to_open), "15", "");
     }
 

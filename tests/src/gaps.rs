@@ -74,7 +74,7 @@ mod tests {
 
     fn begun(sides: Sides, values: &[i32]) -> Result<(Vec<i32>, Vec<u8>), u8> {
         let (mut dist, mut status) = (vec![0x5A; sides.n()], vec![0x5A; sides.n()]);
-        begin(sides, 3, values, &mut dist, &mut status).map(|_| (dist, status))
+        begin(sides, 3, values, &vec![0; sides.n()], &mut dist, &mut status).map(|_| (dist, status))
     }
 
     /// What begin leaves is what it leaves of the same grid with its gaps measured; and what it refuses, it refuses for the same number.

@@ -7,6 +7,7 @@ pub mod faults;
 pub mod files;
 pub mod gaps;
 pub mod grids;
+pub mod marks;
 pub mod mutants;
 pub mod random;
 pub mod records;

@@ -1,6 +1,7 @@
 //! Call scripts (docs/CALL-SCRIPTS.md). Those from seeds: lists of calls from begin, crafted records, unfit ones, finished grids, files read, patched,
-//! written, out of order and of both widths, walls with gaps, blocks; each is made along with a run of the reference, so that it can choose voxels by
-//! what they are at that moment. And those written out, in the modules below: every fault, every worked case, and what chance leaves out.
+//! written, out of order and of both widths, walls with gaps, marks that change, blocks; each is made along with a run of the reference, so that it
+//! can choose voxels by what they are at that moment. And those written out, in the modules below: every fault, every worked case, and what chance
+//! leaves out.
 
 pub mod cases;
 mod crafted;
@@ -8,6 +9,7 @@ mod damage;
 mod filling;
 pub mod language;
 mod long;
+mod marking;
 mod ordering;
 mod patching;
 mod points;
@@ -25,12 +27,28 @@ use reference::machine::{carve, finish, open, take};
 use std::fmt::{Display, Write};
 
 /// The kinds of scripts from seeds.
-pub const SEEDED: [&str; 13] =
-    ["lists", "takes", "openings", "crafted", "unfit", "crossings", "files", "orders", "patches", "writes", "widths", "gaps", "blocks"];
+pub const SEEDED: [&str; 14] = [
+    "lists",
+    "takes",
+    "openings",
+    "crafted",
+    "unfit",
+    "crossings",
+    "files",
+    "orders",
+    "patches",
+    "writes",
+    "widths",
+    "gaps",
+    "marks",
+    "blocks",
+];
 
 /// The kinds of scripts that are written out. What takes longest stands last.
-pub const WRITTEN: [&str; 12] =
-    ["cases", "language", "refusals", "damage", "ordering", "patching", "writing", "widening", "filling", "long", "points", "shapes"];
+pub const WRITTEN: [&str; 13] = [
+    "cases", "language", "refusals", "damage", "ordering", "patching", "writing", "widening", "filling", "marking", "long", "points",
+    "shapes",
+];
 
 /// How many scripts of each seeded kind a second supplier is given.
 const GIVEN: u64 = 40;
@@ -39,7 +57,7 @@ const GIVEN: u64 = 40;
 pub fn conformance(kind: &str) -> Vec<String> {
     if SEEDED.contains(&kind) {
         // What carves needs room for ties and tunnels; the rest stays small.
-        let greatest = if ["lists", "takes", "openings", "crafted", "gaps"].contains(&kind) { 9 } else { 5 };
+        let greatest = if ["lists", "takes", "openings", "crafted", "gaps", "marks"].contains(&kind) { 9 } else { 5 };
         return (1..=GIVEN).map(|seed| script(kind, seed, greatest)).collect();
     }
     let written = match kind {
@@ -51,6 +69,7 @@ pub fn conformance(kind: &str) -> Vec<String> {
         "writing" => writing::scripts(),
         "widening" => widening::scripts(),
         "filling" => filling::scripts(),
+        "marking" => marking::scripts(),
         "patching" => patching::scripts(),
         "long" => long::scripts(),
         "points" => points::scripts(),
@@ -78,6 +97,7 @@ pub fn script(kind: &str, seed: u64, greatest: i64) -> String {
         "writes" => m.writes(seed, greatest),
         "widths" => m.widths(greatest),
         "gaps" => m.gaps(greatest),
+        "marks" => m.marked(greatest),
         "large" => m.large(),
         _ => m.blocks(),
     }
@@ -89,6 +109,7 @@ struct Maker {
     text: String,
     record: Record,
     dist: Vec<i32>,
+    marks: Vec<u8>,
     status: Vec<u8>,
 }
 
@@ -96,7 +117,8 @@ impl Maker {
     fn new(seed: u64) -> Self {
         let sides = Sides { a: 3, b: 3, c: 3 };
         let record = Record { sides, t: 0, openings: 0, removals: 0, examinations: 0, euler: 1, finished: 0 };
-        Maker { r: Random::new(seed.wrapping_mul(0x9E37_79B9)), text: String::new(), record, dist: Vec::new(), status: Vec::new() }
+        let (dist, marks, status) = (Vec::new(), Vec::new(), Vec::new());
+        Maker { r: Random::new(seed.wrapping_mul(0x9E37_79B9)), text: String::new(), record, dist, marks, status }
     }
 
     fn say(&mut self, line: impl Display) {
@@ -113,6 +135,7 @@ impl Maker {
         let Sides { a, b, c } = sides;
         self.say(format!("autohash 1\nsides {a} {b} {c}\nT {t}"));
         self.dist = vec![0x5A5A_5A5A; sides.n()];
+        self.marks = vec![0; sides.n()];
         self.status = vec![0x5A; sides.n()];
         self.record = Record { sides, t, openings: 0, removals: 0, examinations: 0, euler: 1, finished: 0 };
         self.show_record();
@@ -129,17 +152,17 @@ impl Maker {
 
     fn carve(&mut self, limit: u64) {
         self.say(format!("carve {limit}"));
-        let _ = carve(&mut self.record, &self.dist, &mut self.status, limit);
+        let _ = carve(&mut self.record, &self.dist, &self.marks, &mut self.status, limit);
     }
 
     fn take(&mut self, index: u64) {
         self.say(format!("take {index}"));
-        let _ = take(&mut self.record, &self.dist, &mut self.status, index);
+        let _ = take(&mut self.record, &self.dist, &self.marks, &mut self.status, index);
     }
 
     fn open(&mut self) {
         self.say("open");
-        let _ = open(&mut self.record, &self.dist, &mut self.status);
+        let _ = open(&mut self.record, &self.dist, &self.marks, &mut self.status);
     }
 
     fn finish(&mut self) {
@@ -271,7 +294,7 @@ impl Maker {
         }
         self.list_of("values", &values);
         self.say("begin");
-        match begin(sides, t, &values, &mut self.dist, &mut self.status) {
+        match begin(sides, t, &values, &self.marks, &mut self.dist, &mut self.status) {
             Ok(record) => self.record = record,
             Err(_) => return self.say("carve 1\nhash"),
         }
@@ -285,7 +308,7 @@ impl Maker {
         }
     }
 
-    /// A grid too large to list: a few lumps of negative voxels in an even field, and walled gaps where there is room.
+    /// A grid too large to list: a few lumps of negative voxels in an even field, walled gaps where there is room, and marks.
     fn large(&mut self) {
         let sides = Sides { a: self.r.pick(&[31, 33, 64]), b: self.r.pick(&[33, 40, 64]), c: self.r.pick(&[3, 32, 64]) };
         self.set(sides, 65535);
@@ -312,8 +335,14 @@ impl Maker {
                 self.say(format!("values set {i} {value}"));
             }
         }
+        for _ in 0..self.r.pick(&[0, 3, 30]) {
+            let v = [sides.a, sides.b, sides.c].map(|side| self.r.between(0, side as i64 - 1));
+            let mark = self.r.below(4) as u8;
+            self.mark(sides.index(v).expect("a voxel of the grid"), mark);
+        }
         self.say("begin");
-        self.record = begin(sides, 65535, &values, &mut self.dist, &mut self.status).expect("no negative voxel is on the border");
+        self.record =
+            begin(sides, 65535, &values, &self.marks, &mut self.dist, &mut self.status).expect("no negative voxel is on the border");
         let count = self.r.between(3, 12);
         self.calls(count, [50, 20, 28, 0]);
         self.and_finish();
@@ -347,7 +376,9 @@ impl Maker {
         }
         let (unfit, fit) = (self.r.pick(&[2, 65]), self.r.pick(&[3, 64]));
         self.say(format!("rawsides {unfit} 3 3\nreadlayer 7\nrawsides 3 {fit} 65\nreadlayer 7"));
-        self.say(format!("rawsides {a} {b} {c}\ndist len {n}\nstatus len {n}\nbegin\ncarve 5\nopen\ncarve 4294967295\nfinish"));
+        self.say(format!(
+            "rawsides {a} {b} {c}\ndist len {n}\nstatus len {n}\nmarks len {n}\nbegin\ncarve 5\nopen\ncarve 4294967295\nfinish"
+        ));
     }
 
     // ---- the local test

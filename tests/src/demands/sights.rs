@@ -1,6 +1,6 @@
 //! What a call is about, besides its faults: the entries of `ALSO` that it meets if it is done.
 
-use super::{gaps, ordered, patched, wide};
+use super::{gaps, marked, ordered, patched, wide};
 use crate::gaps::filled;
 use crate::records::{negative, written_length, written_width, GREATEST, LONGEST_INPUT, MISSING};
 use reference::file::read;
@@ -30,6 +30,7 @@ pub fn of(state: &Replay, call: &str, words: &[&str]) -> Vec<String> {
         "crossing" | "points" => seen.push(format!("{call}: finished {byte}")),
         _ => {}
     }
+    seen.extend(marked::of(state, call, number(1)));
     if ["begin", "carve", "take", "open", "finish", "crossing", "points", "write"].contains(&call) {
         let sides = if ["begin", "write"].contains(&call) { state.sides } else { state.record.sides };
         seen.extend(chosen(&[

@@ -15,7 +15,7 @@ impl Maker {
     }
 
     /// A fit record with buffers that begin need not have made.
-    fn craft(&mut self, greatest: i64, finished: bool) {
+    pub(super) fn craft(&mut self, greatest: i64, finished: bool) {
         let mut side = || if self.r.chance(30) { 3 } else { self.r.between(3, greatest) as u64 };
         let sides = Sides { a: side(), b: side(), c: side() };
         let n = sides.n() as u64;

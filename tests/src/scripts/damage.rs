@@ -363,7 +363,7 @@ fn starts() -> String {
 fn read_then_begin() -> String {
     let (good, _) = damaged(&[]);
     let (bad, _) = damaged(&[Again(2)]);
-    let go_on = format!("dist len {VOXELS}\nstatus len {VOXELS}\nbegin\ncarve 4294967295\nfinish\ncrossing 17 0\n");
+    let go_on = format!("dist len {VOXELS}\nstatus len {VOXELS}\nmarks len {VOXELS}\nbegin\ncarve 4294967295\nfinish\ncrossing 17 0\n");
     format!(
         "# read, then begin\nsides 3 3 3\nT 7\nfile {}\nvalues len {VOXELS}\nread\n{go_on}file {}\nT 9\nread\n{go_on}",
         hex(&good),

@@ -449,7 +449,7 @@ fn of_walls(sides: [usize; 3], allowed: u16, changes: &[(Voxel, i32)]) -> Grid {
 
 /// Read, handed on as it is, begun, and written again.
 fn read_and_begun(bytes: &[u8], n: usize) -> String {
-    format!("{}dump values\ndist len {n}\nstatus len {n}\nbegin\ncarve 4294967295\nfinish\nwrite 600\n", given(bytes))
+    format!("{}dump values\ndist len {n}\nstatus len {n}\nmarks len {n}\nbegin\ncarve 4294967295\nfinish\nwrite 600\n", given(bytes))
 }
 
 fn in_every_width() -> String {
@@ -583,7 +583,7 @@ impl Maker {
         self.set(sides, g.allowed);
         self.list_of("values", &g.values);
         self.say("begin");
-        match begin(sides, g.allowed, &g.values, &mut self.dist, &mut self.status) {
+        match begin(sides, g.allowed, &g.values, &self.marks, &mut self.dist, &mut self.status) {
             Ok(record) => self.record = record,
             Err(_) => self.say("carve 1\nhash"),
         }
@@ -603,7 +603,7 @@ impl Maker {
         let bytes = file_of_walls(&mut self.r, greatest.min(8));
         let (_, n) = self.reads(&bytes);
         self.say(format!(
-            "values len {n}\nread\ndist len {n}\nstatus len {n}\nbegin\ncarve 5\nopen\ncarve 4294967295\nfinish\nwrite 2500\nread\nprogram"
+            "values len {n}\nread\ndist len {n}\nstatus len {n}\nmarks len {n}\nbegin\ncarve 5\nopen\ncarve 4294967295\nfinish\nwrite 2500\nread\nprogram"
         ));
     }
 }

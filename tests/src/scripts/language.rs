@@ -23,6 +23,11 @@ const SCRIPTS: &[&str] = &[
      write 0070\nwrite 69\nautohash 0\nwrite 70\nwrite 69\nshowfile\nautohash 1\nfile aBcDeF0123456789\nshowfile\nappend 00fe\nshowfile\n\
      write 2\nshowfile\nsides 65 3 3\nwrite 2097152\nrawsides 18446744073709551615 18446744073709551615 18446744073709551615\nT 65535\nwrite 0\n\
      write 2097152\nshowfile\nfile\nshowfile\nrec show 0\n",
+    "# marks: the ends of their range, fill, list and len, and that sides alone make them anew and no hash shows them\ndump marks\n\
+     marks list 0 1 2 3 255\nhash\ndump marks\nmarks len 7\ndump marks\nmarks set 6 255\nmarks set 0 03\nmarks len 2\ndump marks\n\
+     marks fill 255\ndump marks\nhash\nbegin\nmarks list\ndump marks\nrawsides 3 4 3\ndump marks\nmarks len 2097152\nbegin\ncarve 0\n\
+     sides 4 3 5\ndump marks\nmarks set 59 3\nvalues set 17 -1\nbegin\ncarve 1\n\
+     dump marks\nsides 65 3 3\ndump marks\nsides 3 3 3\n",
 ];
 
 /// Lines that a tool must refuse, each a script by itself: it prints nothing, and its status is 2.
@@ -113,6 +118,24 @@ pub const MISTAKES: &[&str] = &[
     "dist set 0 -2147483649",
     "status fill 256",
     "status set 0 -1",
+    "marks",
+    "marks fill",
+    "marks fill 256",
+    "marks fill -1",
+    "marks fill 1 1",
+    "marks set 27 0",
+    "marks set -1 0",
+    "marks set 0",
+    "marks set 0 256",
+    "marks set 0 0 0",
+    "marks list 0 256",
+    "marks list 1 pinned",
+    "marks len -1",
+    "marks len 2097153",
+    "marks add 1",
+    "mark fill 0",
+    "dump mark",
+    "dump marks 0",
     "rec",
     "rec a",
     "rec a -1",

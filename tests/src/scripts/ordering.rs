@@ -298,7 +298,7 @@ fn by_the_layer() -> String {
 
 /// What follows read: begin takes the values, the sides and T that it set; after 27 all three are as before.
 fn read_then_begin() -> String {
-    let go_on = "dist len 60\nstatus len 60\nbegin\ncarve 4294967295\nfinish\ncrossing 17 0\npoints 0 60\n";
+    let go_on = "dist len 60\nstatus len 60\nmarks len 60\nbegin\ncarve 4294967295\nfinish\ncrossing 17 0\npoints 0 60\n";
     let good = hex(&file(5, &[0, 1, 2, 3, 4]));
     let first = format!("sides 3 3 3\nT 7\nfile {good}\nvalues len 60\nread\n{go_on}");
     let wrong = |z: &[usize]| format!("file {}\nT 9\nread\nprogram\n{go_on}values set 18 -3\nread\n{go_on}", hex(&file(5, z)));
@@ -368,7 +368,7 @@ impl Maker {
                 let start = 7 + (3 + 2 * a * b) * self.r.below(c);
                 self.say(format!("readlayer {start}"));
             }
-            self.say(format!("values len {n}\nread\ndist len {n}\nstatus len {n}\nbegin"));
+            self.say(format!("values len {n}\nread\ndist len {n}\nstatus len {n}\nmarks len {n}\nbegin"));
         }
         self.say("carve 5\nopen\ncarve 4294967295\nfinish");
     }

@@ -229,7 +229,7 @@ fn layers_asked() -> String {
 fn read_then_begin() -> String {
     let (layers, _) = damaged(&[]);
     let go_on =
-        format!("dist len {VOXELS}\nstatus len {VOXELS}\nbegin\ncarve 4294967295\nfinish\ncrossing 17 0\ncrossing 18 0\npoints 0 60\n");
+        format!("dist len {VOXELS}\nstatus len {VOXELS}\nmarks len {VOXELS}\nbegin\ncarve 4294967295\nfinish\ncrossing 17 0\ncrossing 18 0\npoints 0 60\n");
     let steps = [
         [patch(18, -9), patch(17, 2), patch(14, NARROW_MISSING)].concat(),
         vec![0x56, 0x50, 17],
@@ -299,6 +299,8 @@ impl Maker {
                 self.say("showfile\nread");
             }
         }
-        self.say(format!("rawsides {a} {b} {c}\ndist len {n}\nstatus len {n}\nbegin\ncarve 5\nopen\ncarve 4294967295\nfinish"));
+        self.say(format!(
+            "rawsides {a} {b} {c}\ndist len {n}\nstatus len {n}\nmarks len {n}\nbegin\ncarve 5\nopen\ncarve 4294967295\nfinish"
+        ));
     }
 }

@@ -33,11 +33,11 @@ const fn along(check: &'static str, index: Option<&'static str>, axis: &'static 
 }
 
 /// Case C with T = 1: 75 voxels, the ring's middle is 37, one of its members 31.
-const RING: &str = "sides 5 5 3\nT 1\nvalues fill 4\nvalues set 31 -4\nvalues set 32 -4\nvalues set 33 -4\nvalues set 36 -4\n\
+pub(super) const RING: &str = "sides 5 5 3\nT 1\nvalues fill 4\nvalues set 31 -4\nvalues set 32 -4\nvalues set 33 -4\nvalues set 36 -4\n\
                     values set 38 -4\nvalues set 41 -4\nvalues set 42 -4\nvalues set 43 -4\n";
 
 /// Case D in 72 voxels with T = 1: 31 and 38 are inside, 32 and 37 may go, 34 stands apart.
-const PAIR: &str = "sides 6 4 3\nT 1\nvalues fill 6\nvalues set 31 -6\nvalues set 38 -6\n";
+pub(super) const PAIR: &str = "sides 6 4 3\nT 1\nvalues fill 6\nvalues set 31 -6\nvalues set 38 -6\n";
 
 /// The 26 voxels about 62 are inside, so that 62 is kept and has no face neighbour that is not.
 const SHELL: &str = "sides 5 5 5\nT 1\nvalues fill 4\nvalues set 31 -4\nvalues set 32 -4\nvalues set 33 -4\nvalues set 36 -4\n\
@@ -47,7 +47,7 @@ const SHELL: &str = "sides 5 5 5\nT 1\nvalues fill 4\nvalues set 31 -4\nvalues s
                      values set 88 -4\nvalues set 91 -4\nvalues set 92 -4\nvalues set 93 -4\nbegin\n";
 
 /// 1, 2 and 7 on the ring.
-const UNFIT_RING: [Fault; 22] = [
+pub(super) const UNFIT_RING: [Fault; 22] = [
     state("1", "rec a 65\n"),
     state("1", "rec a 2\n"),
     state("1", "rec b 65\n"),
@@ -73,7 +73,7 @@ const UNFIT_RING: [Fault; 22] = [
 ];
 
 /// 1, 2 and 7 on the pair.
-const UNFIT_PAIR: [Fault; 19] = [
+pub(super) const UNFIT_PAIR: [Fault; 19] = [
     state("1", "rec a 65\n"),
     state("1", "rec a 2\n"),
     state("1", "rec b 65\n"),
@@ -95,10 +95,10 @@ const UNFIT_PAIR: [Fault; 19] = [
     state("7", "status set 31 3\n"),
 ];
 
-const FINISHED: Fault = state("8", "rec finished 1\n");
-const PENDING: Fault = state("13", "status set 37 3\n");
+pub(super) const FINISHED: Fault = state("8", "rec finished 1\n");
+pub(super) const PENDING: Fault = state("13", "status set 37 3\n");
 
-fn with(faults: &[Fault<'static>], more: &[Fault<'static>]) -> Vec<Fault<'static>> {
+pub(super) fn with(faults: &[Fault<'static>], more: &[Fault<'static>]) -> Vec<Fault<'static>> {
     faults.iter().chain(more).copied().collect()
 }
 

@@ -1,6 +1,7 @@
 //! Grids on which begin's steps and the carving machine's choices can go wrong one at a time; and grids of the greatest sides.
 
 use super::filling::{greatest_gap, most_gaps};
+use super::marking::greatest_marked;
 use crate::records::{written_length, GREATEST, LEAST, MISSING, WIDE};
 use reference::grid::Sides;
 
@@ -211,6 +212,6 @@ pub fn scripts() -> Vec<String> {
     let mut scripts: Vec<String> = SHAPES.iter().map(script).collect();
     scripts.extend(OPENINGS.iter().map(opening));
     scripts.extend([[64, 3, 5], [3, 64, 5], [5, 3, 64], [64, 33, 4], [4, 31, 64]].map(long));
-    scripts.extend([greatest(), greatest_values(), greatest_gap(), most_gaps()]);
+    scripts.extend([greatest(), greatest_values(), greatest_gap(), most_gaps(), greatest_marked()]);
     scripts
 }

@@ -381,7 +381,7 @@ fn as_it_comes() -> String {
 
 /// What follows read: begin takes the values; after 28 sides, T and values are as before.
 fn read_then_begin() -> String {
-    let go_on = "dist len 36\nstatus len 36\nbegin\ncarve 4294967295\nfinish\ncrossing 17 0\npoints 0 60\n";
+    let go_on = "dist len 36\nstatus len 36\nmarks len 36\nbegin\ncarve 4294967295\nfinish\ncrossing 17 0\npoints 0 60\n";
     let good = hex(&file(&with(3, &[(18, 70_000), (16, -80_000)]), &[NARROW, WIDE, NARROW]));
     let bad = [(18, OVER), (0, UNDER), (35, i32::MAX)].map(|change| {
         let spoilt = hex(&file(&with(3, &[change]), &[WIDE; 3]));
@@ -677,7 +677,7 @@ impl Maker {
         self.list_of("values", &g.values);
         self.write(&sides, written_width(&g.values));
         self.say("begin");
-        match reference::grid::begin(sides, t, &g.values, &mut self.dist, &mut self.status) {
+        match reference::grid::begin(sides, t, &g.values, &self.marks, &mut self.dist, &mut self.status) {
             Ok(record) => self.record = record,
             Err(_) => return self.say("carve 1\nhash"),
         }
