@@ -1,13 +1,14 @@
 //! What carving leaves of a scan, and what each voxel has become.
 
 use crate::file::{is_negative, Scan};
+use crate::marks::idle;
 use crate::progress::Progress;
-use wattlerugby::{Grid, Opened, Refusal, GONE, MISSING};
+use wattlerugby::{Grid, Opened, Refusal, Sides, GONE, MISSING, PINNED, UNMARKED};
 
 /// Examinations between two looks at the clock. Each call of carve checks the whole grid, so fewer would cost more.
 const SLICE: u32 = 200_000;
 
-/// What a voxel is in pictures. The first six are of a carved grid, in the order of their numbers in `volume`; the others of one that is
+/// What a voxel is in pictures. The first seven are of a carved grid, in the order of their numbers in `volume`; the others of one that is
 /// refused for its values.
 #[derive(Clone, Copy, Debug, PartialEq, Eq)]
 #[repr(u8)]
@@ -19,6 +20,8 @@ pub enum Kind {
     Opened,
     /// A missing range point that begin counts as inside.
     Gap,
+    /// Kept and not inside, by a pin or with one.
+    Pinned,
     Outside,
     Negative,
     Missing,
@@ -27,20 +30,22 @@ pub enum Kind {
 
 impl Kind {
     /// Every kind, by its number.
-    pub const ALL: [Kind; 10] = [
+    pub const ALL: [Kind; 11] = [
         Kind::Gone,
         Kind::Inside,
         Kind::Filled,
         Kind::FilledMissing,
         Kind::Opened,
         Kind::Gap,
+        Kind::Pinned,
         Kind::Outside,
         Kind::Negative,
         Kind::Missing,
         Kind::NegativeOnBorder,
     ];
-    /// The kinds of a carved grid and of a refused one, in the order of the key.
+    /// The kinds of a carved grid, of one with pins and of a refused one, in the order of the key.
     pub const CARVED: [Kind; 6] = [Kind::Inside, Kind::Gap, Kind::Filled, Kind::FilledMissing, Kind::Opened, Kind::Gone];
+    pub const WITH_PINS: [Kind; 7] = [Kind::Inside, Kind::Gap, Kind::Pinned, Kind::Filled, Kind::FilledMissing, Kind::Opened, Kind::Gone];
     pub const REFUSED: [Kind; 4] = [Kind::Negative, Kind::NegativeOnBorder, Kind::Missing, Kind::Outside];
 
     pub fn mark(self) -> char {
@@ -48,6 +53,7 @@ impl Kind {
             Kind::Gone | Kind::Outside => '.',
             Kind::Inside | Kind::Negative => '#',
             Kind::Gap => '=',
+            Kind::Pinned => '*',
             Kind::Filled => 'o',
             Kind::FilledMissing | Kind::Missing => '?',
             Kind::Opened => '+',
@@ -60,6 +66,7 @@ impl Kind {
             Kind::Gone => "gone",
             Kind::Inside => "inside",
             Kind::Gap => "gap counted as inside",
+            Kind::Pinned => "pinned",
             Kind::Filled => "filled",
             Kind::FilledMissing => "filled, and the range point is missing",
             Kind::Opened => "opened",
@@ -76,6 +83,7 @@ impl Kind {
             Kind::Gone | Kind::Outside => [0xE8, 0xEA, 0xED],
             Kind::Inside | Kind::Negative => [0x00, 0x72, 0xB2],
             Kind::Gap => [0x56, 0xB4, 0xE9],
+            Kind::Pinned => [0x00, 0x00, 0x00],
             Kind::Filled => [0xE6, 0x9F, 0x00],
             Kind::FilledMissing | Kind::Missing => [0xCC, 0x79, 0xA7],
             Kind::Opened => [0x00, 0x9E, 0x73],
@@ -91,12 +99,20 @@ pub struct Body<'a> {
     pub grid: Grid,
     pub kinds: Vec<Kind>,
     pub openings: Vec<Opened>,
+    /// On marks that do nothing.
+    pub notes: Vec<String>,
 }
 
 impl<'a> Body<'a> {
-    /// Carves to the end, as the program does.
+    /// Carves to the end, as the program does, which marks no voxel.
     pub fn carve(scan: &'a Scan) -> Result<Body<'a>, Refusal> {
-        let mut grid = Grid::begin(scan.sides, scan.allowed, &scan.values)?;
+        Body::carve_marked(scan, &vec![UNMARKED; scan.values.len()])
+    }
+
+    /// The same with a mark for each voxel.
+    pub fn carve_marked(scan: &'a Scan, marks: &[u8]) -> Result<Body<'a>, Refusal> {
+        let mut grid = Grid::begin_marked(scan.sides, scan.allowed, &scan.values, marks)?;
+        let notes = idle(scan, &grid);
         // finish makes all that is kept negative, so the inside is told now
         let inside: Vec<bool> = grid.distances().iter().map(|&d| d < 0).collect();
         let mut openings: Vec<Opened> = Vec::new();
@@ -111,11 +127,34 @@ impl<'a> Body<'a> {
         }
         grid.finish()?;
         let kinds = kinds(scan, &grid, &inside, &openings);
-        Ok(Body { scan, grid, kinds, openings })
+        Ok(Body { scan, grid, kinds, openings, notes })
     }
 
     pub fn count(&self, kind: Kind) -> usize {
         self.kinds.iter().filter(|&&k| k == kind).count()
+    }
+
+    /// Says on the standard error which marks do nothing.
+    pub fn note(&self) {
+        self.notes.iter().for_each(|note| eprintln!("wattle: note: {note}"));
+    }
+
+    /// How many pieces the body has: groups of kept voxels that touch.
+    pub fn pieces(&self) -> usize {
+        let Sides { a, b, .. } = self.scan.sides;
+        let mut left: Vec<bool> = self.grid.status().iter().map(|&s| s != GONE).collect();
+        let mut pieces = 0;
+        while let Some(first) = left.iter().position(|&kept| kept) {
+            let mut waiting = vec![first];
+            while let Some(i) = waiting.pop() {
+                // a kept voxel is none of the border, so all 27 are there
+                if std::mem::replace(&mut left[i], false) {
+                    waiting.extend((0..27).map(|p| i + p % 3 + a * (p / 3 % 3) + a * b * (p / 9) - 1 - a - a * b));
+                }
+            }
+            pieces += 1;
+        }
+        pieces
     }
 
     /// The line that the program prints.
@@ -142,6 +181,7 @@ fn kinds(scan: &Scan, grid: &Grid, inside: &[bool], openings: &[Opened]) -> Vec<
         (GONE, ..) => Kind::Gone,
         (_, true, MISSING) => Kind::Gap,
         (_, true, _) => Kind::Inside,
+        _ if grid.marks()[i] & PINNED != 0 => Kind::Pinned,
         (_, false, MISSING) => Kind::FilledMissing,
         _ => Kind::Filled,
     };

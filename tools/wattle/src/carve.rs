@@ -3,6 +3,7 @@
 use crate::args::Args;
 use crate::body::Body;
 use crate::file::{Source, HEADER};
+use crate::marks::marks;
 use crate::{Answer, Failure, Status};
 use wattlerugby::Refusal;
 
@@ -12,20 +13,24 @@ pub const PROGRAM_BYTES: usize = 65_536;
 
 pub fn carve(args: &Args) -> Result<Answer, Failure> {
     let source = Source::open(&args.files[0])?;
-    let (line, status) = match line(source, args.has("--large")) {
+    let (line, status) = match line(args, source)? {
         Ok(line) => (line, Status::Done),
         Err(Refusal(number)) => (format!("refused {number}"), Status::Refused),
     };
     Ok(Answer::text(line + "\n", status))
 }
 
-fn line(source: Source, large: bool) -> Result<String, Refusal> {
-    match program_limit(&source) {
-        Some(refused) if !large => return Err(refused),
-        _ => {}
+fn line(args: &Args, source: Source) -> Result<Result<String, Refusal>, Failure> {
+    if let Some(refused) = program_limit(&source).filter(|_| !args.has("--large")) {
+        return Ok(Err(refused));
     }
-    let scan = source.read().map_err(|(_, refused)| refused)?;
-    Ok(Body::carve(&scan)?.line())
+    let scan = match source.read() {
+        Ok(scan) => scan,
+        Err((_, refused)) => return Ok(Err(refused)),
+    };
+    let body = Body::carve_marked(&scan, &marks(args, &scan)?);
+    body.iter().for_each(Body::note);
+    Ok(body.map(|body| body.line()))
 }
 
 /// What the program refuses a file with for its own limits. The input's length comes before all else; a side is checked where read checks

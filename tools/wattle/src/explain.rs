@@ -6,6 +6,7 @@ use crate::carve::{program_limit, PROGRAM_BYTES, PROGRAM_SIDE};
 use crate::file::{index_of, is_negative, is_value, record_length, width_at};
 use crate::file::{LayerRecord, Records, Scan, Source, HEADER, PATCH, PATCH_HEAD};
 use crate::gaps::{Gaps, Tally};
+use crate::marks::{marks, told};
 use crate::{Answer, Failure, Status};
 use std::collections::BTreeSet;
 use wattlerugby::{read_layer, written_length, Refusal, Sides, GREATEST_VALUE, LEAST_VALUE, MISSING, NARROW, WIDE};
@@ -15,7 +16,7 @@ pub fn explain(args: &Args) -> Result<Answer, Failure> {
     let (name, records, limit) = (source.name.clone(), source.records(), program_limit(&source));
     let refused = match source.read() {
         Err((source, refused)) => (refused, unreadable(&source, &records, refused)),
-        Ok(scan) => match Body::carve(&scan) {
+        Ok(scan) => match Body::carve_marked(&scan, &marks(args, &scan)?) {
             Ok(body) => return Ok(Answer::text(taken(&body, &records, limit), Status::Done)),
             Err(refused) => (refused, unfit(&scan, &records, refused)),
         },
@@ -265,7 +266,8 @@ fn nothing_negative(scan: &Scan, records: &Records) -> (String, String) {
 
 fn taken(body: &Body, records: &Records, limit: Option<Refusal>) -> String {
     let scan = body.scan;
-    let mut text = format!("{} is taken: {} voxels, T = {}.\n{}\n", scan.name, scan.size(), scan.allowed, body.line());
+    let marked = told(body.grid.marks());
+    let mut text = format!("{} is taken: {} voxels, T = {}{marked}.\n{}\n", scan.name, scan.size(), scan.allowed, body.line());
     for sentence in meaning(body).into_iter().chain(wide(records)).chain(patched(records)).chain(limit.map(of_the_program)) {
         text += &format!("- {sentence}\n");
     }
@@ -300,7 +302,9 @@ fn some(count: usize, what: &str) -> String {
 
 /// What the result says about the scan.
 pub fn meaning(body: &Body) -> Vec<String> {
-    let mut told = vec![closed(body), filled(body)];
+    let mut told = vec![closed(body)];
+    told.extend(pinned(body));
+    told.push(filled(body));
     let missing = body.count(Kind::FilledMissing);
     if missing > 0 {
         let voxels = some(missing, "filled voxel");
@@ -318,6 +322,7 @@ pub fn meaning(body: &Body) -> Vec<String> {
     if stray > 0 {
         told.push(format!("{} measured negative apart from the largest group, and not counted as inside.", was(stray, "voxel")));
     }
+    told.extend(body.notes.iter().cloned());
     told
 }
 
@@ -360,8 +365,15 @@ fn was(count: usize, what: &str) -> String {
     some(count, what) + if count == 1 { " was" } else { " were" }
 }
 
+/// What pins hold.
+fn pinned(body: &Body) -> Option<String> {
+    let held = body.count(Kind::Pinned);
+    (held > 0).then(|| format!("{} pinned: kept in the body, though not measured inside.", was(held, "voxel")))
+}
+
 fn filled(body: &Body) -> String {
     match body.count(Kind::Filled) + body.count(Kind::FilledMissing) {
+        0 if body.count(Kind::Pinned) > 0 => "Nothing else was filled.".to_string(),
         0 if body.scan.allowed == 0 => "Nothing was filled: the scan is closed as it stands.".to_string(),
         0 => "Nothing was filled: the body is the inside as it was scanned.".to_string(),
         filled => format!("{} filled: kept in the body, though not measured inside.", was(filled, "voxel")),
@@ -377,6 +389,14 @@ fn closed(body: &Body) -> String {
             "Every opening allowed is made (14), so a further one might remove more. The body has {} or more. Allow more openings, in bytes 5 and 6, to know.",
             tunnels(1 - r.euler)
         ),
+        _ if body.count(Kind::Pinned) > 0 => {
+            let pieces = body.pieces();
+            let told = match pieces {
+                1 => "one piece".to_string(),
+                many => format!("{many} pieces"),
+            };
+            format!("Nothing is left to open (15) but what is pinned: the body is in {told}, with {}.", tunnels(pieces as i32 - r.euler))
+        }
         (true, false) => "Nothing is left to open (15): the body is in one piece, without a tunnel. The scan is closed.".to_string(),
         (false, false) => format!("Nothing is left to open (15): the body is in one piece, with {}.", tunnels(1 - r.euler)),
     }

@@ -12,8 +12,8 @@ pub const COMMANDS: &[Command] = &[
     Command {
         name: "look",
         files: 1,
-        options: &["--png", "--layer=", "--scale="],
-        help: "wattle look FILE [--layer Z] [--png [--scale N]] [-o OUT]
+        options: &["--png", "--layer=", "--scale=", "--pin=", "--hurry="],
+        help: "wattle look FILE [--layer Z] [--png [--scale N]] [--pin VOXEL ..] [--hurry VOXEL ..] [-o OUT]
 
 Shows what carving leaves of a grid, layer by layer, x to the right and y down, with a key and counts. Where the grid is refused
 for its values, these are shown in its place, with those that it is refused for marked.
@@ -21,37 +21,54 @@ for its values, these are shown in its place, with those that it is refused for 
   #  inside                  blue         o  filled: kept, but not inside             orange
   =  gap counted as inside   light blue   ?  filled, and the range point is missing   pink
   .  gone                    grey         +  opened                                   green
+                                          *  pinned: kept, but not inside             black
 
 A gap counted as inside is a group of missing range points joined by faces, off the grid's edge, and every other voxel that shares a
 face with it is measured negative: no shot reaches the middle of a thick wall.
 
-  --layer Z   that layer alone
-  --png       a picture in place of text
-  --scale N   pixels along a voxel in the picture, 1 to 32; chosen by the grid's size otherwise
+  --layer Z       that layer alone
+  --png           a picture in place of text
+  --scale N       pixels along a voxel in the picture, 1 to 32; chosen by the grid's size otherwise
+  --pin VOXEL     hold that voxel: it is not removed
+  --hurry VOXEL   examine that voxel before all others
+                  VOXEL is X,Y,Z, an index, or @LIST, a file with one voxel a line, where # begins a remark
+                  Both options may be given many times
+
+A pin holds a voxel of the box around the inside, from which carving starts; elsewhere it does nothing, and a note says so. What is pinned
+may hang free in the end. A hurried voxel goes only if it may, as any other: the body can become another, since the order is.
 ",
     },
     Command {
         name: "explain",
         files: 1,
-        options: &[],
-        help: "wattle explain FILE [-o OUT]
+        options: &["--pin=", "--hurry="],
+        help: "wattle explain FILE [--pin VOXEL ..] [--hurry VOXEL ..] [-o OUT]
 
 Says why a grid file is refused: the number, the byte, the layer, the patch or the voxel, and what to do. Where it is taken, says what
 its result means: how much was filled, whether range points are missing there, what can be said about tunnels; and how many missing
 points count as inside, since they lie in gaps behind the face, and why the others do not.
+
+  --pin VOXEL     hold that voxel: it is not removed
+  --hurry VOXEL   examine that voxel before all others
+                  VOXEL is X,Y,Z, an index, or @LIST, a file with one voxel a line, where # begins a remark
+                  Both options may be given many times
 ",
     },
     Command {
         name: "points",
         files: 1,
-        options: &["--ply", "--xyz"],
-        help: "wattle points FILE [--ply | --xyz] [-o OUT]
+        options: &["--ply", "--xyz", "--pin=", "--hurry="],
+        help: "wattle points FILE [--ply | --xyz] [--pin VOXEL ..] [--hurry VOXEL ..] [-o OUT]
 
 The points where the body's surface crosses from voxel to voxel, for CloudCompare, MeshLab and others. Coordinates are in voxels:
 the centre of voxel (x, y, z) is the point (x, y, z).
 
-  --ply   with colours, and `scalar_measured` 1 where both voxels were measured, 0 where the surface is assumed (the default)
-  --xyz   a line `x y z` for each point
+  --ply           with colours, and `scalar_measured` 1 where both voxels were measured, 0 where the surface is assumed (the default)
+  --xyz           a line `x y z` for each point
+  --pin VOXEL     hold that voxel: it is not removed
+  --hurry VOXEL   examine that voxel before all others
+                  VOXEL is X,Y,Z, an index, or @LIST, a file with one voxel a line, where # begins a remark
+                  Both options may be given many times
 
 Without either, the ending of OUT decides. With 64 voxels along each side this can take a minute.
 ",
@@ -59,17 +76,22 @@ Without either, the ending of OUT decides. With 64 voxels along each side this c
     Command {
         name: "volume",
         files: 1,
-        options: &["--vtk", "--nrrd", "--field="],
-        help: "wattle volume FILE [--vtk | --nrrd] [--field FIELD] [-o OUT]
+        options: &["--vtk", "--nrrd", "--field=", "--pin=", "--hurry="],
+        help: "wattle volume FILE [--vtk | --nrrd] [--field FIELD] [--pin VOXEL ..] [--hurry VOXEL ..] [-o OUT]
 
 The carved grid as a volume, for ParaView, 3D Slicer and others, a voxel a sample.
 
-  --vtk          legacy VTK, with all fields unless one is named (the default)
-  --nrrd         NRRD, which holds one field: `distances` unless another is named
-  --field FIELD  values      as measured, -2147483648 where the range point is missing
-                 distances   worked distances, negative in the body: its surface is the level 0
-                 status      0 gone, 1 kept
-                 kinds       0 gone, 1 inside, 2 filled, 3 filled over a missing range point, 4 opened, 5 gap counted as inside
+  --vtk           legacy VTK, with all fields unless one is named (the default)
+  --nrrd          NRRD, which holds one field: `distances` unless another is named
+  --field FIELD   values      as measured, -2147483648 where the range point is missing
+                  distances   worked distances, negative in the body: its surface is the level 0
+                  status      0 gone, 1 kept
+                  kinds       0 gone, 1 inside, 2 filled, 3 filled over a missing range point, 4 opened, 5 gap counted as inside,
+                              6 pinned: kept, but not inside
+  --pin VOXEL     hold that voxel: it is not removed
+  --hurry VOXEL   examine that voxel before all others
+                  VOXEL is X,Y,Z, an index, or @LIST, a file with one voxel a line, where # begins a remark
+                  Both options may be given many times
 
 Without --vtk or --nrrd, the ending of OUT decides.
 ",
@@ -89,10 +111,15 @@ the same, 1 where they differ, 2 where a file cannot be read as a grid.
     Command {
         name: "page",
         files: 1,
-        options: &[],
-        help: "wattle page FILE [-o OUT]
+        options: &["--pin=", "--hurry="],
+        help: "wattle page FILE [--pin VOXEL ..] [--hurry VOXEL ..] [-o OUT]
 
 One HTML page that opens in any browser without a network: layers to scroll through, and the surface's points to turn.
+
+  --pin VOXEL     hold that voxel: it is not removed
+  --hurry VOXEL   examine that voxel before all others
+                  VOXEL is X,Y,Z, an index, or @LIST, a file with one voxel a line, where # begins a remark
+                  Both options may be given many times
 ",
     },
     Command {
@@ -128,13 +155,19 @@ to a voxel the later one stands. FILE stays as it is. `wattle rewrite` puts patc
     Command {
         name: "carve",
         files: 1,
-        options: &["--large"],
-        help: "wattle carve FILE [--large] [-o OUT]
+        options: &["--large", "--pin=", "--hurry="],
+        help: "wattle carve FILE [--large] [--pin VOXEL ..] [--hurry VOXEL ..] [-o OUT]
 
 Prints the line that the program `carve` prints, with an exit status: 0 carved, 1 refused, 2 usage or a file that cannot be read.
 As the program does, it refuses input over 65,536 bytes with number 25, before all else, and a side over 24 with number 1.
 
-  --large   files of any length and sides up to 64, as all other commands take them
+  --large         files of any length and sides up to 64, as all other commands take them
+  --pin VOXEL     hold that voxel: it is not removed
+  --hurry VOXEL   examine that voxel before all others
+                  VOXEL is X,Y,Z, an index, or @LIST, a file with one voxel a line, where # begins a remark
+                  Both options may be given many times
+
+The program itself marks no voxel.
 ",
     },
 ];
@@ -158,6 +191,9 @@ pub fn overview() -> String {
 FILE may be -, the standard input. With -o OUT the answer goes to a file, which is not overwritten unless --force is given, and is
 never left half written; otherwise, or with -o -, it goes to the standard output. Sides may be 3 to 64 voxels. What takes long shows
 its progress on a terminal.
+
+All but compare, patch and rewrite take --pin VOXEL, which holds a voxel, and --hurry VOXEL, which has it examined before all others.
+VOXEL is X,Y,Z, an index, or @LIST, a file with one voxel a line.
 
 Exit status: 0 done; 1 the grid is refused (compare: the two differ); 2 usage, or a file cannot be read or written.
 ",

@@ -3,6 +3,7 @@
 use crate::args::Args;
 use crate::body::{kinds_of_values, Body, Kind};
 use crate::file::Scan;
+use crate::marks::{marks, told};
 use crate::{picture, Answer, Failure, Status};
 use wattlerugby::Refusal;
 
@@ -15,6 +16,8 @@ pub struct View<'a> {
     pub kinds: Vec<Kind>,
     /// The kinds that can occur, in the order of the key.
     pub key: &'static [Kind],
+    /// How many voxels are marked, in words.
+    marked: String,
     /// The program's line, or the refusal in words.
     pub line: String,
     pub status: Status,
@@ -23,9 +26,14 @@ pub struct View<'a> {
 impl<'a> View<'a> {
     pub fn new(scan: &'a Scan, body: &Result<Body, Refusal>) -> View<'a> {
         match body {
-            Ok(body) => View { scan, kinds: body.kinds.clone(), key: &Kind::CARVED, line: body.line(), status: Status::Done },
+            Ok(body) => {
+                let key: &[Kind] = if body.count(Kind::Pinned) > 0 { &Kind::WITH_PINS } else { &Kind::CARVED };
+                let (kinds, marked) = (body.kinds.clone(), told(body.grid.marks()));
+                View { scan, kinds, key, marked, line: body.line(), status: Status::Done }
+            }
             Err(refused) => {
-                View { scan, kinds: kinds_of_values(scan), key: &Kind::REFUSED, line: refused.to_string(), status: Status::Refused }
+                let (kinds, line) = (kinds_of_values(scan), refused.to_string());
+                View { scan, kinds, key: &Kind::REFUSED, marked: String::new(), line, status: Status::Refused }
             }
         }
     }
@@ -37,7 +45,7 @@ impl<'a> View<'a> {
     }
 
     pub fn title(&self) -> String {
-        format!("{}: {}, T = {}", self.scan.name, self.scan.size(), self.scan.allowed)
+        format!("{}: {}, T = {}{}", self.scan.name, self.scan.size(), self.scan.allowed, self.marked)
     }
 
     pub fn count(&self, kind: Kind) -> usize {
@@ -54,7 +62,9 @@ pub fn look(args: &Args) -> Result<Answer, Failure> {
     let scan = Scan::open(&args.files[0])?;
     let only = args.number("--layer", 0, scan.sides.c - 1)?;
     let scale = args.number("--scale", 1, 32)?;
-    let view = View::new(&scan, &Body::carve(&scan));
+    let body = Body::carve_marked(&scan, &marks(args, &scan)?);
+    body.iter().for_each(Body::note);
+    let view = View::new(&scan, &body);
     if args.has("--png") {
         let bytes = picture::png(&view, only, scale);
         return Ok(Answer { bytes, binary: true, status: view.status });

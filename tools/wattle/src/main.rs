@@ -13,6 +13,7 @@ mod file;
 mod gaps;
 mod help;
 mod look;
+mod marks;
 mod output;
 mod page;
 mod patch;

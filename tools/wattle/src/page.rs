@@ -5,6 +5,7 @@ use crate::body::{Body, Kind};
 use crate::explain::{meaning, unfit};
 use crate::file::{refusal, Source};
 use crate::look::View;
+use crate::marks::marks;
 use crate::picture::web;
 use crate::points::{surface, SurfacePoint};
 use crate::{Answer, Failure};
@@ -16,7 +17,7 @@ pub fn page(args: &Args) -> Result<Answer, Failure> {
     let source = Source::open(&args.files[0])?;
     let records = source.records();
     let scan = source.read().map_err(|(source, refused)| refusal(&source.name, refused))?;
-    let body = Body::carve(&scan);
+    let body = Body::carve_marked(&scan, &marks(args, &scan)?);
     let view = View::new(&scan, &body);
     let (sentences, points) = match &body {
         Ok(body) => (meaning(body), surface(body)),

@@ -2,8 +2,9 @@
 
 use crate::args::Args;
 use crate::file::{Scan, Source};
+use crate::marks::index;
 use crate::{Answer, Failure};
-use wattlerugby::{Sides, NARROW_MISSING};
+use wattlerugby::NARROW_MISSING;
 
 pub fn patch(args: &Args) -> Result<Answer, Failure> {
     if !args.has("--set") {
@@ -14,26 +15,13 @@ pub fn patch(args: &Args) -> Result<Answer, Failure> {
     let scan = Scan::of(source)?;
     for word in args.values("--set") {
         let (voxel, value) = word.split_once('=').ok_or_else(|| unlike("VOXEL=VALUE", word))?;
-        file.extend(wattlerugby::patch(index(&scan, voxel)?, number(value)?));
+        file.extend(wattlerugby::patch(index(args, &scan, "--set", voxel)? as u32, number(value)?));
     }
     Ok(Answer::file(file))
 }
 
 fn unlike(due: &str, word: &str) -> Failure {
     Failure::unusable(format!("--set takes {due}, not {word}; see `wattle help patch`"))
-}
-
-/// The index of a voxel that is named by its index or by its place.
-fn index(scan: &Scan, voxel: &str) -> Result<u32, Failure> {
-    let numbers: Result<Vec<usize>, _> = voxel.split(',').map(str::parse).collect();
-    let Sides { a, b, c } = scan.sides;
-    let index = match numbers.as_deref() {
-        Ok([index]) => (*index < a * b * c).then_some(*index),
-        Ok([x, y, z]) => (*x < a && *y < b && *z < c).then(|| x + a * (y + b * z)),
-        _ => return Err(unlike("a voxel as X,Y,Z or as an index", voxel)),
-    };
-    let beyond = || format!("voxel {voxel} lies beyond the grid of {} voxels, with indices 0 to {}", scan.size(), a * b * c - 1);
-    index.map(|index| index as u32).ok_or_else(|| Failure::unusable(beyond()))
 }
 
 /// What a patch has two bytes for. The number -32768 is not taken: in two bytes it is the mark of a missing point, which has its own word.

@@ -3,12 +3,13 @@
 use crate::args::Args;
 use crate::body::{Body, Kind};
 use crate::file::{refusal, Scan};
+use crate::marks::marks;
 use crate::{Answer, Failure};
 use std::fmt::Write;
 use wattlerugby::{Point, Sides, MISSING};
 
-/// A point, and what it rests on, which gives its colour: `Inside` where both voxels beside it were measured, `FilledMissing` where a
-/// range point is missing, `Filled` where the surface is assumed otherwise.
+/// A point, and what it rests on, which gives its colour: `Inside` where both voxels beside it were measured, `Pinned` where its inner one
+/// is pinned, `FilledMissing` where a range point is missing, `Filled` where the surface is assumed otherwise.
 pub struct SurfacePoint {
     pub at: Point,
     pub rests_on: Kind,
@@ -17,7 +18,8 @@ pub struct SurfacePoint {
 pub fn points(args: &Args) -> Result<Answer, Failure> {
     let format = args.format(["--ply", "--xyz"])?;
     let scan = Scan::open(&args.files[0])?;
-    let body = Body::carve(&scan).map_err(|refused| refusal(&scan.name, refused))?;
+    let body = Body::carve_marked(&scan, &marks(args, &scan)?).map_err(|refused| refusal(&scan.name, refused))?;
+    body.note();
     let points = surface(&body);
     let text = if format == "--ply" { ply(&body, &points) } else { xyz(&points) };
     // text, but no text to read: it goes to a terminal only by mistake
@@ -54,6 +56,7 @@ fn pairs(body: &Body) -> Vec<(usize, usize)> {
 /// the surface runs (docs/RESULT.md). No point lies beside a gap counted as inside: all that shares a face with it is inside too.
 fn basis(body: &Body, inner: usize, outer: usize) -> Kind {
     match (body.kinds[inner], body.scan.values[outer]) {
+        (Kind::Pinned, _) => Kind::Pinned,
         (Kind::FilledMissing, _) | (_, MISSING) => Kind::FilledMissing,
         (Kind::Inside, 0..) => Kind::Inside,
         _ => Kind::Filled,

@@ -3,6 +3,7 @@
 use crate::args::Args;
 use crate::body::Body;
 use crate::file::{refusal, Scan};
+use crate::marks::marks;
 use crate::{Answer, Failure};
 use wattlerugby::Sides;
 
@@ -24,7 +25,8 @@ pub fn volume(args: &Args) -> Result<Answer, Failure> {
         return Err(Failure::unusable(format!("there is no field {name}; the fields are {}", NAMES.join(", "))));
     }
     let scan = Scan::open(&args.files[0])?;
-    let body = Body::carve(&scan).map_err(|refused| refusal(&scan.name, refused))?;
+    let body = Body::carve_marked(&scan, &marks(args, &scan)?).map_err(|refused| refusal(&scan.name, refused))?;
+    body.note();
     let bytes = match format {
         "--nrrd" => nrrd(&body, field(&body, named.unwrap_or("distances"))),
         _ => vtk(&body, named.map_or(NAMES.to_vec(), |name| vec![name])),

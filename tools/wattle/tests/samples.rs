@@ -142,6 +142,17 @@ fn the_samples_pictures_are_what_look_draws() {
     }
 }
 
+/// The torus with its hole held closed by a list of pins, as samples/README.md shows it.
+#[test]
+fn the_pinned_torus_is_what_look_draws() {
+    let (grid, pins) = (common::sample("torus-1.grid"), format!("@{}", path(&common::sample("torus-1.pins"))));
+    let stored = std::fs::read(common::sample("torus-1-pinned.png")).expect("the picture is there");
+    assert!(stored == answer(&["look", "--png", path(&grid), "--pin", &pins]), "samples/torus-1-pinned.png is to be drawn anew");
+    let line = text(&answer(&["carve", path(&grid), "--pin", &pins]));
+    let page = std::fs::read_to_string(root().join("samples/README.md")).expect("samples/README.md can be read");
+    assert!(page.contains(&format!("`{}`", line.trim_end())), "{line} is not in samples/README.md");
+}
+
 /// The key in the file says which colour is which.
 #[test]
 fn a_picture_tells_its_colours() {
