@@ -56,26 +56,35 @@ macro_rules! archive {
                 const NAME: &'static str = $name;
                 type Value = $value;
 
-                fn begin(sides: Sides, allowed: u16, values: &[$value], dist: &mut [i32], status: &mut [u8]) -> Result<Record, Refused> {
-                    let (v, d, s) = (values.as_ptr(), dist.as_mut_ptr(), status.as_mut_ptr());
-                    let r = unsafe { raw::wattlerugby_begin(sides, allowed, v, values.len(), d, dist.len(), s, status.len()) };
+                fn begin(
+                    sides: Sides,
+                    allowed: u16,
+                    values: &[$value],
+                    marks: &[u8],
+                    dist: &mut [i32],
+                    status: &mut [u8],
+                ) -> Result<Record, Refused> {
+                    let (v, m, d, s) = (values.as_ptr(), marks.as_ptr(), dist.as_mut_ptr(), status.as_mut_ptr());
+                    let (vl, ml, dl, sl) = (values.len(), marks.len(), dist.len(), status.len());
+                    let r = unsafe { raw::wattlerugby_begin(sides, allowed, v, vl, m, ml, d, dl, s, sl) };
                     answered(r.refusal, r.next.into())
                 }
 
-                fn carve(given: Record, dist: &[i32], status: &mut [u8], limit: u32) -> Result<Carved, Refused> {
-                    let (d, s) = (dist.as_ptr(), status.as_mut_ptr());
-                    let r = unsafe { raw::wattlerugby_carve(given.into(), d, dist.len(), s, status.len(), limit) };
+                fn carve(given: Record, dist: &[i32], marks: &[u8], status: &mut [u8], limit: u32) -> Result<Carved, Refused> {
+                    let (d, m, s) = (dist.as_ptr(), marks.as_ptr(), status.as_mut_ptr());
+                    let r = unsafe { raw::wattlerugby_carve(given.into(), d, dist.len(), m, marks.len(), s, status.len(), limit) };
                     answered(r.refusal, Carved { examined: r.examined, removed: r.removed, pending: r.pending, next: r.next.into() })
                 }
 
-                fn take(given: Record, dist: &[i32], status: &mut [u8], index: usize) -> Result<Taken, Refused> {
-                    let (d, s) = (dist.as_ptr(), status.as_mut_ptr());
-                    let r = unsafe { raw::wattlerugby_take(given.into(), d, dist.len(), s, status.len(), index) };
+                fn take(given: Record, dist: &[i32], marks: &[u8], status: &mut [u8], index: usize) -> Result<Taken, Refused> {
+                    let (d, m, s) = (dist.as_ptr(), marks.as_ptr(), status.as_mut_ptr());
+                    let r = unsafe { raw::wattlerugby_take(given.into(), d, dist.len(), m, marks.len(), s, status.len(), index) };
                     answered(r.refusal, Taken { k: r.k, m: r.m, next: r.next.into() })
                 }
 
-                fn open(given: Record, dist: &[i32], status: &mut [u8]) -> Result<Opened, Refused> {
-                    let r = unsafe { raw::wattlerugby_open(given.into(), dist.as_ptr(), dist.len(), status.as_mut_ptr(), status.len()) };
+                fn open(given: Record, dist: &[i32], marks: &[u8], status: &mut [u8]) -> Result<Opened, Refused> {
+                    let (d, m, s) = (dist.as_ptr(), marks.as_ptr(), status.as_mut_ptr());
+                    let r = unsafe { raw::wattlerugby_open(given.into(), d, dist.len(), m, marks.len(), s, status.len()) };
                     answered(r.refusal, Opened { index: r.index, k: r.k, m: r.m, next: r.next.into() })
                 }
 
@@ -121,24 +130,151 @@ mod prefixed {
     #[cfg(not(before_16))]
     pub type Value = i32;
 
-    extern "C" {
-        #[link_name = "before_wattlerugby_begin"]
-        pub fn wattlerugby_begin(
+    /// The calls that are lent marks, since document 02's CR 7. Of an archive from before that begin alone is tried.
+    #[cfg_attr(not(before_marks), allow(dead_code))]
+    pub mod marked {
+        use super::*;
+
+        extern "C" {
+            #[link_name = "before_wattlerugby_begin"]
+            pub fn wattlerugby_begin(
+                sides: Sides,
+                allowed: u16,
+                values: *const Value,
+                vl: usize,
+                marks: *const u8,
+                ml: usize,
+                dist: *mut i32,
+                dl: usize,
+                status: *mut u8,
+                sl: usize,
+            ) -> BeginAnswer;
+            #[link_name = "before_wattlerugby_carve"]
+            pub fn wattlerugby_carve(
+                given: Record,
+                dist: *const i32,
+                dl: usize,
+                marks: *const u8,
+                ml: usize,
+                status: *mut u8,
+                sl: usize,
+                limit: u32,
+            ) -> CarveAnswer;
+            #[link_name = "before_wattlerugby_take"]
+            pub fn wattlerugby_take(
+                given: Record,
+                dist: *const i32,
+                dl: usize,
+                marks: *const u8,
+                ml: usize,
+                status: *mut u8,
+                sl: usize,
+                index: usize,
+            ) -> TakeAnswer;
+            #[link_name = "before_wattlerugby_open"]
+            pub fn wattlerugby_open(
+                given: Record,
+                dist: *const i32,
+                dl: usize,
+                marks: *const u8,
+                ml: usize,
+                status: *mut u8,
+                sl: usize,
+            ) -> OpenAnswer;
+        }
+    }
+
+    /// The same calls of an archive from before that. What they are lent for marks is left out: it is all 0, or they are not called.
+    #[cfg(not(before_marks))]
+    mod unmarked {
+        use super::*;
+
+        extern "C" {
+            fn before_wattlerugby_begin(
+                sides: Sides,
+                allowed: u16,
+                values: *const Value,
+                vl: usize,
+                dist: *mut i32,
+                dl: usize,
+                status: *mut u8,
+                sl: usize,
+            ) -> BeginAnswer;
+            fn before_wattlerugby_carve(given: Record, dist: *const i32, dl: usize, status: *mut u8, sl: usize, limit: u32) -> CarveAnswer;
+            fn before_wattlerugby_take(given: Record, dist: *const i32, dl: usize, status: *mut u8, sl: usize, index: usize) -> TakeAnswer;
+            fn before_wattlerugby_open(given: Record, dist: *const i32, dl: usize, status: *mut u8, sl: usize) -> OpenAnswer;
+        }
+
+        type Marks = *const u8;
+        type Status = *mut u8;
+
+        #[inline(always)]
+        #[allow(clippy::too_many_arguments)]
+        pub unsafe fn wattlerugby_begin(
             sides: Sides,
             allowed: u16,
             values: *const Value,
-            values_len: usize,
+            vl: usize,
+            _: Marks,
+            _: usize,
             dist: *mut i32,
-            dist_len: usize,
-            status: *mut u8,
-            status_len: usize,
-        ) -> BeginAnswer;
-        #[link_name = "before_wattlerugby_carve"]
-        pub fn wattlerugby_carve(given: Record, dist: *const i32, dl: usize, status: *mut u8, sl: usize, limit: u32) -> CarveAnswer;
-        #[link_name = "before_wattlerugby_take"]
-        pub fn wattlerugby_take(given: Record, dist: *const i32, dl: usize, status: *mut u8, sl: usize, index: usize) -> TakeAnswer;
-        #[link_name = "before_wattlerugby_open"]
-        pub fn wattlerugby_open(given: Record, dist: *const i32, dl: usize, status: *mut u8, sl: usize) -> OpenAnswer;
+            dl: usize,
+            status: Status,
+            sl: usize,
+        ) -> BeginAnswer {
+            before_wattlerugby_begin(sides, allowed, values, vl, dist, dl, status, sl)
+        }
+
+        #[inline(always)]
+        #[allow(clippy::too_many_arguments)]
+        pub unsafe fn wattlerugby_carve(
+            given: Record,
+            dist: *const i32,
+            dl: usize,
+            _: Marks,
+            _: usize,
+            status: Status,
+            sl: usize,
+            limit: u32,
+        ) -> CarveAnswer {
+            before_wattlerugby_carve(given, dist, dl, status, sl, limit)
+        }
+
+        #[inline(always)]
+        #[allow(clippy::too_many_arguments)]
+        pub unsafe fn wattlerugby_take(
+            given: Record,
+            dist: *const i32,
+            dl: usize,
+            _: Marks,
+            _: usize,
+            status: Status,
+            sl: usize,
+            index: usize,
+        ) -> TakeAnswer {
+            before_wattlerugby_take(given, dist, dl, status, sl, index)
+        }
+
+        #[inline(always)]
+        pub unsafe fn wattlerugby_open(
+            given: Record,
+            dist: *const i32,
+            dl: usize,
+            _: Marks,
+            _: usize,
+            status: Status,
+            sl: usize,
+        ) -> OpenAnswer {
+            before_wattlerugby_open(given, dist, dl, status, sl)
+        }
+    }
+
+    #[cfg(before_marks)]
+    pub use marked::*;
+    #[cfg(not(before_marks))]
+    pub use unmarked::*;
+
+    extern "C" {
         #[link_name = "before_wattlerugby_finish"]
         pub fn wattlerugby_finish(given: Record, dist: *mut i32, dl: usize, status: *const u8, sl: usize) -> FinishAnswer;
         #[link_name = "before_wattlerugby_crossing"]
@@ -206,17 +342,28 @@ const WRITE_BEFORE: Option<Write> = None;
 #[cfg(before)]
 archive!(before, Before, "before", super::prefixed::Value, POINTS_BEFORE, WRITE_BEFORE, super::prefixed);
 
-/// Stops where the other archive's values have other bits than build.rs was told, before a call is lent too little. Its read is lent room for the
-/// longer ones, and leaves the last of it alone where its own are the shorter.
+/// Whether the other archive's calls are lent marks, as their symbols tell.
+pub const BEFORE_HAS_MARKS: bool = cfg!(before_marks);
+
+/// Stops where the other archive's values have other bits than build.rs was told, before a call is lent too little.
 #[cfg(before)]
 pub fn check_before() {
+    let (bits, told) = (bits_before(), prefixed::Value::BITS);
+    assert!(bits == told, "the other archive's values have {bits} bits, not {told}: see WATTLERUGBY_BEFORE_BITS");
+}
+
+/// Its read is lent room for the longer values, and leaves the last of it alone where its own are the shorter.
+#[cfg(before)]
+fn bits_before() -> u32 {
     let layers = (0..3).flat_map(|z| [&[0x56, 0x4C, z], &[0xFF; 18][..]].concat());
     let file: Vec<u8> = [0x56, 0x48, 3, 3, 3, 0, 0].into_iter().chain(layers).collect();
     let mut room = [0i32; 27];
     // SAFETY: 27 values of either kind have room.
     let read = unsafe { prefixed::wattlerugby_read(file.as_ptr(), file.len(), room.as_mut_ptr().cast(), room.len()) };
     assert!(read.refusal == 0 && room[0] == -1, "the other archive reads no file");
-    let bits = if room[26] == -1 { 32 } else { 16 };
-    let told = prefixed::Value::BITS;
-    assert!(bits == told, "the other archive's values have {bits} bits, not {told}: see WATTLERUGBY_BEFORE_BITS");
+    if room[26] == -1 {
+        32
+    } else {
+        16
+    }
 }

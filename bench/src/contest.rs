@@ -2,14 +2,14 @@
 
 use crate::clock;
 use crate::race::Order;
-use crate::types::{begun, size, Carved, Machine, Opened, Record, Refused, Sides, Taken, Value, Values, MISSING};
+use crate::types::{begun, size, Carved, Machine, Opened, Record, Refused, Sides, Taken, Value, Values, MISSING, UNMARKED};
 use std::time::{Duration, Instant};
 
 type Answer<T> = Result<T, Refused>;
-type Begin = fn(Sides, u16, &Values, &mut [i32], &mut [u8]) -> Answer<Record>;
-type Carve = fn(Record, &[i32], &mut [u8], u32) -> Answer<Carved>;
-type Take = fn(Record, &[i32], &mut [u8], usize) -> Answer<Taken>;
-type Open = fn(Record, &[i32], &mut [u8]) -> Answer<Opened>;
+type Begin = fn(Sides, u16, &Values, &[u8], &mut [i32], &mut [u8]) -> Answer<Record>;
+type Carve = fn(Record, &[i32], &[u8], &mut [u8], u32) -> Answer<Carved>;
+type Take = fn(Record, &[i32], &[u8], &mut [u8], usize) -> Answer<Taken>;
+type Open = fn(Record, &[i32], &[u8], &mut [u8]) -> Answer<Opened>;
 type Finish = fn(Record, &mut [i32], &[u8]) -> Answer<Record>;
 
 /// The five calls of an implementation.
@@ -24,7 +24,8 @@ pub struct Calls {
 
 impl Calls {
     pub const fn of<M: Machine>() -> Self {
-        let begin: Begin = |sides, allowed, values, dist, status| M::begin(sides, allowed, M::Value::lent(values), dist, status);
+        let begin: Begin =
+            |sides, allowed, values, marks, dist, status| M::begin(sides, allowed, M::Value::lent(values), marks, dist, status);
         Calls { name: M::NAME, begin, carve: M::carve, take: M::take, open: M::open, finish: M::finish }
     }
 
@@ -35,7 +36,7 @@ impl Calls {
             values[i] = -1;
         }
         values[62] = MISSING;
-        let case = Case { sides: Sides { a: 5, b: 5, c: 5 }, allowed: 0, values: values.into() };
+        let case = Case::unmarked(Sides { a: 5, b: 5, c: 5 }, 0, values.into());
         let mut state = State::blank(&case);
         begin(self, &case, &mut state, &mut Log::default());
         state.dist[62] == -1
@@ -46,6 +47,15 @@ pub struct Case {
     pub sides: Sides,
     pub allowed: u16,
     pub values: Values,
+    pub marks: Vec<u8>,
+    /// The voxel that is taken, where one is.
+    pub taken: usize,
+}
+
+impl Case {
+    pub fn unmarked(sides: Sides, allowed: u16, values: Values) -> Self {
+        Case { sides, allowed, values, marks: vec![UNMARKED; size(sides)], taken: 0 }
+    }
 }
 
 /// A record with its buffers.
@@ -74,6 +84,7 @@ impl State {
 #[derive(Clone, Debug, Default, PartialEq, Eq)]
 pub struct Log {
     pub carved: Vec<Carved>,
+    pub taken: Vec<Taken>,
     pub opened: Vec<Opened>,
     pub refused: Option<Refused>,
 }
@@ -85,29 +96,49 @@ impl Log {
 }
 
 pub fn begin(calls: &Calls, case: &Case, state: &mut State, _: &mut Log) {
-    state.record = (calls.begin)(case.sides, case.allowed, &case.values, &mut state.dist, &mut state.status).expect("begin takes the grid");
+    state.record = (calls.begin)(case.sides, case.allowed, &case.values, &case.marks, &mut state.dist, &mut state.status)
+        .expect("begin takes the grid");
 }
 
-pub fn carve(calls: &Calls, _: &Case, state: &mut State, log: &mut Log) {
-    let carved = (calls.carve)(state.record, &state.dist, &mut state.status, u32::MAX).expect("carve takes the state");
+fn carve_up_to(limit: u32, calls: &Calls, case: &Case, state: &mut State, log: &mut Log) {
+    let carved = (calls.carve)(state.record, &state.dist, &case.marks, &mut state.status, limit).expect("carve takes the state");
     state.record = carved.next;
     log.carved.push(carved);
+}
+
+pub fn carve(calls: &Calls, case: &Case, state: &mut State, log: &mut Log) {
+    carve_up_to(u32::MAX, calls, case, state, log);
+}
+
+pub fn carve_one(calls: &Calls, case: &Case, state: &mut State, log: &mut Log) {
+    carve_up_to(1, calls, case, state, log);
+}
+
+pub fn take(calls: &Calls, case: &Case, state: &mut State, log: &mut Log) {
+    let taken = (calls.take)(state.record, &state.dist, &case.marks, &mut state.status, case.taken).expect("the voxel can be taken");
+    state.record = taken.next;
+    log.taken.push(taken);
+}
+
+/// Opens, or is refused.
+pub fn open(calls: &Calls, case: &Case, state: &mut State, log: &mut Log) {
+    match (calls.open)(state.record, &state.dist, &case.marks, &mut state.status) {
+        Ok(opened) => {
+            state.record = opened.next;
+            log.opened.push(opened);
+        }
+        Err(number) => log.refused = Some(number),
+    }
 }
 
 /// Open and carve in turn, until open refuses.
 pub fn turns(calls: &Calls, case: &Case, state: &mut State, log: &mut Log) {
     loop {
-        match (calls.open)(state.record, &state.dist, &mut state.status) {
-            Ok(opened) => {
-                state.record = opened.next;
-                log.opened.push(opened);
-                carve(calls, case, state, log);
-            }
-            Err(number) => {
-                log.refused = Some(number);
-                return;
-            }
+        open(calls, case, state, log);
+        if log.refused.is_some() {
+            return;
         }
+        carve(calls, case, state, log);
     }
 }
 
@@ -157,7 +188,7 @@ pub struct Race<'a> {
 
 impl<'a> Race<'a> {
     pub fn new(entrants: usize, case: &'a Case, start: &'a State, run: Run, apart: Option<&'a Apart>) -> Self {
-        let log = Log { carved: Vec::with_capacity(1 << 12), opened: Vec::with_capacity(1 << 12), refused: None };
+        let log = Log { carved: Vec::with_capacity(1 << 12), opened: Vec::with_capacity(1 << 12), ..Log::default() };
         let (times, order) = (vec![f64::INFINITY; entrants], Order::of(entrants));
         Race { case, start, run, apart, times, order, state: start.clone(), log, outcome: None, outcome_apart: None }
     }
@@ -181,9 +212,11 @@ impl<'a> Race<'a> {
     fn time(&mut self, calls: &Calls, case: &Case) -> f64 {
         self.state.set(self.start);
         self.log.carved.clear();
+        self.log.taken.clear();
         self.log.opened.clear();
         self.log.refused = None;
         case.values.warm();
+        std::hint::black_box(case.marks.iter().fold(0, |all, mark| all ^ mark));
         let from = clock::now();
         (self.run)(calls, case, &mut self.state, &mut self.log);
         clock::since(from)

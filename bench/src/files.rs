@@ -149,10 +149,10 @@ pub fn measure_read(case: fn(Sides, Shape) -> Case) -> Vec<Demand> {
 
 /// The written form has wide layers only where values need them.
 pub fn measure_write(case: fn(Sides, Shape) -> Case) -> Vec<Demand> {
-    let wide = |Case { sides, allowed, values }: Case| {
+    let wide = |Case { sides, allowed, values, .. }: Case| {
         let values: Values = lengthened(&values.wide).into();
         let file = written(sides, allowed, &values.wide).expect("a grid that can be written");
-        Sheet { title: format!("{}, wide values", named(sides)), case: Case { sides, allowed, values }, file }
+        Sheet { title: format!("{}, wide values", named(sides)), case: Case::unmarked(sides, allowed, values), file }
     };
     let unwritten = |sheet: &Sheet| Desk { values: sheet.case.values.clone(), file: vec![0xA5; sheet.file.len()] };
     measure("Write", sheets(case, wide), writers(), unwritten)

@@ -1,6 +1,6 @@
 //! The grids that are measured: a sphere, a torus and white noise, and those with gaps behind the face, each fitted to the sides.
 
-use crate::types::{narrowed, size, Sides, MISSING};
+use crate::types::{narrowed, size, Sides, HURRIED, MISSING, PINNED, UNMARKED};
 use wattlerugby::patch;
 
 /// SplitMix64: a seed names a case for good.
@@ -142,6 +142,38 @@ pub fn file(Sides { a, b, c }: Sides, allowed: u16, values: &[i32], width: impl 
 pub fn patches(n: usize, count: usize) -> Vec<u8> {
     let mut random = Random(n as u64);
     (0..count).flat_map(|_| patch(random.below(n as u64) as u32, random.word() as i16)).collect()
+}
+
+/// How the voxels of a grid are marked.
+#[derive(Clone, Copy, Debug, PartialEq, Eq)]
+pub enum Marks {
+    None,
+    AllHurried,
+    OneInTenPinned,
+}
+
+impl Marks {
+    pub const ALL: [Marks; 3] = [Marks::None, Marks::AllHurried, Marks::OneInTenPinned];
+
+    pub fn name(self) -> &'static str {
+        match self {
+            Marks::None => "none",
+            Marks::AllHurried => "every voxel hurried",
+            Marks::OneInTenPinned => "one in ten pinned",
+        }
+    }
+
+    /// A mark for each voxel; which ones are pinned is drawn.
+    pub fn of(self, sides: Sides) -> Vec<u8> {
+        let mut random = Random(size(sides) as u64);
+        let mut mark = || match self {
+            Marks::None => UNMARKED,
+            Marks::AllHurried => HURRIED,
+            Marks::OneInTenPinned if random.below(10) == 0 => PINNED,
+            Marks::OneInTenPinned => UNMARKED,
+        };
+        (0..size(sides)).map(|_| mark()).collect()
+    }
 }
 
 /// The distances of a crafted state.

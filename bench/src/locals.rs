@@ -44,13 +44,13 @@ fn in_place(rounds: usize, kept: u64) -> Vec<f64> {
 
 /// The blocks that the first carve meets on a grid of such a shape, in its order, over and over: found by one examination at a time.
 fn met(shape: Shape) -> Vec<u32> {
-    let case = Case { sides: SMALL, allowed: 0, values: values(SMALL, shape).into() };
+    let case = Case::unmarked(SMALL, 0, values(SMALL, shape).into());
     let mut state = State::blank(&case);
     contest::begin(&Calls::of::<Ours>(), &case, &mut state, &mut Log::default());
     let mut blocks = Vec::new();
     loop {
         let before = state.status.clone();
-        let carved = Ours::carve(state.record, &state.dist, &mut state.status, 1).expect("carve takes the state");
+        let carved = Ours::carve(state.record, &state.dist, &case.marks, &mut state.status, 1).expect("carve takes the state");
         // the voxel that was examined is the only one that is no longer pending
         let Some(i) = (0..before.len()).find(|&i| before[i] == 3 && state.status[i] != 3) else { break };
         // SAFETY: a pending voxel is an inner one, and there is a status byte for each voxel.

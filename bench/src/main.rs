@@ -5,6 +5,7 @@
 mod files;
 mod gaps;
 mod locals;
+mod marks;
 mod patches;
 mod singles;
 mod stacks;
@@ -60,7 +61,7 @@ fn named(Sides { a, b, c }: Sides) -> String {
 }
 
 fn case(sides: Sides, shape: Shape) -> Case {
-    Case { sides, allowed: ALLOWED, values: values(sides, shape).into() }
+    Case::unmarked(sides, ALLOWED, values(sides, shape).into())
 }
 
 /// Whether another archive is given that is from before document 02's CR 6.
@@ -74,7 +75,8 @@ fn apart(case: &Case) -> Option<Apart> {
         return None;
     }
     let values = filled(case.sides, &case.values.wide);
-    (values != case.values.wide).then(|| Apart { entrant: BEFORE, filled: Case { values: values.into(), ..*case } })
+    let marks = case.marks.clone();
+    (values != case.values.wide).then(|| Apart { entrant: BEFORE, filled: Case { values: values.into(), marks, ..*case } })
 }
 
 /// The state that runs lead to from a grid's values.
@@ -215,7 +217,7 @@ fn worst_case() -> Option<f64> {
     println!("| distances | examined | |\n|---|---|---|");
     let mut most: Option<f64> = None;
     for distances in Distances::ALL {
-        let case = Case { sides: LARGEST, allowed: 0, values: Values::default() };
+        let case = Case::unmarked(LARGEST, 0, Values::default());
         let start = crafted(LARGEST, distances);
         let race = contest(&ALL, &case, &start, carve, None);
         let times: Vec<f64> = race.times.iter().map(|t| t / examinations(race.log())).collect();
@@ -278,7 +280,7 @@ fn once(word: &str, shape: &str, side: &str, before: bool) {
     let calls = &ALL[if before { BEFORE } else { 0 }];
     if let Some(distances) = Distances::ALL.into_iter().find(|d| word == "crafted" && d.name() == shape) {
         let (mut state, mut log) = (crafted(sides, distances), Log::default());
-        carve(calls, &Case { sides, allowed: 0, values: Values::default() }, &mut state, &mut log);
+        carve(calls, &Case::unmarked(sides, 0, Values::default()), &mut state, &mut log);
         return println!("{} {}", size(sides), log.examined());
     }
     let case = case(sides, Shape::named(shape).expect("a shape by its name"));
@@ -333,6 +335,9 @@ fn main() {
     }
     if wanted("gaps") {
         demands.extend(gaps::measure());
+    }
+    if wanted("marks") {
+        demands.extend(marks::measure());
     }
     if wanted("carve") {
         demands.extend(against_before(&found, &took, "carve", &Shape::ALL, NOT_SLOWER));

@@ -1,7 +1,9 @@
 //! (a) The rules in idiomatic Rust: iterators, vectors, a breadth-first search, a BinaryHeap of tuples. The local test has the product's own body.
 
 use crate::local::joined;
-use crate::types::{begun, counts_fit, Carved, Local, Machine, Opened, Record, Refused, Sides, Taken, MISSING};
+use crate::types::{
+    any_stray_mark, begun, counts_fit, hurried, pinned, Carved, Local, Machine, Opened, Record, Refused, Sides, Taken, MISSING,
+};
 use std::cmp::Reverse;
 use std::collections::{BinaryHeap, VecDeque};
 
@@ -164,7 +166,7 @@ fn fill_distances(values: &[i32], steps: &[u32], dist: &mut [i32]) {
     }
 }
 
-fn fill_status(sides: Sides, inside: &[bool], status: &mut [u8]) {
+fn fill_status(sides: Sides, inside: &[bool], marks: &[u8], status: &mut [u8]) {
     let (mut low, mut high) = ((usize::MAX, usize::MAX, usize::MAX), (0, 0, 0));
     for i in (0..inside.len()).filter(|&i| inside[i]) {
         let (x, y, z) = sides.place(i);
@@ -175,7 +177,8 @@ fn fill_status(sides: Sides, inside: &[bool], status: &mut [u8]) {
         let (x, y, z) = sides.place(i);
         let kept = (low.0..=high.0).contains(&x) && (low.1..=high.1).contains(&y) && (low.2..=high.2).contains(&z);
         let outer = x == low.0 || x == high.0 || y == low.1 || y == high.1 || z == low.2 || z == high.2;
-        status[i] = match (kept, outer && !inside[i]) {
+        let waits = hurried(marks[i]) || outer && !pinned(marks[i]);
+        status[i] = match (kept, waits && !inside[i]) {
             (false, _) => 0,
             (true, false) => 1,
             (true, true) => 3,
@@ -183,10 +186,10 @@ fn fill_status(sides: Sides, inside: &[bool], status: &mut [u8]) {
     }
 }
 
-/// 1, 2, 7, 8.
-fn ready(given: &Record, dist: &[i32], status: &[u8]) -> Result<(), Refused> {
+/// 1, 2, 7, 29, 8; finish is lent no marks.
+fn ready(given: &Record, dist: &[i32], marks: Option<&[u8]>, status: &[u8]) -> Result<(), Refused> {
     let Some(n) = given.sides.voxels() else { return Err(1) };
-    if dist.len() != n || status.len() != n {
+    if dist.len() != n || status.len() != n || marks.is_some_and(|marks| marks.len() != n) {
         return Err(2);
     }
     let voxel_fit = |i: usize| match status[i] {
@@ -197,6 +200,9 @@ fn ready(given: &Record, dist: &[i32], status: &[u8]) -> Result<(), Refused> {
     };
     if !counts_fit(given) || !(0..n).all(voxel_fit) {
         return Err(7);
+    }
+    if marks.is_some_and(any_stray_mark) {
+        return Err(29);
     }
     if given.finished {
         return Err(8);
@@ -224,10 +230,10 @@ fn test_at(sides: Sides, status: &[u8], i: usize) -> Local {
 }
 
 /// The voxel is gone; what becomes pending by that is handed to `woken`.
-fn remove(sides: Sides, dist: &[i32], status: &mut [u8], i: usize, mut woken: impl FnMut(usize)) {
+fn remove(sides: Sides, dist: &[i32], marks: &[u8], status: &mut [u8], i: usize, mut woken: impl FnMut(usize)) {
     status[i] = 0;
     sides.touching(i, |j| {
-        if status[j] == 1 && dist[j] >= 0 {
+        if status[j] == 1 && dist[j] >= 0 && !pinned(marks[j]) {
             status[j] = 3;
             woken(j);
         }
@@ -238,13 +244,16 @@ impl Machine for Plain {
     const NAME: &'static str = "(a) idiomatic Rust";
     type Value = i32;
 
-    fn begin(sides: Sides, allowed: u16, values: &[i32], dist: &mut [i32], status: &mut [u8]) -> Result<Record, Refused> {
+    fn begin(sides: Sides, allowed: u16, values: &[i32], marks: &[u8], dist: &mut [i32], status: &mut [u8]) -> Result<Record, Refused> {
         let Some(n) = sides.voxels() else { return Err(1) };
-        if values.len() != n || dist.len() != n || status.len() != n {
+        if values.len() != n || marks.len() != n || dist.len() != n || status.len() != n {
             return Err(2);
         }
         if values.iter().any(|&v| stray(v)) {
             return Err(28);
+        }
+        if any_stray_mark(marks) {
+            return Err(29);
         }
         if (0..n).any(|i| negative(values[i]) && sides.border(i)) {
             return Err(3);
@@ -255,22 +264,22 @@ impl Machine for Plain {
         let values = filled(sides, values);
         let inside = inside(sides, &values);
         fill_distances(&values, &steps(sides, &inside), dist);
-        fill_status(sides, &inside, status);
+        fill_status(sides, &inside, marks, status);
         Ok(begun(sides, allowed))
     }
 
-    fn carve(given: Record, dist: &[i32], status: &mut [u8], limit: u32) -> Result<Carved, Refused> {
-        ready(&given, dist, status)?;
-        let mut pending: BinaryHeap<(i32, Reverse<usize>)> =
-            (0..status.len()).filter(|&i| status[i] == 3).map(|i| (dist[i], Reverse(i))).collect();
+    fn carve(given: Record, dist: &[i32], marks: &[u8], status: &mut [u8], limit: u32) -> Result<Carved, Refused> {
+        ready(&given, dist, Some(marks), status)?;
+        let key = |i: usize| (hurried(marks[i]), dist[i], Reverse(i));
+        let mut pending: BinaryHeap<(bool, i32, Reverse<usize>)> = (0..status.len()).filter(|&i| status[i] == 3).map(key).collect();
         let (mut examined, mut removed) = (0, 0);
         while examined < limit {
-            let Some((_, Reverse(i))) = pending.pop() else { break };
+            let Some((_, _, Reverse(i))) = pending.pop() else { break };
             status[i] = 1;
             examined += 1;
-            if joined::passes(block_around(given.sides, status, i)) {
+            if !pinned(marks[i]) && joined::passes(block_around(given.sides, status, i)) {
                 removed += 1;
-                remove(given.sides, dist, status, i, |j| pending.push((dist[j], Reverse(j))));
+                remove(given.sides, dist, marks, status, i, |j| pending.push(key(j)));
             }
         }
         let next =
@@ -278,8 +287,8 @@ impl Machine for Plain {
         Ok(Carved { examined, removed, pending: !pending.is_empty(), next })
     }
 
-    fn take(given: Record, dist: &[i32], status: &mut [u8], index: usize) -> Result<Taken, Refused> {
-        ready(&given, dist, status)?;
+    fn take(given: Record, dist: &[i32], marks: &[u8], status: &mut [u8], index: usize) -> Result<Taken, Refused> {
+        ready(&given, dist, Some(marks), status)?;
         if index >= status.len() {
             return Err(5);
         }
@@ -289,34 +298,38 @@ impl Machine for Plain {
         if dist[index] < 0 {
             return Err(11);
         }
+        if pinned(marks[index]) {
+            return Err(30);
+        }
         let Local { k, m, .. } = test_at(given.sides, status, index);
         if (k, m) != (1, 1) {
             return Err(12);
         }
-        remove(given.sides, dist, status, index, |_| ());
+        remove(given.sides, dist, marks, status, index, |_| ());
         Ok(Taken { k, m, next: Record { removals: given.removals + 1, ..given } })
     }
 
-    fn open(given: Record, dist: &[i32], status: &mut [u8]) -> Result<Opened, Refused> {
-        ready(&given, dist, status)?;
+    fn open(given: Record, dist: &[i32], marks: &[u8], status: &mut [u8]) -> Result<Opened, Refused> {
+        ready(&given, dist, Some(marks), status)?;
         if status.contains(&3) {
             return Err(13);
         }
         if given.openings == u32::from(given.allowed) {
             return Err(14);
         }
-        let may_open = |i: &usize| status[*i] == 1 && dist[*i] >= 0 && given.sides.facing(*i).any(|j| status[j] == 0);
+        let bare = |i: usize| given.sides.facing(i).any(|j| status[j] == 0);
+        let may_open = |&i: &usize| status[i] == 1 && dist[i] >= 0 && !pinned(marks[i]) && bare(i);
         let Some(index) = (0..status.len()).filter(may_open).max_by_key(|&i| (dist[i], Reverse(i))) else {
             return Err(15);
         };
         let Local { k, m, .. } = test_at(given.sides, status, index);
-        remove(given.sides, dist, status, index, |_| ());
+        remove(given.sides, dist, marks, status, index, |_| ());
         let next = Record { openings: given.openings + 1, removals: given.removals + 1, euler: given.euler + k as i32 - m as i32, ..given };
         Ok(Opened { index, k, m, next })
     }
 
     fn finish(given: Record, dist: &mut [i32], status: &[u8]) -> Result<Record, Refused> {
-        ready(&given, dist, status)?;
+        ready(&given, dist, None, status)?;
         if status.contains(&3) {
             return Err(13);
         }

@@ -88,9 +88,9 @@ pub struct Single {
     pub run: fn(&Archive, &Scene, &mut Desk) -> Option<[u64; 3]>,
 }
 
-fn carve_some(archive: &Archive, desk: &mut Desk, limit: u32) -> Option<[u64; 3]> {
+fn carve_some(archive: &Archive, scene: &Scene, desk: &mut Desk, limit: u32) -> Option<[u64; 3]> {
     let s = &mut desk.state;
-    let r = (archive.calls.carve)(s.record, &s.dist, &mut s.status, limit).expect("carve takes the state");
+    let r = (archive.calls.carve)(s.record, &s.dist, &scene.case.marks, &mut s.status, limit).expect("carve takes the state");
     Some([r.examined.into(), r.removed.into(), r.pending.into()])
 }
 
@@ -113,10 +113,10 @@ pub const SINGLES: [Single; 13] = [
         title: "check 7: take, refused after it with 5",
         from: |scene| &scene.begun,
         only_reads: true,
-        run: |archive, _, desk| {
+        run: |archive, scene, desk| {
             let s = &mut desk.state;
             let n = s.status.len();
-            let refused = (archive.calls.take)(s.record, &s.dist, &mut s.status, n).expect_err("there is no such voxel");
+            let refused = (archive.calls.take)(s.record, &s.dist, &scene.case.marks, &mut s.status, n).expect_err("there is no such voxel");
             Some([refused.into(), 0, 0])
         },
     },
@@ -125,9 +125,9 @@ pub const SINGLES: [Single; 13] = [
         title: "open, after the first carve",
         from: |scene| &scene.carved,
         only_reads: false,
-        run: |archive, _, desk| {
+        run: |archive, scene, desk| {
             let s = &mut desk.state;
-            let opened = (archive.calls.open)(s.record, &s.dist, &mut s.status);
+            let opened = (archive.calls.open)(s.record, &s.dist, &scene.case.marks, &mut s.status);
             Some(opened.map_or_else(|number| [number.into(), 0, 0], |o| [0, o.index as u64, o.k.into()]))
         },
     },
@@ -136,21 +136,21 @@ pub const SINGLES: [Single; 13] = [
         title: "carve with limit 1",
         from: |scene| &scene.begun,
         only_reads: false,
-        run: |archive, _, desk| carve_some(archive, desk, 1),
+        run: |archive, scene, desk| carve_some(archive, scene, desk, 1),
     },
     Single {
         word: "carve100",
         title: "carve with limit 100",
         from: |scene| &scene.begun,
         only_reads: false,
-        run: |archive, _, desk| carve_some(archive, desk, 100),
+        run: |archive, scene, desk| carve_some(archive, scene, desk, 100),
     },
     Single {
         word: "carve1000",
         title: "carve with limit 1,000",
         from: |scene| &scene.begun,
         only_reads: false,
-        run: |archive, _, desk| carve_some(archive, desk, 1000),
+        run: |archive, scene, desk| carve_some(archive, scene, desk, 1000),
     },
     Single {
         word: "finish",

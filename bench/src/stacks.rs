@@ -5,7 +5,7 @@ use crate::{case, named, GRIDS};
 use bench::archive::now::local_test;
 use bench::archive::read_layer;
 use bench::contest::{Case, State};
-use bench::grids::Shape;
+use bench::grids::{Marks, Shape};
 use bench::stack::{used, LEAST};
 use std::hint::black_box;
 
@@ -16,7 +16,9 @@ pub fn measure() -> f64 {
     println!("\n## Stack of our calls, bytes\n\n| grid | {} |\n|---|{}", CALLS.join(" | "), "---|".repeat(CALLS.len()));
     let mut most = 0;
     for sides in GRIDS {
-        let mut found = on(&Scene::of(case(sides, Shape::Torus)));
+        // each is the most of the torus with no voxel marked, with every voxel hurried and with some pinned
+        let marked = Marks::ALL.map(|marks| on(&Scene::of(Case { marks: marks.of(sides), ..case(sides, Shape::Torus) })));
+        let mut found: [usize; 11] = std::array::from_fn(|call| marked.iter().map(|found| found[call]).max().unwrap_or(0));
         // begin's is the most of the torus and of what is full of gaps
         found[0] = Shape::GAPS.into_iter().map(|shape| of_begin(&case(sides, shape))).fold(found[0], usize::max);
         let cells = found.map(|bytes| if bytes == LEAST { format!("under {bytes}") } else { bytes.to_string() });
@@ -28,7 +30,7 @@ pub fn measure() -> f64 {
 
 fn of_begin(case: &Case) -> usize {
     let (calls, mut blank) = (&archives()[0].calls, State::blank(case));
-    used(|| _ = (calls.begin)(case.sides, case.allowed, &case.values, &mut blank.dist, &mut blank.status).expect("begin"))
+    used(|| _ = (calls.begin)(case.sides, case.allowed, &case.values, &case.marks, &mut blank.dist, &mut blank.status).expect("begin"))
 }
 
 /// In the order of `CALLS`.
@@ -45,9 +47,9 @@ fn on(scene: &Scene) -> [usize; 11] {
     let mut file = scene.file.clone();
     [
         of_begin(case),
-        used(|| _ = (calls.carve)(begun.record, &begun.dist, &mut begun.status, u32::MAX).expect("carve")),
-        used(|| _ = (calls.take)(to_take.record, &to_take.dist, &mut to_take.status, pending)),
-        used(|| _ = (calls.open)(to_open.record, &to_open.dist, &mut to_open.status).expect("open")),
+        used(|| _ = (calls.carve)(begun.record, &begun.dist, &case.marks, &mut begun.status, u32::MAX).expect("carve")),
+        used(|| _ = (calls.take)(to_take.record, &to_take.dist, &case.marks, &mut to_take.status, pending)),
+        used(|| _ = (calls.open)(to_open.record, &to_open.dist, &case.marks, &mut to_open.status).expect("open")),
         used(|| _ = (calls.finish)(to_finish.record, &mut to_finish.dist, &to_finish.status).expect("finish")),
         used(|| assert!((others.crossing)(done.record, &done.dist, &done.status, index, axis).crosses)),
         used(|| assert_eq!(points(done.record, &done.dist, &done.status, 0, &mut out).count, scene.crossings)),

@@ -3,14 +3,16 @@
 use crate::contest::{begin, contest, Apart, Calls, Case, State};
 use crate::file::{read, write, Chunked, Indexed, Way};
 use crate::grids;
-use crate::grids::{blocks, inner, lengthened, patches, statuses, values, Random, Shape};
+use crate::grids::{blocks, inner, lengthened, patches, statuses, values, Marks, Random, Shape};
 use crate::local::searched::{both, by_cells, by_frontiers, touched};
 use crate::local::{joined, passes, ranked, Whole};
 use crate::neighbourhood::{gather, kept_bits};
 use crate::plain::{filled, Plain};
 use crate::race::{median, race, Contestant};
 use crate::tuned::Tuned;
-use crate::types::{begun, size, Carved, Machine, Opened, Record, Refused, Sides, Taken, Value, Values, MISSING};
+use crate::types::{
+    begun, size, Carved, Machine, Opened, Record, Refused, Sides, Taken, Value, Values, HURRIED, MISSING, PINNED, UNMARKED,
+};
 use reference::{grid, local, machine};
 use std::cell::RefCell;
 use std::collections::BTreeSet;
@@ -81,6 +83,17 @@ fn spoil(random: &mut Random, record: &mut Record, dist: &mut [i32], status: &mu
     }
 }
 
+/// Marks of n voxels: none, few or many, seldom of another length or with a byte over 3.
+fn random_marks(random: &mut Random, n: usize) -> Vec<u8> {
+    let in_100 = [0, 10, 60][random.below(3) as usize];
+    let length = if random.below(40) == 0 { n - 1 + 2 * random.below(2) as usize } else { n };
+    let mut marks: Vec<u8> = (0..length).map(|_| if random.below(100) < in_100 { random.below(4) as u8 } else { UNMARKED }).collect();
+    if random.below(40) == 0 {
+        marks[random.below(n as u64 - 1) as usize] = [4, 255][random.below(2) as usize];
+    }
+    marks
+}
+
 fn play(calls: &Calls, seed: u64) {
     let mut random = Random(seed);
     let mut side = || 3 + random.below(7) as usize;
@@ -90,8 +103,9 @@ fn play(calls: &Calls, seed: u64) {
     let allowed = [0, 1, 5, 65535][random.below(4) as usize];
     let (mut dist, mut status) = (vec![7; n], vec![7; n]);
     let (mut their_dist, mut their_status) = (dist.clone(), status.clone());
-    let ours = (calls.begin)(sides, allowed, &values.clone().into(), &mut dist, &mut status);
-    let expected = grid::begin(theirs(begun(sides, allowed)).sides, allowed, &values, &mut their_dist, &mut their_status);
+    let mut marks = random_marks(&mut random, n);
+    let ours = (calls.begin)(sides, allowed, &values.clone().into(), &marks, &mut dist, &mut status);
+    let expected = grid::begin(theirs(begun(sides, allowed)).sides, allowed, &values, &marks, &mut their_dist, &mut their_status);
     assert_eq!(ours.map(theirs), expected, "{} begin {seed}", calls.name);
     assert_eq!((&dist, &status), (&their_dist, &their_status), "{} begin {seed}", calls.name);
     let Ok(mut record) = ours else { return };
@@ -100,24 +114,27 @@ fn play(calls: &Calls, seed: u64) {
             spoil(&mut random, &mut record, &mut dist, &mut status);
             (their_dist, their_status) = (dist.clone(), status.clone());
         }
+        if random.below(10) == 0 {
+            marks = random_marks(&mut random, n);
+        }
         let mut their = theirs(record);
         let (ours, theirs_answer) = match random.below(8) {
             0..2 => {
                 let index = random.below(n as u64 + 1) as usize;
-                let r = (calls.take)(record, &dist, &mut status, index);
-                let t = machine::take(&mut their, &their_dist, &mut their_status, index as u64);
+                let r = (calls.take)(record, &dist, &marks, &mut status, index);
+                let t = machine::take(&mut their, &their_dist, &marks, &mut their_status, index as u64);
                 (r.map(|r| (r.next, vec![r.k as u64, r.m as u64])), t.map(|l| vec![l.k as u64, l.m as u64]))
             }
             2..5 => {
                 let limit = if random.below(2) == 0 { random.below(20) as u32 } else { u32::MAX };
-                let r = (calls.carve)(record, &dist, &mut status, limit);
-                let t = machine::carve(&mut their, &their_dist, &mut their_status, u64::from(limit));
+                let r = (calls.carve)(record, &dist, &marks, &mut status, limit);
+                let t = machine::carve(&mut their, &their_dist, &marks, &mut their_status, u64::from(limit));
                 let ours = r.map(|r| (r.next, vec![r.examined as u64, r.removed as u64, r.pending as u64]));
                 (ours, t.map(|c| vec![c.examined, c.removed, c.pending as u64]))
             }
             5..7 => {
-                let r = (calls.open)(record, &dist, &mut status);
-                let t = machine::open(&mut their, &their_dist, &mut their_status);
+                let r = (calls.open)(record, &dist, &marks, &mut status);
+                let t = machine::open(&mut their, &their_dist, &marks, &mut their_status);
                 let ours = r.map(|r| (r.next, vec![r.index as u64, r.k as u64, r.m as u64]));
                 (ours, t.map(|o| vec![o.index as u64, o.local.k as u64, o.local.m as u64]))
             }
@@ -292,13 +309,15 @@ type Begun = (Result<grid::Record, Refused>, Vec<i32>, Vec<u8>);
 
 fn begun_by(calls: &Calls, sides: Sides, values: &[i32]) -> Begun {
     let (mut dist, mut status) = (vec![7; values.len()], vec![7; values.len()]);
-    let answer = (calls.begin)(sides, 3, &values.to_vec().into(), &mut dist, &mut status);
+    let marks = vec![UNMARKED; values.len()];
+    let answer = (calls.begin)(sides, 3, &values.to_vec().into(), &marks, &mut dist, &mut status);
     (answer.map(theirs), dist, status)
 }
 
 fn begun_by_the_reference(sides: Sides, values: &[i32]) -> Begun {
     let (mut dist, mut status) = (vec![7; values.len()], vec![7; values.len()]);
-    let answer = grid::begin(theirs(begun(sides, 3)).sides, 3, values, &mut dist, &mut status);
+    let marks = vec![UNMARKED; values.len()];
+    let answer = grid::begin(theirs(begun(sides, 3)).sides, 3, values, &marks, &mut dist, &mut status);
     (answer, dist, status)
 }
 
@@ -418,21 +437,21 @@ impl Machine for Earlier {
     const NAME: &'static str = "earlier";
     type Value = i32;
 
-    fn begin(sides: Sides, allowed: u16, values: &[i32], dist: &mut [i32], status: &mut [u8]) -> Result<Record, Refused> {
+    fn begin(sides: Sides, allowed: u16, values: &[i32], marks: &[u8], dist: &mut [i32], status: &mut [u8]) -> Result<Record, Refused> {
         let outside: Vec<i32> = values.iter().map(|&v| if v == MISSING { 1 } else { v }).collect();
-        Plain::begin(sides, allowed, &outside, dist, status)
+        Plain::begin(sides, allowed, &outside, marks, dist, status)
     }
 
-    fn carve(given: Record, dist: &[i32], status: &mut [u8], limit: u32) -> Result<Carved, Refused> {
-        Plain::carve(given, dist, status, limit)
+    fn carve(given: Record, dist: &[i32], marks: &[u8], status: &mut [u8], limit: u32) -> Result<Carved, Refused> {
+        Plain::carve(given, dist, marks, status, limit)
     }
 
-    fn take(given: Record, dist: &[i32], status: &mut [u8], index: usize) -> Result<Taken, Refused> {
-        Plain::take(given, dist, status, index)
+    fn take(given: Record, dist: &[i32], marks: &[u8], status: &mut [u8], index: usize) -> Result<Taken, Refused> {
+        Plain::take(given, dist, marks, status, index)
     }
 
-    fn open(given: Record, dist: &[i32], status: &mut [u8]) -> Result<Opened, Refused> {
-        Plain::open(given, dist, status)
+    fn open(given: Record, dist: &[i32], marks: &[u8], status: &mut [u8]) -> Result<Opened, Refused> {
+        Plain::open(given, dist, marks, status)
     }
 
     fn finish(given: Record, dist: &mut [i32], status: &[u8]) -> Result<Record, Refused> {
@@ -450,7 +469,7 @@ fn who_fills_gaps() {
 fn race_apart(values: Option<fn(&Drawn) -> Vec<i32>>) {
     let all = [Calls::of::<Plain>(), Calls::of::<Tuned>(), Calls::of::<Earlier>()];
     let drawn = &drawn()[0];
-    let case = |values: Vec<i32>| Case { sides: drawn.sides(), allowed: 0, values: values.into() };
+    let case = |values: Vec<i32>| Case::unmarked(drawn.sides(), 0, values.into());
     let apart = values.map(|values| Apart { entrant: 2, filled: case(values(drawn)) });
     let given = case(drawn.given());
     let race = contest(&all, &given, &State::blank(&given), begin, apart.as_ref()).times;
@@ -472,6 +491,17 @@ fn not_set_apart_on_a_grid_with_gaps() {
 #[should_panic = "other buffers"]
 fn set_apart_with_a_gap_left() {
     race_apart(Some(Drawn::given));
+}
+
+/// The marks that are measured are what their names say.
+#[test]
+fn measured_marks() {
+    let sides = Sides { a: 16, b: 16, c: 16 };
+    let count = |marks: Marks, mark: u8| marks.of(sides).iter().filter(|&&m| m == mark).count();
+    assert_eq!(count(Marks::None, UNMARKED), 4096);
+    assert_eq!(count(Marks::AllHurried, HURRIED), 4096);
+    let pinned = count(Marks::OneInTenPinned, PINNED);
+    assert!((330..500).contains(&pinned) && pinned + count(Marks::OneInTenPinned, UNMARKED) == 4096, "{pinned} pinned");
 }
 
 /// Values of which none, some or all need more than 16 bits; in some grids one is at the edge of a range, or out of it.

@@ -2,7 +2,9 @@
 //! and the local test with a rank table.
 
 use crate::local::ranked;
-use crate::types::{begun, counts_fit, Carved, Local, Machine, Opened, Record, Refused, Sides, Taken, MISSING};
+use crate::types::{
+    any_stray_mark, begun, counts_fit, pinned, Carved, Local, Machine, Opened, Record, Refused, Sides, Taken, HURRIED, MISSING, PINNED,
+};
 use std::collections::BinaryHeap;
 
 pub struct Tuned;
@@ -145,7 +147,7 @@ fn fill_distances(values: &[i32], steps: &[u8], dist: &mut [i32]) {
 }
 
 /// The box of the zeros, then the status in place of the steps.
-fn fill_status(status: &mut [u8], sides: Sides) {
+fn fill_status(status: &mut [u8], marks: &[u8], sides: Sides) {
     let mut low = [usize::MAX; 3];
     let mut high = [0; 3];
     rows(sides, |at, _| {
@@ -164,18 +166,19 @@ fn fill_status(status: &mut [u8], sides: Sides) {
             return;
         }
         let outer = y == low[1] || y == high[1] || z == low[2] || z == high[2];
-        for (x, s) in row.iter_mut().enumerate() {
+        for (x, (s, mark)) in row.iter_mut().zip(&marks[at..at + sides.a]).enumerate() {
             let kept = (low[0] <= x) & (x <= high[0]);
-            let pending = (*s != 0) & (outer | (x == low[0]) | (x == high[0]));
+            let bare = outer | (x == low[0]) | (x == high[0]);
+            let pending = (*s != 0) & ((mark & HURRIED != 0) | bare & (mark & PINNED == 0));
             *s = u8::from(kept) * (1 + 2 * u8::from(pending));
         }
     });
 }
 
-/// 1, 2, 7, 8.
-fn ready(given: &Record, dist: &[i32], status: &[u8]) -> Result<(), Refused> {
+/// 1, 2, 7, 29, 8; finish is lent no marks.
+fn ready(given: &Record, dist: &[i32], marks: Option<&[u8]>, status: &[u8]) -> Result<(), Refused> {
     let Some(n) = given.sides.voxels() else { return Err(1) };
-    if dist.len() != n || status.len() != n {
+    if dist.len() != n || status.len() != n || marks.is_some_and(|marks| marks.len() != n) {
         return Err(2);
     }
     let odd = |(&w, &s): (&i32, &u8)| u8::from((s > 3) | (s == 2) | (w < 0) & (s != 1));
@@ -187,6 +190,9 @@ fn ready(given: &Record, dist: &[i32], status: &[u8]) -> Result<(), Refused> {
     });
     if !counts_fit(given) || bad != 0 {
         return Err(7);
+    }
+    if marks.is_some_and(any_stray_mark) {
+        return Err(29);
     }
     if given.finished {
         return Err(8);
@@ -213,11 +219,16 @@ fn word(dist: i32, i: usize) -> u64 {
     (dist as u64) << 18 | (0x3FFFF - i as u64)
 }
 
-fn remove(near: &[isize; 26], dist: &[i32], status: &mut [u8], i: usize, mut woken: impl FnMut(usize)) {
+/// The same with hurried voxels before all others: a distance here is not negative, so it has 31 bits.
+fn marked_word(dist: i32, mark: u8, i: usize) -> u64 {
+    word(dist, i) | u64::from(mark & HURRIED) << 49
+}
+
+fn remove(near: &[isize; 26], dist: &[i32], marks: &[u8], status: &mut [u8], i: usize, mut woken: impl FnMut(usize)) {
     status[i] = 0;
     for &o in near {
         let j = i.wrapping_add_signed(o);
-        if status[j] == 1 && dist[j] >= 0 {
+        if status[j] == 1 && dist[j] >= 0 && !pinned(marks[j]) {
             status[j] = 3;
             woken(j);
         }
@@ -225,18 +236,18 @@ fn remove(near: &[isize; 26], dist: &[i32], status: &mut [u8], i: usize, mut wok
 }
 
 /// The word of the voxel to open, or 0.
-fn foremost(sides: Sides, dist: &[i32], status: &[u8]) -> u64 {
+fn foremost(sides: Sides, dist: &[i32], marks: &[u8], status: &[u8]) -> u64 {
     let (a, layer) = (sides.a, sides.a * sides.b);
     let edge = 1 + a + layer;
     let n = status.len();
     let width = n - 2 * edge;
     let part = |from: usize| &status[from..from + width];
-    let (here, d) = (part(edge), &dist[edge..edge + width]);
+    let (here, d, marks) = (part(edge), &dist[edge..edge + width], &marks[edge..edge + width]);
     let (x0, x1, y0, y1, z0, z1) = (part(edge - 1), part(edge + 1), part(edge - a), part(edge + a), part(edge - layer), part(edge + layer));
     let mut best = 0;
     for i in 0..width {
         let bare = (x0[i] == 0) | (x1[i] == 0) | (y0[i] == 0) | (y1[i] == 0) | (z0[i] == 0) | (z1[i] == 0);
-        let may = (here[i] != 0) & (d[i] >= 0) & bare;
+        let may = (here[i] != 0) & (d[i] >= 0) & (marks[i] & PINNED == 0) & bare;
         best = best.max(word(d[i], i + edge) * u64::from(may));
     }
     best
@@ -246,13 +257,16 @@ impl Machine for Tuned {
     const NAME: &'static str = "(b) tuned Rust";
     type Value = i32;
 
-    fn begin(sides: Sides, allowed: u16, values: &[i32], dist: &mut [i32], status: &mut [u8]) -> Result<Record, Refused> {
+    fn begin(sides: Sides, allowed: u16, values: &[i32], marks: &[u8], dist: &mut [i32], status: &mut [u8]) -> Result<Record, Refused> {
         let Some(n) = sides.voxels() else { return Err(1) };
-        if values.len() != n || dist.len() != n || status.len() != n {
+        if values.len() != n || marks.len() != n || dist.len() != n || status.len() != n {
             return Err(2);
         }
         if values.iter().fold(false, |any, &v| any | stray(v)) {
             return Err(28);
+        }
+        if any_stray_mark(marks) {
+            return Err(29);
         }
         let any = |part: &[i32]| part.iter().fold(false, |any, &v| any | negative(v));
         let mut outer_negative = false;
@@ -281,15 +295,15 @@ impl Machine for Tuned {
         flood(status, &mut work, &near, seed, 2, 3);
         sweep(status, sides);
         fill_distances(values, status, dist);
-        fill_status(status, sides);
+        fill_status(status, marks, sides);
         Ok(begun(sides, allowed))
     }
 
-    fn carve(given: Record, dist: &[i32], status: &mut [u8], limit: u32) -> Result<Carved, Refused> {
-        ready(&given, dist, status)?;
+    fn carve(given: Record, dist: &[i32], marks: &[u8], status: &mut [u8], limit: u32) -> Result<Carved, Refused> {
+        ready(&given, dist, Some(marks), status)?;
         let sides = given.sides;
         let near = touching(sides);
-        let words: Vec<u64> = (0..status.len()).filter(|&i| status[i] == 3).map(|i| word(dist[i], i)).collect();
+        let words: Vec<u64> = (0..status.len()).filter(|&i| status[i] == 3).map(|i| marked_word(dist[i], marks[i], i)).collect();
         let mut pending = BinaryHeap::from(words);
         let (mut examined, mut removed) = (0, 0);
         while examined < limit {
@@ -297,9 +311,9 @@ impl Machine for Tuned {
             let i = (0x3FFFF - (w & 0x3FFFF)) as usize;
             status[i] = 1;
             examined += 1;
-            if ranked::passes(bits_around(sides, status, i)) {
+            if !pinned(marks[i]) && ranked::passes(bits_around(sides, status, i)) {
                 removed += 1;
-                remove(&near, dist, status, i, |j| pending.push(word(dist[j], j)));
+                remove(&near, dist, marks, status, i, |j| pending.push(marked_word(dist[j], marks[j], j)));
             }
         }
         let next =
@@ -307,8 +321,8 @@ impl Machine for Tuned {
         Ok(Carved { examined, removed, pending: !pending.is_empty(), next })
     }
 
-    fn take(given: Record, dist: &[i32], status: &mut [u8], index: usize) -> Result<Taken, Refused> {
-        ready(&given, dist, status)?;
+    fn take(given: Record, dist: &[i32], marks: &[u8], status: &mut [u8], index: usize) -> Result<Taken, Refused> {
+        ready(&given, dist, Some(marks), status)?;
         if index >= status.len() {
             return Err(5);
         }
@@ -318,35 +332,38 @@ impl Machine for Tuned {
         if dist[index] < 0 {
             return Err(11);
         }
+        if pinned(marks[index]) {
+            return Err(30);
+        }
         let Local { k, m, .. } = ranked::test(bits_around(given.sides, status, index));
         if k != 1 || m != 1 {
             return Err(12);
         }
-        remove(&touching(given.sides), dist, status, index, |_| ());
+        remove(&touching(given.sides), dist, marks, status, index, |_| ());
         Ok(Taken { k, m, next: Record { removals: given.removals + 1, ..given } })
     }
 
-    fn open(given: Record, dist: &[i32], status: &mut [u8]) -> Result<Opened, Refused> {
-        ready(&given, dist, status)?;
+    fn open(given: Record, dist: &[i32], marks: &[u8], status: &mut [u8]) -> Result<Opened, Refused> {
+        ready(&given, dist, Some(marks), status)?;
         if any_pending(status) {
             return Err(13);
         }
         if given.openings == u32::from(given.allowed) {
             return Err(14);
         }
-        let best = foremost(given.sides, dist, status);
+        let best = foremost(given.sides, dist, marks, status);
         if best == 0 {
             return Err(15);
         }
         let index = (0x3FFFF - (best & 0x3FFFF)) as usize;
         let Local { k, m, .. } = ranked::test(bits_around(given.sides, status, index));
-        remove(&touching(given.sides), dist, status, index, |_| ());
+        remove(&touching(given.sides), dist, marks, status, index, |_| ());
         let next = Record { openings: given.openings + 1, removals: given.removals + 1, euler: given.euler + k as i32 - m as i32, ..given };
         Ok(Opened { index, k, m, next })
     }
 
     fn finish(given: Record, dist: &mut [i32], status: &[u8]) -> Result<Record, Refused> {
-        ready(&given, dist, status)?;
+        ready(&given, dist, None, status)?;
         if any_pending(status) {
             return Err(13);
         }

@@ -2,7 +2,7 @@
 
 use std::hint::black_box;
 use wattlerugby::{widened, NARROW_MISSING};
-pub use wattlerugby::{Carved, LocalTest as Local, Opened, Record, Sides, Taken, MISSING};
+pub use wattlerugby::{Carved, LocalTest as Local, Opened, Record, Sides, Taken, HURRIED, MISSING, PINNED, UNMARKED};
 
 /// n, also where a side is not fit.
 pub fn size(sides: Sides) -> usize {
@@ -104,13 +104,33 @@ impl Value for i16 {
     }
 }
 
+/// A mark of its own kind for each voxel; any other byte is number 29.
+pub fn any_stray_mark(marks: &[u8]) -> bool {
+    marks.iter().fold(0, |all, mark| all | mark) > PINNED | HURRIED
+}
+
+pub fn pinned(mark: u8) -> bool {
+    mark & PINNED != 0
+}
+
+pub fn hurried(mark: u8) -> bool {
+    mark & HURRIED != 0
+}
+
 /// The five calls of the carving machine.
 pub trait Machine {
     const NAME: &'static str;
     type Value: Value;
-    fn begin(sides: Sides, allowed: u16, values: &[Self::Value], dist: &mut [i32], status: &mut [u8]) -> Result<Record, Refused>;
-    fn carve(given: Record, dist: &[i32], status: &mut [u8], limit: u32) -> Result<Carved, Refused>;
-    fn take(given: Record, dist: &[i32], status: &mut [u8], index: usize) -> Result<Taken, Refused>;
-    fn open(given: Record, dist: &[i32], status: &mut [u8]) -> Result<Opened, Refused>;
+    fn begin(
+        sides: Sides,
+        allowed: u16,
+        values: &[Self::Value],
+        marks: &[u8],
+        dist: &mut [i32],
+        status: &mut [u8],
+    ) -> Result<Record, Refused>;
+    fn carve(given: Record, dist: &[i32], marks: &[u8], status: &mut [u8], limit: u32) -> Result<Carved, Refused>;
+    fn take(given: Record, dist: &[i32], marks: &[u8], status: &mut [u8], index: usize) -> Result<Taken, Refused>;
+    fn open(given: Record, dist: &[i32], marks: &[u8], status: &mut [u8]) -> Result<Opened, Refused>;
     fn finish(given: Record, dist: &mut [i32], status: &[u8]) -> Result<Record, Refused>;
 }
