@@ -37,15 +37,6 @@ static int refused(const char *call, uint8_t number)
     return 1;
 }
 
-/* How many values the file's header asks for. Where a side is unfit, or missing, none: read refuses the header before it looks at them. */
-static size_t values_in(size_t length)
-{
-    size_t i, n = 1;
-    for (i = 2; i < 5; i++)
-        n *= i < length && file[i] <= MOST_SIDE ? file[i] : 0;
-    return n;
-}
-
 /* The standard loop. Gives the record after it; the number that ended it is the last open's. */
 static wattlerugby_record carve_to_the_end(wattlerugby_record record, size_t n, uint8_t *ended_by)
 {
@@ -138,7 +129,8 @@ int main(int argc, char **argv)
         fprintf(stderr, "carve_grid: %s %s\n", argv[1], length == 0 ? "cannot be read" : "is longer than there is room for");
         return 2;
     }
-    n = values_in(length);
+    /* of a header that read is going to refuse, n is 0 */
+    n = wattlerugby_voxels(wattlerugby_read_header(file, length).sides);
     header = wattlerugby_read(file, length, values, n);
     if (header.refusal != 0)
         return refused("read", header.refusal);

@@ -2,8 +2,9 @@
  *
  * Link with libwattlerugby.a, as packaging/install puts it beside this header (`pkg-config --cflags --libs wattlerugby`, or
  * find_package(wattlerugby) in CMake). In the repository it is target/staticlib/libcapi.a, which `rt staticlib capi` writes. It is for
- * x86-64 Linux. Of other libraries it needs one function, memset. It allocates nothing, and keeps nothing between calls. Carve uses
- * 13 KB of stack, every other call under 1 KB (docs/PERFORMANCE.md).
+ * x86-64 Linux. Of other libraries it needs one function, memset. It allocates nothing, and keeps nothing between calls. The pages and
+ * examples that are named here lie in share/doc/wattlerugby where packaging/install put them; a release, and the repository, have them at the
+ * top.
  *
  * IN SHORT
  *
@@ -15,7 +16,9 @@
  *     wattlerugby_crossing  a point of the body's surface between two voxels
  *     wattlerugby_points    all points of the surface, as many at a time as you have room for
  *     wattlerugby_read, wattlerugby_read_layer   a grid file, whole or a layer at a time
+ *     wattlerugby_read_header, wattlerugby_voxels   the sides that a file has, and how many voxels these are: so much to lend
  *     wattlerugby_write     values out as a grid file; wattlerugby_written_width and wattlerugby_written_length say how long it is
+ *     wattlerugby_patch     a single corrected voxel, as bytes to append to a grid file
  *     wattlerugby_local_test   the test by which a voxel may go, on its own
  *     wattlerugby_reason    a refusal number as text
  *     wattlerugby_version_number   the version of the archive that is linked; WATTLERUGBY_VERSION_NUMBER is the header's
@@ -56,6 +59,19 @@
  * A grid in work is three things that belong together: a record, a buffer of n worked distances, and a buffer of n status bytes. They
  * stay with you between calls; lend the same two buffers, unchanged, with the record that the last call answered. Marks are lent beside
  * them. No call writes them, and you may change them between calls.
+ *
+ * MEMORY
+ *
+ *     bytes a voxel        64 x 64 x 64   needed
+ *     the file             1,048,775      by read; so long without patches, each of which is 8 bytes more
+ *     values   4           1,048,576      by read, write and begin
+ *     dist     4           1,048,576      from begin to the last point
+ *     status   1             262,144      from begin to the last point
+ *     marks    1             262,144      by begin, carve, take and open
+ *
+ * So 10 bytes a voxel and the file, and 6 a voxel once begin has answered: then `values` may be given back, unless you want to tell the
+ * missing points that count as inside (see begin). Points need 24 bytes for each that you have room for. On the stack carve uses 13 KB,
+ * every other call under 1 KB (docs/PERFORMANCE.md).
  *
  * MARKS
  *
@@ -282,6 +298,15 @@ typedef struct wattlerugby_sides {
     size_t b;
     size_t c;
 } wattlerugby_sides;
+
+/* n, how many voxels a grid with these sides has: so many elements each buffer has. 0 where a side is outside 3 to 64, which every call
+ * refuses with 1. */
+static inline size_t wattlerugby_voxels(wattlerugby_sides sides)
+{
+    if (sides.a < 3 || sides.a > 64 || sides.b < 3 || sides.b > 64 || sides.c < 3 || sides.c > 64)
+        return 0;
+    return sides.a * sides.b * sides.c;
+}
 
 /* What begin makes, and every later call is given and answers anew. Read it freely; do not change it.
  *
@@ -512,9 +537,37 @@ typedef struct wattlerugby_read_answer {
     uint16_t allowed;
 } wattlerugby_read_answer;
 
-/* Reads a whole file into n values, for begin: the layers, with the patches applied in the order of the file. The header's bytes 2, 3 and
- * 4 tell how many values to lend. Every check is made before the first value is written: nothing is, where the file is refused, be it for
- * its last patch.
+/* Sides and T of a file by its first 7 bytes, as wattlerugby_read answers them; the rest of it is not looked at. So it tells how many values
+ * read is to be lent, wattlerugby_voxels(header.sides): after a refusal 0, and read then refuses with the same number.
+ *
+ * Checks: 21 (fewer than 7 bytes), 22, 1. */
+static inline wattlerugby_read_answer wattlerugby_read_header(const uint8_t *file, size_t file_len)
+{
+    wattlerugby_read_answer header = {WATTLERUGBY_DONE, {0, 0, 0}, 0};
+    wattlerugby_sides sides;
+    if (file_len < 7) {
+        header.refusal = WATTLERUGBY_SHORT;
+        return header;
+    }
+    if (file[0] != 0x56 || file[1] != 0x48) {
+        header.refusal = WATTLERUGBY_MARK;
+        return header;
+    }
+    sides.a = file[2];
+    sides.b = file[3];
+    sides.c = file[4];
+    if (wattlerugby_voxels(sides) == 0) {
+        header.refusal = WATTLERUGBY_SIDE;
+        return header;
+    }
+    header.sides = sides;
+    header.allowed = (uint16_t)(file[5] | file[6] << 8);
+    return header;
+}
+
+/* Reads a whole file into n values, for begin: the layers, with the patches applied in the order of the file. wattlerugby_read_header tells
+ * how many values to lend. Every check is made before the first value is written: nothing is, where the file is refused, be it for its last
+ * patch.
  *
  * All bytes after the last layer are taken as patch records. There is no limit to their number, so none to the file's length, and the time
  * is in proportion to that length. Any value of two bytes may be patched in, WATTLERUGBY_NARROW_MISSING too.
@@ -551,6 +604,27 @@ wattlerugby_read_layer_answer wattlerugby_read_layer(
     const uint8_t *file, size_t file_len,
     size_t start);
 
+/* The bytes of a patch record. */
+#define WATTLERUGBY_PATCH_LENGTH 8
+
+/* Writes the patch record that gives the voxel of that index a value, into 8 bytes of yours: append them to a file. The value is one as read
+ * gives it, WATTLERUGBY_MISSING or -32767 to 32767. Answers how many bytes were written: 8, or 0 for any other value, which two bytes do not
+ * hold. The index is not looked at, since a patch does not know its file: read refuses one of n or more with 5. */
+static inline size_t wattlerugby_patch(uint32_t index, int32_t value, uint8_t *patch)
+{
+    uint16_t narrow = (uint16_t)(value == WATTLERUGBY_MISSING ? WATTLERUGBY_NARROW_MISSING : value);
+    size_t i;
+    if (value != WATTLERUGBY_MISSING && (value < -32767 || value > 32767))
+        return 0;
+    patch[0] = 0x56;
+    patch[1] = 0x50;
+    for (i = 0; i < 4; i++)
+        patch[2 + i] = (uint8_t)(index >> 8 * i);
+    patch[6] = (uint8_t)narrow;
+    patch[7] = (uint8_t)(narrow >> 8);
+    return WATTLERUGBY_PATCH_LENGTH;
+}
+
 /* The bytes of the longest file that write makes, that of 64 x 64 x 64 voxels with wide layers: room for any of them. A file with patches
  * may be longer. */
 #define WATTLERUGBY_LONGEST_FILE 1048775
@@ -575,9 +649,7 @@ static inline uint8_t wattlerugby_written_width(const int32_t *values, size_t va
  * refuses with 1, or where the width is neither 2 nor 4: there is no such file. */
 static inline size_t wattlerugby_written_length(wattlerugby_sides sides, uint8_t width)
 {
-    if (sides.a < 3 || sides.a > 64 || sides.b < 3 || sides.b > 64 || sides.c < 3 || sides.c > 64)
-        return 0;
-    if (width != WATTLERUGBY_NARROW && width != WATTLERUGBY_WIDE)
+    if (wattlerugby_voxels(sides) == 0 || (width != WATTLERUGBY_NARROW && width != WATTLERUGBY_WIDE))
         return 0;
     return 7 + sides.c * (3 + width * sides.a * sides.b);
 }

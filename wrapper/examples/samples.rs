@@ -1,7 +1,7 @@
 //! Writes samples/: the grid files, beside each its line and its picture as text, and a list of pins.
 //! usage: cargo run --example samples -- FOLDER
 
-use wattlerugby::{patch, read, written, Grid, Refusal, Sides, GONE, MISSING, NO_LIMIT};
+use wattlerugby::{patch, read_values, written, Grid, Refusal, Sides, GONE, MISSING, NO_LIMIT};
 
 pub struct Sample {
     pub name: &'static str,
@@ -165,8 +165,7 @@ impl Sample {
 
     /// The values that the file reads as.
     fn corrected(&self) -> Vec<i32> {
-        let mut values = vec![0; self.values.len()];
-        read(&self.file(), &mut values).expect("a sample is a good file");
+        let (_, _, values) = read_values(&self.file()).expect("a sample is a good file");
         values
     }
 

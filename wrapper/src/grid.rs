@@ -1,14 +1,15 @@
 //! A grid in work: a record with the two buffers that belong to it, and its marks.
 
 use crate::{
-    begin, carve, crossing, finish, open, read, take, Carved, Opened, Point, Points, Record, Refusal, Sides, Taken, HURRIED, NO_LIMIT,
-    PINNED, UNMARKED,
+    begin, carve, crossing, finish, open, read_values, take, Carved, Opened, Point, Points, Record, Refusal, Sides, Taken, HURRIED,
+    NO_LIMIT, PINNED, UNMARKED,
 };
 
 /// A record with its worked distances and status bytes, and the marks that it lends to each call: none, unless you set them. After each call
 /// the record is the one for the next.
 ///
-/// Crossings and the buffers only read, so threads may share a finished grid by `&Grid`.
+/// It takes 6 bytes a voxel: 4 for the distance, one each for status and mark. The values that it begins from are not kept, and take 4 more
+/// where you keep them. Crossings and the buffers only read, so threads may share a finished grid by `&Grid`.
 ///
 /// ```
 /// use wattlerugby::{Grid, Refusal, Sides, GONE};
@@ -87,11 +88,28 @@ impl Grid {
     /// assert_eq!(Grid::from_file(b"VH"), Err(Refusal::SHORT));
     /// ```
     pub fn from_file(file: &[u8]) -> Result<Grid, Refusal> {
-        let side = |i: usize| file.get(i).map_or(0, |&s| usize::from(s));
-        let n = Sides { a: side(2), b: side(3), c: side(4) }.voxels().unwrap_or(0);
-        let mut values = vec![0; n];
-        let (sides, allowed) = read(file, &mut values)?;
-        Grid::begin(sides, allowed, &values)
+        Ok(Grid::from_file_with_values(file)?.0)
+    }
+
+    /// Reads a grid file, begins, and gives the values too: by them missing points are told, and those among them that count as inside.
+    ///
+    /// ```
+    /// use wattlerugby::{written, Grid, Sides, MISSING};
+    ///
+    /// // a block of 3 x 3 x 3 voxels; no shot reached its middle, nor a corner of the grid
+    /// let inner = |i: usize| [i % 5, i / 5 % 5, i / 25].iter().all(|p| (1..4).contains(p));
+    /// let mut values: Vec<i32> = (0..125).map(|i| if inner(i) { -7 } else { 7 }).collect();
+    /// (values[0], values[62]) = (MISSING, MISSING);
+    /// let file = written(Sides { a: 5, b: 5, c: 5 }, 0, &values)?;
+    ///
+    /// let (grid, values) = Grid::from_file_with_values(&file)?;
+    /// let counts_as_inside = |&i: &usize| values[i] == MISSING && grid.distances()[i] < 0;
+    /// assert_eq!((0..125).filter(counts_as_inside).collect::<Vec<_>>(), [62]);
+    /// # Ok::<(), wattlerugby::Refusal>(())
+    /// ```
+    pub fn from_file_with_values(file: &[u8]) -> Result<(Grid, Vec<i32>), Refusal> {
+        let (sides, allowed, values) = read_values(file)?;
+        Ok((Grid::begin(sides, allowed, &values)?, values))
     }
 
     /// Resumes a grid from its parts, as [`Grid::into_parts`] gave them. Parts that every call would refuse are refused here: 1, 2, 7.

@@ -19,9 +19,9 @@
 //! # Ok::<(), wattlerugby::Refusal>(())
 //! ```
 //!
-//! A grid file comes in by [`read`], or a layer at a time by [`read_layer`], and goes out by [`write()`]; [`written`] gives its bytes as a
-//! vector. A [`patch`] behind them corrects a single voxel. Each grid has one written form, so two of them are the same exactly where their
-//! files are:
+//! A grid file comes in by [`read`], or a layer at a time by [`read_layer`], and goes out by [`write()`]; [`read_values`] and [`written`] have
+//! a vector for it. A [`patch`] behind its layers corrects a single voxel. Each grid has one written form, so two of them are the same exactly
+//! where their files are:
 //!
 //! ```
 //! use wattlerugby::{written, Grid, Sides};
@@ -68,10 +68,10 @@
 //! # The archive
 //!
 //! The library is the archive that `rt staticlib capi` writes: build.rs looks for it in the folder that the variable `WATTLERUGBY_ARCHIVE`
-//! names (as libwattlerugby.a or libcapi.a), otherwise in target/staticlib. `cargo doc` and `cargo check` need none. The archive is for x86-64
-//! Linux, and so is this crate: for any other target it does not compile. An archive of another version, in which a call takes or answers
-//! something else, does not link; [`archive_version`] tells which one is linked. Rounding must be to nearest, as it is where nobody changed
-//! it.
+//! names (as libwattlerugby.a or libcapi.a), otherwise in target/staticlib, or in lib/ of a release. `cargo doc` and `cargo check` need none;
+//! where a program is to be built without it, the compiler names the archive that it does not find. The archive is for x86-64 Linux, and so is
+//! this crate: for any other target it does not compile. An archive of another version, in which a call takes or answers something else, does
+//! not link; [`archive_version`] tells which one is linked. Rounding must be to nearest, as it is where nobody changed it.
 //!
 //! What a result means is told in docs/RESULT.md, and the rules in docs/RULES.md.
 
@@ -494,8 +494,53 @@ pub fn points(given: impl Into<raw::Record>, dist: &[i32], status: &[u8], positi
     done(r.refusal, Filled { count: r.count, next: r.next })
 }
 
-/// Reads a whole grid file into n values, the layers with the patches applied in the order of the file, and answers sides and T. Bytes 2, 3
-/// and 4 of the file tell how many values to lend.
+/// Sides and T of a grid file by its first 7 bytes, as [`read`] answers them; the rest of it is not looked at. [`Sides::voxels`] of them is how
+/// many values [`read`] is to be lent.
+///
+/// Checks: 21 (fewer than 7 bytes), 22, 1.
+///
+/// ```
+/// use wattlerugby::{read_header, Refusal, Sides};
+///
+/// let (sides, allowed) = read_header(&[0x56, 0x48, 5, 4, 3, 2, 1])?;
+/// assert_eq!((sides.voxels(), allowed), (Some(60), 258));
+/// assert_eq!(read_header(&[0x56, 0x48, 5, 4, 2, 0, 0]), Err(Refusal::SIDE));
+/// # Ok::<(), Refusal>(())
+/// ```
+pub fn read_header(file: &[u8]) -> Result<(Sides, u16), Refusal> {
+    let [first, second, a, b, c, low, high] = *file.first_chunk().ok_or(Refusal::SHORT)?;
+    if [first, second] != [0x56, 0x48] {
+        return Err(Refusal::MARK);
+    }
+    let sides = Sides { a: a.into(), b: b.into(), c: c.into() };
+    sides.voxels().ok_or(Refusal::SIDE)?;
+    Ok((sides, u16::from_le_bytes([low, high])))
+}
+
+/// Reads a whole grid file as [`read`] does, into a vector of its own: sides, T and the values, as [`Grid::begin`] and [`written`] take them.
+///
+/// ```
+/// use wattlerugby::{patch, read_values, written, Refusal, Sides};
+///
+/// let sides = Sides { a: 3, b: 4, c: 5 };
+/// let mut file = written(sides, 1, &[5; 60])?;
+/// file.extend(patch(7, -5));
+/// let (read, allowed, values) = read_values(&file)?;
+/// assert_eq!((read, allowed, values[6], values[7]), (sides, 1, 5, -5));
+///
+/// file.pop();
+/// assert_eq!(read_values(&file), Err(Refusal::SHORT));
+/// # Ok::<(), Refusal>(())
+/// ```
+pub fn read_values(file: &[u8]) -> Result<(Sides, u16, Vec<i32>), Refusal> {
+    let (sides, _) = read_header(file)?;
+    let mut values = vec![0; sides.voxels().unwrap_or(0)];
+    let (sides, allowed) = read(file, &mut values)?;
+    Ok((sides, allowed, values))
+}
+
+/// Reads a whole grid file into n values, the layers with the patches applied in the order of the file, and answers sides and T.
+/// [`read_header`] tells how many values to lend, and [`read_values`] has a vector of so many.
 ///
 /// Layers come from the bottom up: z is 0 in the first record and one more in each that follows. In a file with another order the first record
 /// that is not so is refused, with 24 where its z came before and with 27 where not. [`read_layer`] finds the records of such a file.

@@ -635,13 +635,13 @@ static void numbers(void)
     printf("marks %d %d %d %d\n", WATTLERUGBY_UNMARKED, WATTLERUGBY_PINNED, WATTLERUGBY_HURRIED, WATTLERUGBY_PINNED_AND_HURRIED);
 }
 
-/* ---- lengths: a line `A B C NARROW WIDE`, with the length of either width, for each side from 2 to 65 along each axis, beside some along
- * the others; then for sides whose product is too large for a size_t */
+/* ---- lengths: a line `A B C VOXELS NARROW WIDE`, with the length of either width, for each side from 2 to 65 along each axis, beside some
+ * along the others; then for sides whose product is too large for a size_t */
 
 static void length(size_t a, size_t b, size_t c)
 {
     const wattlerugby_sides sides = {a, b, c};
-    printf("%zu %zu %zu %zu %zu\n", a, b, c, wattlerugby_written_length(sides, WATTLERUGBY_NARROW),
+    printf("%zu %zu %zu %zu %zu %zu\n", a, b, c, wattlerugby_voxels(sides), wattlerugby_written_length(sides, WATTLERUGBY_NARROW),
            wattlerugby_written_length(sides, WATTLERUGBY_WIDE));
 }
 
@@ -682,8 +682,74 @@ static void print_widths(void)
         printf("%d %d %d %d\n", (int)wattlerugby_written_width(some[i], 3), (int)some[i][0], (int)some[i][1], (int)some[i][2]);
 }
 
+static void print_hex(const uint8_t *bytes, size_t length)
+{
+    size_t i;
+    for (i = 0; i < length; i++)
+        printf("%02x", bytes[i]);
+    printf("\n");
+}
+
+/* ---- headers: a line `REFUSAL A B C T HEX` for the first bytes of some files: each length up to 8, each mark a bit wrong, and each side at
+ * the ends of what is taken and of a byte */
+
+static void print_header(const uint8_t *file, size_t length)
+{
+    const wattlerugby_read_answer r = wattlerugby_read_header(file, length);
+    printf("%u %zu %zu %zu %u ", r.refusal, r.sides.a, r.sides.b, r.sides.c, (unsigned)r.allowed);
+    print_hex(file, length);
+}
+
+static void print_headers(void)
+{
+    static const uint8_t good[8] = {0x56, 0x48, 3, 64, 5, 0xFE, 0x80, 0x56}, ends[] = {0, 2, 3, 64, 65, 255};
+    uint8_t file[8];
+    size_t i, j;
+    for (i = 0; i <= 8; i++)
+        print_header(good, i);
+    for (i = 0; i < 16; i++) {
+        memcpy(file, good, 8);
+        file[i / 8] ^= (uint8_t)(1 << i % 8);
+        print_header(file, 7);
+        print_header(file, 6);
+    }
+    for (i = 2; i < 5; i++)
+        for (j = 0; j < sizeof ends; j++) {
+            memcpy(file, good, 8);
+            file[i] = ends[j];
+            print_header(file, 7);
+            file[0] = 0x48;
+            print_header(file, 7);
+        }
+}
+
+/* ---- patches: a line `INDEX VALUE LENGTH HEX` for some voxels and values, with the 8 bytes as they then are; before each they are all EE */
+
+static void print_patches(void)
+{
+    static const uint32_t voxels[] = {0, 13, 0x01020304, UINT32_MAX};
+    static const int32_t some[] = {0, 1, -1, 258, 32767, -32767, WATTLERUGBY_MISSING, 32768, -32768, 65536, -65537, WATTLERUGBY_LEAST_VALUE,
+                                   WATTLERUGBY_GREATEST_VALUE, INT32_MAX};
+    uint8_t record[WATTLERUGBY_PATCH_LENGTH];
+    size_t i, j;
+    for (i = 0; i < sizeof voxels / sizeof voxels[0]; i++)
+        for (j = 0; j < sizeof some / sizeof some[0]; j++) {
+            memset(record, 0xEE, sizeof record);
+            printf("%u %d %zu ", (unsigned)voxels[i], (int)some[j], wattlerugby_patch(voxels[i], some[j], record));
+            print_hex(record, sizeof record);
+        }
+}
+
 int main(int argc, char **argv)
 {
+    if (argc > 1 && strcmp(argv[1], "headers") == 0) {
+        print_headers();
+        return 0;
+    }
+    if (argc > 1 && strcmp(argv[1], "patches") == 0) {
+        print_patches();
+        return 0;
+    }
     if (argc > 1 && strcmp(argv[1], "widths") == 0) {
         print_widths();
         return 0;

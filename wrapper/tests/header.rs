@@ -7,7 +7,9 @@ use std::mem::{offset_of, size_of};
 use std::path::Path;
 use std::process::Command;
 use wattlerugby::raw::*;
-use wattlerugby::{archive_version, write, written_length, written_width, Grid, LocalTest, Point, Refusal, Sides};
+use wattlerugby::{
+    archive_version, patch, read, read_header, write, written_length, written_width, Grid, LocalTest, Point, Refusal, Sides,
+};
 use wattlerugby::{GONE, HURRIED, KEPT, PENDING, PINNED, PINNED_AND_HURRIED, UNMARKED};
 use wattlerugby::{GREATEST_VALUE, LEAST_VALUE, LONGEST_FILE, MISSING, NARROW, NARROW_MISSING, VERSION, WIDE};
 
@@ -121,7 +123,8 @@ fn lengths() {
     for line in said[0].lines() {
         let numbers: Vec<usize> = line.split(' ').map(|word| word.parse().expect("a number")).collect();
         let sides = Sides { a: numbers[0], b: numbers[1], c: numbers[2] };
-        for ((width, values), length) in values.iter().zip([numbers[3], numbers[4]]) {
+        assert_eq!(sides.voxels().unwrap_or(0), numbers[3], "{line}");
+        for ((width, values), length) in values.iter().zip([numbers[4], numbers[5]]) {
             assert_eq!(written_length(sides, *width).unwrap_or(0), length, "{line}");
             let Some(n) = sides.voxels() else {
                 assert_eq!((write(sides, 0, values, &mut file), length), (Err(Refusal::SIDE), 0), "{line}");
@@ -151,6 +154,54 @@ fn widths() {
     }
 }
 
+fn bytes(hex: &str) -> Vec<u8> {
+    (0..hex.len()).step_by(2).map(|i| u8::from_str_radix(&hex[i..i + 2], 16).expect("two digits")).collect()
+}
+
+/// What the header says of a file's first bytes, the wrapper, and read: with a refusal all three have the same number; otherwise read takes
+/// so many layers with so many values behind them.
+#[test]
+fn headers() {
+    for said in printed_by_each(&root().join("wrapper/tests/calls.c"), "headers", &["headers"]) {
+        let mut numbers = Vec::new();
+        for line in said.lines() {
+            let (answer, hex) = line.rsplit_once(' ').expect("bytes stand last");
+            let start = bytes(hex);
+            let ours = read_header(&start);
+            let (refusal, (Sides { a, b, c }, allowed)) = (ours.err().map_or(0, |r| r.0), ours.unwrap_or_default());
+            assert_eq!(answer, format!("{refusal} {a} {b} {c} {allowed}"), "{line}");
+            match ours {
+                Err(refused) => assert_eq!(read(&start, &mut []), Err(refused), "{line}"),
+                Ok(sides) => {
+                    let layers = (0..c as u8).flat_map(|z| [vec![0x56, 0x4C, z], vec![0; 2 * a * b]].concat());
+                    let file: Vec<u8> = start[..7].iter().copied().chain(layers).collect();
+                    assert_eq!(read(&file, &mut vec![1; a * b * c]), Ok(sides), "{line}");
+                }
+            }
+            numbers.push(refusal);
+        }
+        let count = |number: u8| numbers.iter().filter(|&&n| n == number).count();
+        assert_eq!([21, 22, 1, 0].map(count), [7 + 16, 16 + 18, 12, 2 + 6]);
+    }
+}
+
+/// The header's patches and the wrapper's: the same bytes, and none for a value that two bytes do not hold.
+#[test]
+fn patches() {
+    for said in printed_by_each(&root().join("wrapper/tests/calls.c"), "patches", &["patches"]) {
+        let mut taken = 0;
+        for line in said.lines() {
+            let words: Vec<&str> = line.split(' ').collect();
+            let (index, value): (u32, i32) = (words[0].parse().expect("an index"), words[1].parse().expect("a value"));
+            let narrow = if value == MISSING { Some(NARROW_MISSING) } else { i16::try_from(value).ok().filter(|&v| v != NARROW_MISSING) };
+            let (length, wanted) = narrow.map_or((0, [0xEE; 8]), |value| (8, patch(index, value)));
+            assert_eq!((words[2], bytes(words[3])), (&length.to_string()[..], wanted.to_vec()), "{line}");
+            taken += usize::from(narrow.is_some());
+        }
+        assert_eq!((said.lines().count(), taken), (4 * 14, 4 * 7));
+    }
+}
+
 /// Every crossing of a file's body, in rising order of 3 index + axis.
 fn points_of(file: &Path) -> Vec<[f64; 3]> {
     let mut grid = Grid::from_file(&std::fs::read(file).expect("the sample can be read")).expect("the sample is taken");
@@ -164,15 +215,20 @@ fn points_of(file: &Path) -> Vec<[f64; 3]> {
         .collect()
 }
 
+/// The C example as C and as C++, and the C++ example.
 #[test]
-fn example() {
-    let source = root().join("examples/carve_grid.c");
+fn examples() {
+    let mut all: Vec<_> = compilers().into_iter().map(|(compiler, language)| (compiler, language, "carve_grid.c")).collect();
+    if let Some(&(compiler, language, _)) = all.iter().find(|(compiler, ..)| *compiler == "c++") {
+        all.push((compiler, language, "carve_grid.cpp"));
+    }
     let sample = root().join("samples/torus-1.grid");
     let wanted = std::fs::read_to_string(root().join("examples/carve_grid.out")).expect("examples/carve_grid.out can be read");
-    for (compiler, language) in compilers() {
-        let points = Path::new(env!("CARGO_TARGET_TMPDIR")).join(format!("example-{compiler}.xyz"));
+    for (compiler, language, file) in all {
+        let (source, name) = (root().join("examples").join(file), format!("example-{compiler}-{file}"));
+        let points = Path::new(env!("CARGO_TARGET_TMPDIR")).join(format!("{name}.xyz"));
         let arguments = [sample.to_str().expect("a path"), points.to_str().expect("a path")];
-        assert_eq!(printed(compiler, language, &source, &format!("example-{compiler}"), &arguments), wanted);
+        assert_eq!(printed(compiler, language, &source, &name, &arguments), wanted);
         let text = std::fs::read_to_string(&points).expect("the example wrote its points");
         let read = text.lines().map(|line| {
             let numbers: Vec<f64> = line.split(' ').map(|word| word.parse().expect("a number")).collect();

@@ -1,4 +1,5 @@
-//! docs/RULES.md and docs/RESULT.md cite definitions as `File.name`: each is in the specs, and each rule cites one.
+//! docs/RULES.md and docs/RESULT.md cite definitions as `File.name`: each is in the specs, and each rule cites one. README's picture has the
+//! crates of crates.txt.
 
 mod common;
 
@@ -63,5 +64,48 @@ fn every_rule_has_a_name() {
     assert!(rows.len() > 60, "the page's tables are read");
     for row in rows {
         assert!(!cited(row).is_empty(), "no definition stands beside: {row}");
+    }
+}
+
+/// The crates of crates.txt, each with what it cites.
+fn crates() -> HashMap<String, Vec<String>> {
+    let text = text(&root().join("crates.txt"));
+    let lines = text.lines().filter(|line| !line.starts_with('#')).filter_map(|line| line.split_once(':'));
+    lines.map(|(name, cited)| (name.to_string(), cited.split_whitespace().map(str::to_string).collect())).collect()
+}
+
+/// The names in README's picture, each with its row. What stands to the right of them tells what they are.
+fn picture() -> Vec<(String, usize)> {
+    const NAMES_END: usize = 68;
+    let readme = text(&root().join("README.md"));
+    let section = readme.split("## How it is built").nth(1).expect("README has the section");
+    let rows = section.lines().skip_while(|line| !line.starts_with("    ")).take_while(|line| line.starts_with("    "));
+    let mut found = Vec::new();
+    for (row, line) in rows.enumerate() {
+        let names: String = line.chars().take(NAMES_END).collect();
+        let names = names.split(" (").next().expect("a split has a first part").to_string();
+        let words = names.split(|c: char| !c.is_ascii_lowercase() && c != '_').filter(|word| !["", "v"].contains(word));
+        found.extend(words.map(|word| (word.to_string(), row)));
+    }
+    found
+}
+
+#[test]
+fn the_picture_has_every_crate_once() {
+    let (mut shown, mut listed) =
+        (picture().into_iter().map(|(name, _)| name).collect::<Vec<_>>(), crates().into_keys().collect::<Vec<_>>());
+    shown.sort();
+    listed.sort();
+    assert_eq!(shown, listed);
+}
+
+/// Arrows go down, so what a crate cites stands in its row or below it.
+#[test]
+fn the_picture_has_what_is_cited_below() {
+    let row: HashMap<String, usize> = picture().into_iter().collect();
+    for (name, cited) in crates() {
+        for other in cited.iter().filter_map(|other| row.get_key_value(other)) {
+            assert!(row[&name] <= *other.1, "{name} cites {}, which stands above it", other.0);
+        }
     }
 }
