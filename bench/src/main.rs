@@ -29,6 +29,10 @@ const GRIDS: [Sides; 5] = [
 ];
 const LARGEST: Sides = GRIDS[3];
 
+/// The words that choose parts.
+const WORDS: [&str; 13] =
+    ["begin", "gaps", "marks", "carve", "turns", "whole", "single", "read", "write", "patches", "crafted", "local", "stack"];
+
 /// T of every grid, so that a noise grid's turns come to an end.
 const ALLOWED: u16 = 64;
 
@@ -312,6 +316,10 @@ fn main() {
         ["once", part, shape, side, "before"] => return once(part, shape, side, true),
         _ => {}
     }
+    if let Some(word) = given.iter().find(|word| !WORDS.contains(word)) {
+        eprintln!("bench: there is no part '{word}'; the parts are {}", WORDS.join(" "));
+        std::process::exit(2);
+    }
     let wanted = |word: &str| words.is_empty() || words.iter().any(|w| w == word);
     println!(
         "Processor time, least of {ROUNDS} rounds or more, or as told; every implementation once a round, in an order drawn anew, all answers and \
@@ -378,5 +386,33 @@ fn main() {
     println!("\n## Demands\n\n| | measured | at most | |\n|---|---|---|---|");
     for Demand(what, measured, most) in demands {
         println!("| {what} | {measured:.2} | {most:.2} | {} |", if measured <= most { "met" } else { "MISSED" });
+    }
+}
+
+#[cfg(test)]
+mod tests {
+    use super::{PARTS, WORDS};
+
+    /// bench/run refuses any other word before it builds anything, and so has the list too.
+    #[test]
+    fn words() {
+        let run = include_str!("../run");
+        let list = run.lines().find_map(|line| line.strip_prefix("parts='")).expect("bench/run has a list");
+        assert_eq!(list.trim_end_matches('\''), WORDS.join(" "));
+        let asked = include_str!("main.rs").split("wanted(\"").skip(1).filter_map(|rest| rest.split_once("\")"));
+        let known = asked.map(|(word, _)| word).chain(PARTS.iter().map(|part| part.word));
+        let known: std::collections::BTreeSet<&str> = known.collect();
+        assert!(known.iter().eq(std::collections::BTreeSet::from(WORDS).iter()), "{known:?}");
+    }
+
+    #[test]
+    fn another_word_is_refused() {
+        let script = |name: &str| concat!(env!("CARGO_MANIFEST_DIR"), "/").to_string() + name;
+        for (name, words) in [("run", &["bogus"][..]), ("run", &["begin", "bogus"]), ("count", &["bogus"])] {
+            let out = std::process::Command::new("sh").arg(script(name)).args(words).output().expect("a shell runs");
+            let said = String::from_utf8_lossy(&out.stderr);
+            assert_eq!((out.status.code(), said.lines().count(), out.stdout.len()), (Some(2), 1, 0), "{said}");
+            assert!(said.starts_with(&format!("bench/{name}: there is no part 'bogus'; the parts are ")), "{said}");
+        }
     }
 }
