@@ -1,19 +1,22 @@
 -- Write's checks, by what the code found: of the grid first, then of the room.
-use mathlib.Core.Path.{_≡_, ap, sym, _∙_}
-use mathlib.Core.Bool.{Bool, true, cond}
+use mathlib.Core.Path.{_≡_, refl, ap, sym, _∙_}
+use mathlib.Core.Bool.{Bool, true, false, cond}
 use mathlib.Core.List.{List, [], _∷_}
 use Prim.Native.Nat.{ℕ, _≤_, _<_}
+use native.Mathlib.Omega.{arith}
 use lib.Dec.{ltb}
 use lib.ListN.{length}
 use lib.IntN.{ℤ}
 use borrow.Author.Tests.{lt-ltb, le-ltb, eqb-true}
+use Rattle.prelude.specs.Lists.{any}
 use Rattle.prelude.proofs.Bools.{not-false}
 use Rattle.rules.specs.declared.Sides.{Sides}
+use Rattle.rules.specs.Value.{stray}
 use Rattle.rules.specs.Grid.{fitSides}
 use Rattle.rules.specs.Checks.{Check, _when_, firstFailing, unless, AllHold}
 use Rattle.rules.specs.Answer.{untouched}
-use Rattle.rules.proofs.Checks.{call-refused, unless-after, unless-held, refused-first, append-hold}
-use Rattle.writing.specs.Written.{writtenLength, gridChecks, writeChecks, Room, written, write}
+use Rattle.rules.proofs.Checks.{fails-first, held-none, call-refused, unless-after, unless-held, refused-first, held-first, append-hold}
+use Rattle.writing.specs.Written.{writtenLength, sizeChecks, gridChecks, writeChecks, Room, written, write}
 
 -- what holds of a grid that is not refused
 module _ (s : Sides) (values : List ℤ) (h : AllHold (gridChecks s values)) where
@@ -32,6 +35,21 @@ module _ (s : Sides) (T : ℕ) (values : List ℤ) (file : List ℕ) where
   grid-refused n e f =
       call-refused (untouched file) (written s T values file) (writeChecks s values (length file)) n
       (refused-first (gridChecks s values) roomChecks n e f) f
+
+  abbrev strayChecks : List Check
+  strayChecks = 28 when any stray values ∷ []
+
+  -- by the number of checks 1 and 2, and what the scan of the values found
+  module _ (n : ℕ) (e : n ≡ firstFailing (sizeChecks s values)) where
+    pub size-refused : (n ≡ 0 → ⊥) → untouched file n ≡ write s T values file
+    size-refused f = grid-refused n (refused-first (sizeChecks s values) strayChecks n e f) f
+
+    pub stray-refused : n ≡ 0 → any stray values ≡ true → untouched file 28 ≡ write s T values file
+    stray-refused z t =
+        grid-refused 28 (held-first (sizeChecks s values) strayChecks n e refl z 28 (sym (fails-first 28 (any stray values) [] t))) (λ e. omega arith)
+
+    pub grid-holds : n ≡ 0 → any stray values ≡ false → AllHold (gridChecks s values)
+    grid-holds z t = append-hold (sizeChecks s values) strayChecks (held-none (sizeChecks s values) n e refl z) (t, tt)
 
   module _ (h : AllHold (gridChecks s values)) where
     pub room-refused : length file < writtenLength s values → untouched file 26 ≡ write s T values file

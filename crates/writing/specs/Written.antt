@@ -57,12 +57,14 @@ writtenLength s values = headerLength + s .c * layerLength s (widthFor values)
 
 -- ---- write: it answers that length, and bytes past it stay untouched
 
-abbrev pub gridChecks : Sides → List ℤ → List Check
-gridChecks s values =
+abbrev pub sizeChecks : Sides → List ℤ → List Check
+sizeChecks s values =
     1 when not (fitSides s)
     ∷ 2 when not (eqb (length values) (size s))
-    ∷ 28 when any stray values
     ∷ []
+
+abbrev pub gridChecks : Sides → List ℤ → List Check
+gridChecks s values = sizeChecks s values ++ (28 when any stray values ∷ [])
 
 -- the lent buffer is of so many bytes
 abbrev pub writeChecks : Sides → List ℤ → ℕ → List Check

@@ -4,6 +4,8 @@ ghost use mathlib.Core.List.{_++_};
 ghost use mathlib.Core.Bool.{true};
 ghost use Prim.Native.Nat.{_+_, _*_, _≤_};
 ghost use lib.ListN.{length, take, drop};
+ghost use Rattle.prelude.specs.Lists.{any};
+ghost use Rattle.rules.specs.Value.{stray};
 ghost use Rattle.rules.specs.Grid.{fitSides};
 ghost use Rattle.rules.specs.Checks.{firstFailing};
 ghost use Rattle.rules.specs.Answer.{outcome};
@@ -12,7 +14,7 @@ ghost use Rattle.layers.specs.Layer.{kindOf, layerLength};
 ghost use Rattle.gridfile.specs.File.{headerLength};
 ghost use Rattle.writing.specs.Written as spec;
 ghost use Rattle.writing.specs.Written.{headerForm, widthFor, Held, valuesForm, layerForm, layersForm, writtenForm, writtenLength};
-ghost use Rattle.writing.specs.Written.{gridChecks, Room, writeAnswer};
+ghost use Rattle.writing.specs.Written.{sizeChecks, Room, writeAnswer};
 use rules::Sides;
 
 // What writing a file answers: its length.
@@ -123,10 +125,9 @@ fn write_file(sides: Sides, allowed: u16, width: usize, values: &[i32], file: &m
 
 // ---- write
 
-// The number that a grid is refused with, whatever the buffer, or 0. Where the values fit two bytes, none is out of the range.
-fn grid_refusal(sides: Sides, values: &[i32], width: usize) -> u8
-    requires { ⌜ width ≡ widthFor (now values) ⌝ }
-    ensures { λ r. ⌜ r ≡ firstFailing (gridChecks sides (now (values .entry))) ⌝ }
+// The number of checks 1 and 2, or 0: before any value is looked at, since there may be far too many.
+fn size_refusal(sides: Sides, values: &[i32]) -> u8
+    ensures { λ r. ⌜ r ≡ firstFailing (sizeChecks sides (now (values .entry))) ⌝ }
 {
     if !sizes::fit_sides(sides) {
         return 1;
@@ -134,22 +135,30 @@ fn grid_refusal(sides: Sides, values: &[i32], width: usize) -> u8
     if values.len() != sizes::voxel_count(sides) {
         return 2;
     }
-    if width == 2 {
-        return 0;
-    }
-    if values::any_beyond(values, 1000000000) {
-        return 28;
-    }
     0
+}
+
+// Whether a value is neither in the range nor missing. Where the values fit two bytes none is.
+fn any_stray(values: &[i32], width: usize) -> bool
+    requires { ⌜ width ≡ widthFor (now values) ⌝ }
+    ensures { λ r. ⌜ r ≡ any stray (now (values .entry)) ⌝ }
+{
+    if width == 2 {
+        return false;
+    }
+    values::any_beyond(values, 1000000000)
 }
 
 pub fn write(sides: Sides, allowed: u16, values: &[i32], file: &mut [u8]) -> WriteAnswer
     ensures { λ r. ⌜ outcome (writeAnswer r) (now (file .exit)) ≡ spec.write sides allowed (now (values .entry)) (now (file .entry)) ⌝ }
 {
-    let width = width_for(values);
-    let n = grid_refusal(sides, values, width);
+    let n = size_refusal(sides, values);
     if n != 0 {
         return WriteAnswer::Refused(n);
+    }
+    let width = width_for(values);
+    if any_stray(values, width) {
+        return WriteAnswer::Refused(28);
     }
     let length = written_length(sides, width);
     if file.len() < length {
