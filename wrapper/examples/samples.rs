@@ -197,7 +197,8 @@ impl Sample {
     /// Sides, T, the line, and the picture: of what carving leaves, or of the values where the file is refused.
     pub fn told(&self) -> String {
         let (Sides { a, b, c }, values) = (self.sides, self.corrected());
-        let told = format!("{}: {a} x {b} x {c}, T = {}\n{}\n\n", self.name, self.allowed, self.line());
+        let openings = if self.allowed == 1 { "opening" } else { "openings" };
+        let told = format!("{}: {a} x {b} x {c}, T = {} {openings} allowed\n{}\n\n", self.name, self.allowed, self.line());
         let measured = |v: i32| match v {
             MISSING => '?',
             v if v < 0 => '#',

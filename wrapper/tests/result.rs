@@ -80,6 +80,13 @@ fn pieces(sides: Sides, set: &[bool]) -> i32 {
     count
 }
 
+/// Whether a voxel is left to open: kept, neither inside nor held, with a face neighbour that is gone.
+fn left_to_open(c: &Carved) -> bool {
+    let Sides { a, b, .. } = c.sides;
+    let beside = |i: usize| [i - 1, i + 1, i - a, i + a, i - a * b, i + a * b];
+    (0..c.kept.len()).any(|i| c.kept[i] && !c.inside[i] && !c.held[i] && beside(i).iter().any(|&j| !c.kept[j]))
+}
+
 /// Gives how many pieces the body has.
 fn check(c: &Carved, allowed: u16) -> i32 {
     let nothing_to_open = c.ended_by == Refusal::NOTHING_TO_OPEN;
@@ -90,7 +97,8 @@ fn check(c: &Carved, allowed: u16) -> i32 {
     if c.openings == 0 {
         assert_eq!((pieces, c.euler), (1, 1));
     }
-    if nothing_to_open {
+    assert!(!(nothing_to_open && left_to_open(c)));
+    if !left_to_open(c) {
         let outside: Vec<bool> = c.inside.iter().zip(&c.held).map(|(i, h)| !i && !h).collect();
         let free = reached(c.sides, &outside, 0, 1);
         let body: Vec<bool> = free.iter().map(|f| !f).collect();
@@ -98,6 +106,11 @@ fn check(c: &Carved, allowed: u16) -> i32 {
         assert!(pieces == 1 || c.held.contains(&true));
     }
     pieces
+}
+
+/// With one more opening allowed, one more is made exactly where a voxel is left to open.
+fn one_more(c: &Carved, more: Option<Carved>) {
+    assert_eq!(left_to_open(c), more.is_some_and(|more| more.openings > c.openings));
 }
 
 #[test]
@@ -110,6 +123,7 @@ fn the_last_answer_of_open() {
         for allowed in [0, 1, 3, u16::MAX] {
             if let Some(c) = carved(sides, allowed, &values, &vec![UNMARKED; values.len()]) {
                 check(&c, allowed);
+                one_more(&c, carved(sides, allowed.saturating_add(1), &values, &vec![UNMARKED; values.len()]));
                 let nothing_to_open = c.ended_by == Refusal::NOTHING_TO_OPEN;
                 ends[usize::from(nothing_to_open)] += 1;
                 unequal += i32::from(nothing_to_open && c.openings as i32 != 1 - c.euler);
@@ -138,6 +152,7 @@ fn with_pins() {
         for allowed in [0, 1, 3, u16::MAX] {
             if let Some(c) = carved(sides, allowed, &values, &marks) {
                 let pieces = check(&c, allowed);
+                one_more(&c, carved(sides, allowed.saturating_add(1), &values, &marks));
                 assert!((0..values.len()).all(|i| c.kept[i] || !c.held[i]), "a pin holds");
                 filled += usize::from(allowed == 0 && c.held.contains(&true));
                 free += usize::from(c.ended_by == Refusal::NOTHING_TO_OPEN && pieces > 1);

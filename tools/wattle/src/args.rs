@@ -28,7 +28,7 @@ impl Args {
                 None => Ok(Request::Help(overview())),
                 Some(name) => Ok(Request::Help(command(name)?.help.to_string())),
             },
-            "--version" => Ok(Request::Help(format!("wattle {}\n", env!("CARGO_PKG_VERSION")))),
+            "--version" | "-V" => Ok(Request::Help(format!("wattle {}\n", env!("CARGO_PKG_VERSION")))),
             _ => Args::of_command(command(first)?, rest),
         }
     }
@@ -39,6 +39,7 @@ impl Args {
         while let Some(word) = words.next() {
             let text = word.to_string_lossy();
             match text.as_ref() {
+                "--" => args.files.extend(words.by_ref().map(PathBuf::from)),
                 "--help" | "-h" => return Ok(Request::Help(command.help.to_string())),
                 "-o" => args.output = Some(PathBuf::from(value_of("-o", words.next())?)).filter(|o| o != Path::new("-")),
                 "--force" => args.options.push(("--force", String::new())),
@@ -47,10 +48,9 @@ impl Args {
                 _ => args.files.push(PathBuf::from(word)),
             }
         }
-        let (due, given) = (if command.files == 1 { "one file" } else { "two files" }, args.files.len());
-        if given != command.files {
-            let line = format!("{} takes {due}, not {given}; see `wattle help {}`", command.name, command.name);
-            return Err(Failure::unusable(line));
+        let (due, given) = (command.files, args.files.len());
+        if !due.fits(given) {
+            return Err(Failure::unusable(format!("{0} takes {due}, not {given}; see `wattle help {0}`", command.name)));
         }
         Ok(Request::Run(args))
     }
@@ -92,19 +92,29 @@ impl Args {
         }
     }
 
-    /// Which of two formats is wanted: by an option, otherwise by the output's ending, otherwise the first.
+    /// T as `--openings` says.
+    pub fn openings(&self) -> Result<Option<u16>, Failure> {
+        Ok(self.number("--openings", 0, usize::from(u16::MAX))?.map(|openings| openings as u16))
+    }
+
+    /// Which of two formats is wanted: by an option, otherwise by the output's ending, otherwise the first. An ending that is neither is
+    /// refused, since what it promises would not be in the file.
     pub fn format(&self, options: [&'static str; 2]) -> Result<&'static str, Failure> {
         let [first, second] = options;
         match (self.has(first), self.has(second)) {
             (true, true) => Err(Failure::unusable(format!("{first} and {second} are given; choose one"))),
             (true, false) => Ok(first),
             (false, true) => Ok(second),
-            (false, false) => {
-                let ending = self.output.as_deref().and_then(Path::extension).map(|e| e.to_ascii_lowercase());
-                let named = options.into_iter().find(|o| ending.as_deref() == Some(OsStr::new(&o[2..])));
-                Ok(named.unwrap_or(first))
-            }
+            (false, false) => self.format_by_ending(options),
         }
+    }
+
+    fn format_by_ending(&self, options: [&'static str; 2]) -> Result<&'static str, Failure> {
+        let Some((output, ending)) = self.output.as_deref().and_then(|o| Some((o, o.extension()?))) else { return Ok(options[0]) };
+        let named = options.into_iter().find(|o| ending.eq_ignore_ascii_case(&o[2..]));
+        let endings = options.map(|o| format!(".{}", &o[2..])).join(" or ");
+        named
+            .ok_or_else(|| Failure::unusable(format!("the ending of {} is not known: {} writes {endings}", output.display(), self.command)))
     }
 
     /// Refuses an output that is there already before any work is done, and one that is the grid file itself even with --force.

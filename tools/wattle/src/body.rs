@@ -1,9 +1,10 @@
 //! What carving leaves of a scan, and what each voxel has become.
 
 use crate::file::{is_negative, Scan};
+use crate::groups::groups;
 use crate::marks::idle;
 use crate::progress::Progress;
-use wattlerugby::{Grid, Opened, Refusal, Sides, GONE, MISSING, PINNED, UNMARKED};
+use wattlerugby::{Grid, Opened, Refusal, GONE, MISSING, PINNED, UNMARKED};
 
 /// Examinations between two looks at the clock. Each call of carve checks the whole grid, so fewer would cost more.
 const SLICE: u32 = 200_000;
@@ -111,7 +112,18 @@ impl<'a> Body<'a> {
 
     /// The same with a mark for each voxel.
     pub fn carve_marked(scan: &'a Scan, marks: &[u8]) -> Result<Body<'a>, Refusal> {
-        let mut grid = Grid::begin_marked(scan.sides, scan.allowed, &scan.values, marks)?;
+        Body::carve_allowing(scan, scan.allowed, marks)
+    }
+
+    /// What carving leaves with the same marks and as many openings as can be allowed. Nothing where that is this body: without a voxel left
+    /// to open, further openings change nothing.
+    pub fn freely(&self) -> Option<Body<'a>> {
+        let free = || Body::carve_allowing(self.scan, u16::MAX, self.grid.marks()).expect("begin takes the same values again");
+        (self.to_open() > 0).then(free)
+    }
+
+    fn carve_allowing(scan: &'a Scan, allowed: u16, marks: &[u8]) -> Result<Body<'a>, Refusal> {
+        let mut grid = Grid::begin_marked(scan.sides, allowed, &scan.values, marks)?;
         let notes = idle(scan, &grid);
         // finish makes all that is kept negative, so the inside is told now
         let inside: Vec<bool> = grid.distances().iter().map(|&d| d < 0).collect();
@@ -123,7 +135,7 @@ impl<'a> Body<'a> {
             }
             let Ok(opened) = grid.open() else { break };
             openings.push(opened);
-            progress.show(|| format!("carving: opened {} of {} allowed", openings.len(), scan.allowed));
+            progress.show(|| format!("carving: opened {} of {} allowed", openings.len(), allowed));
         }
         grid.finish()?;
         let kinds = kinds(scan, &grid, &inside, &openings);
@@ -139,22 +151,37 @@ impl<'a> Body<'a> {
         self.notes.iter().for_each(|note| eprintln!("wattle: note: {note}"));
     }
 
-    /// How many pieces the body has: groups of kept voxels that touch.
-    pub fn pieces(&self) -> usize {
-        let Sides { a, b, .. } = self.scan.sides;
-        let mut left: Vec<bool> = self.grid.status().iter().map(|&s| s != GONE).collect();
-        let mut pieces = 0;
-        while let Some(first) = left.iter().position(|&kept| kept) {
-            let mut waiting = vec![first];
-            while let Some(i) = waiting.pop() {
-                // a kept voxel is none of the border, so all 27 are there
-                if std::mem::replace(&mut left[i], false) {
-                    waiting.extend((0..27).map(|p| i + p % 3 + a * (p / 3 % 3) + a * b * (p / 9) - 1 - a - a * b));
-                }
-            }
-            pieces += 1;
+    /// How many voxels open could take, were one more opening allowed: kept, neither inside nor pinned, and beside one that is gone. It
+    /// answers 15 exactly where there is none (docs/RESULT.md).
+    pub fn to_open(&self) -> usize {
+        let gone = |i: usize| self.grid.status()[i] == GONE;
+        let bare = |&i: &usize| matches!(self.kinds[i], Kind::Filled | Kind::FilledMissing) && self.scan.faces(i).any(gone);
+        (0..self.kinds.len()).filter(bare).count()
+    }
+
+    /// How many pieces the body has: groups of kept voxels that touch. It is in one without an opening, and where nothing is pinned or left
+    /// to open, which is proved (docs/RESULT.md); otherwise they are counted.
+    fn pieces(&self) -> usize {
+        if self.openings.is_empty() || (self.count(Kind::Pinned) == 0 && self.to_open() == 0) {
+            return 1;
         }
-        pieces
+        groups(self.scan, self.all(|i| self.grid.status()[i] != GONE), Scan::touching).len()
+    }
+
+    /// How many pieces and how many tunnels the body has. It has no hollow, so the Euler number is pieces less tunnels.
+    pub fn shape(&self) -> (usize, usize) {
+        let pieces = self.pieces();
+        (pieces, usize::try_from(pieces as i64 - i64::from(self.grid.record().euler)).unwrap_or(0))
+    }
+
+    /// Where the first tunnel was opened, if the body has one. A removal makes one only where it joins two bare sides or more.
+    pub fn first_tunnel(&self) -> Option<usize> {
+        self.openings.iter().find(|o| o.m > 1).map(|o| o.index).filter(|_| self.shape().1 > 0)
+    }
+
+    /// The voxels that something holds of, by index.
+    pub fn all(&self, of: impl Fn(usize) -> bool) -> impl Iterator<Item = usize> {
+        (0..self.kinds.len()).filter(move |&i| of(i))
     }
 
     /// The line that the program prints.
@@ -165,9 +192,8 @@ impl<'a> Body<'a> {
     }
 
     /// Voxels that are measured negative and not of the inside.
-    pub fn discarded(&self) -> usize {
-        let stray = |(&v, &k): (&i32, &Kind)| is_negative(v) && k != Kind::Inside;
-        self.scan.values.iter().zip(&self.kinds).filter(|&pair| stray(pair)).count()
+    pub fn discarded(&self) -> impl Iterator<Item = usize> + '_ {
+        self.all(|i| is_negative(self.scan.values[i]) && self.kinds[i] != Kind::Inside)
     }
 
     /// Openings where the range point is missing.

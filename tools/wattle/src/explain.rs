@@ -1,41 +1,51 @@
-//! `wattle explain`: why a file is refused, or what its result means. docs/RESULT.md has the same at length.
+//! `wattle explain`: why a file is refused, or what its result means.
 
 use crate::args::Args;
-use crate::body::{Body, Kind};
-use crate::carve::{program_limit, PROGRAM_BYTES, PROGRAM_SIDE};
+use crate::body::Body;
+use crate::carve::{most, program_limit};
 use crate::file::{index_of, is_negative, is_value, record_length, width_at};
 use crate::file::{LayerRecord, Records, Scan, Source, HEADER, PATCH, PATCH_HEAD};
-use crate::gaps::{Gaps, Tally};
+use crate::frame::Frame;
+use crate::json::{object, of_body, of_refused, string};
+use crate::many::{each, Said};
 use crate::marks::{marks, told};
+use crate::meaning::meaning;
+use crate::words::some;
 use crate::{Answer, Failure, Status};
 use std::collections::BTreeSet;
 use wattlerugby::{read_layer, written_length, Refusal, Sides, GREATEST_VALUE, LEAST_VALUE, MISSING, NARROW, WIDE};
 
 pub fn explain(args: &Args) -> Result<Answer, Failure> {
-    let source = Source::open(&args.files[0])?;
+    let frame = Frame::of(args)?;
+    each(args, "taken", |source| explained(args, &frame, source))
+}
+
+fn explained(args: &Args, frame: &Frame, source: Source) -> Result<Said, Failure> {
     let (name, records, limit) = (source.name.clone(), source.records(), program_limit(&source));
-    let refused = match source.read() {
+    let (refused, (place, advice)) = match source.read() {
         Err((source, refused)) => (refused, unreadable(&source, &records, refused)),
-        Ok(scan) => match Body::carve_marked(&scan, &marks(args, &scan)?) {
-            Ok(body) => return Ok(Answer::text(taken(&body, &records, limit), Status::Done)),
-            Err(refused) => (refused, unfit(&scan, &records, refused)),
-        },
+        Ok(scan) => {
+            let scan = scan.allowing(args)?;
+            match Body::carve_marked(&scan, &marks(args, &scan)?) {
+                Ok(body) => return Ok(taken(args, frame, &body, of_file(&records, limit))),
+                Err(refused) => (refused, unfit(&scan, &records, refused)),
+            }
+        }
     };
-    let (number, (place, advice)) = refused;
-    let mut text = format!("{name} is {number}.\nWhere: {place}\nWhat to do: {advice}\n");
-    if let Some(limit) = limit.filter(|limit| *limit != number) {
+    if args.has("--json") {
+        let more = [("where", string(&place)), ("what_to_do", string(&advice))];
+        return Ok(Said::new(object(&[&of_refused(&name, refused)[..], &more].concat()) + "\n", Status::Refused));
+    }
+    let mut text = format!("{name} is {refused}.\nWhere: {place}\nWhat to do: {advice}\n");
+    if let Some(limit) = limit.filter(|limit| *limit != refused) {
         text += &format!("{}\n", of_the_program(limit));
     }
-    Ok(Answer::text(text, Status::Refused))
+    Ok(Said::new(text, Status::Refused))
 }
 
 /// What the program prints in place of what is told here.
 fn of_the_program(limit: Refusal) -> String {
-    let most = match limit {
-        Refusal::BYTES_LEFT => format!("input of {PROGRAM_BYTES} bytes at most; the library takes any length"),
-        _ => format!("{PROGRAM_SIDE} voxels a side at most; the library takes 64"),
-    };
-    format!("The program carve prints `refused {}` for it, since it takes {most}.", limit.0)
+    format!("The program carve prints `refused {}` for it, since it takes {}.", limit.0, most(limit))
 }
 
 // ---- a file that read refuses
@@ -44,6 +54,9 @@ fn of_the_program(limit: Refusal) -> String {
 fn unreadable(source: &Source, records: &Records, refused: Refusal) -> (String, String) {
     let Records { layers: found, patches, next } = records;
     let (length, next) = (source.bytes.len(), *next);
+    if let Some(damage) = sent_as_text(&source.bytes) {
+        return damage;
+    }
     match refused {
         Refusal::SHORT if length < HEADER => {
             (format!("the file has {length} bytes, and the header alone has {HEADER}."), "write the file again.".to_string())
@@ -63,6 +76,17 @@ fn unreadable(source: &Source, records: &Records, refused: Refusal) -> (String, 
         // read is lent a buffer of the right length, so 23 is all that is left
         _ => wrong_layer(source, found.len(), next),
     }
+}
+
+/// A transfer as text puts a 0D before every 0A. It is told only where undoing that leaves a file that is read.
+fn sent_as_text(bytes: &[u8]) -> Option<(String, String)> {
+    let feeds: Vec<usize> = (0..bytes.len()).filter(|&i| bytes[i] == b'\n').collect();
+    let first = feeds.first().filter(|_| feeds.iter().all(|&i| i > 0 && bytes[i - 1] == b'\r'))? - 1;
+    let undone = (0..bytes.len()).filter(|&i| bytes.get(i + 1) != Some(&b'\n')).map(|i| bytes[i]).collect();
+    Source { name: String::new(), bytes: undone }.read().ok()?;
+    let count = feeds.len();
+    let place = format!("the file was changed by a transfer as text: a byte 0D was put before each byte 0A, the first as byte {first}, {count} in all. Without them it is a grid file.");
+    Some((place, "send or copy the file again as it is, in binary.".to_string()))
 }
 
 fn hex(bytes: &[u8]) -> String {
@@ -264,14 +288,25 @@ fn nothing_negative(scan: &Scan, records: &Records) -> (String, String) {
 
 // ---- a grid that is taken
 
-fn taken(body: &Body, records: &Records, limit: Option<Refusal>) -> String {
-    let scan = body.scan;
-    let marked = told(body.grid.marks());
-    let mut text = format!("{} is taken: {} voxels, T = {}{marked}.\n{}\n", scan.name, scan.size(), scan.allowed, body.line());
-    for sentence in meaning(body).into_iter().chain(wide(records)).chain(patched(records)).chain(limit.map(of_the_program)) {
-        text += &format!("- {sentence}\n");
+fn taken(args: &Args, frame: &Frame, body: &Body, more: Vec<String>) -> Said {
+    let free = body.freely();
+    let free = free.as_ref().unwrap_or(body);
+    let sentences = [meaning(body, free, frame), more].concat();
+    if args.has("--json") {
+        let first = free.first_tunnel().map_or("null".to_string(), |i| format!("{:?}", body.scan.place(i)));
+        let says = format!("[{}]", sentences.iter().map(|s| string(s)).collect::<Vec<_>>().join(", "));
+        let more = [("free_tunnels", free.shape().1.to_string()), ("first_free_tunnel", first), ("says", says)];
+        return Said::new(object(&[&of_body(body, frame)[..], &more].concat()) + "\n", Status::Done);
     }
-    text
+    let (scan, marked) = (body.scan, told(body.grid.marks()));
+    let mut text = format!("{} is taken: {} voxels, {}{marked}.\n{}\n", scan.name, scan.size(), scan.allowed_told(), body.line());
+    text.extend(sentences.iter().map(|sentence| format!("- {sentence}\n")));
+    Said::new(text, Status::Done)
+}
+
+/// What is said of the file itself.
+fn of_file(records: &Records, limit: Option<Refusal>) -> Vec<String> {
+    wide(records).into_iter().chain(patched(records)).chain(limit.map(of_the_program)).collect()
 }
 
 /// How many layers have four bytes a value, where any has.
@@ -293,115 +328,4 @@ fn patched(records: &Records) -> Option<String> {
         many => format!("{many} patches correct"),
     };
     Some(format!("{patches} {} of the layers.", some(voxels.len(), "value")))
-}
-
-/// `1 voxel`, `2 voxels`.
-fn some(count: usize, what: &str) -> String {
-    format!("{count} {what}{}", if count == 1 { "" } else { "s" })
-}
-
-/// What the result says about the scan.
-pub fn meaning(body: &Body) -> Vec<String> {
-    let mut told = vec![closed(body)];
-    told.extend(pinned(body));
-    told.push(filled(body));
-    let missing = body.count(Kind::FilledMissing);
-    if missing > 0 {
-        let voxels = some(missing, "filled voxel");
-        told.push(format!("The range point is missing in {voxels}: assumed there, not measured. Scan there again."));
-    }
-    told.extend(gaps(body));
-    let unseen = body.openings_over_missing();
-    if unseen > 0 {
-        told.push(format!(
-            "{} made where the range point is missing: a tunnel there is not seen, only not excluded.",
-            was(unseen, "opening")
-        ));
-    }
-    let stray = body.discarded();
-    if stray > 0 {
-        told.push(format!("{} measured negative apart from the largest group, and not counted as inside.", was(stray, "voxel")));
-    }
-    told.extend(body.notes.iter().cloned());
-    told
-}
-
-/// What missing range points count as, and why.
-fn gaps(body: &Body) -> Vec<String> {
-    let (found, mut told) = (Gaps::of(body), Vec::new());
-    if found.inside.points > 0 {
-        let gaps = some(found.inside.gaps, "gap");
-        told.push(format!("{} as inside, in {gaps} behind the face, closed in by voxels measured negative.", count(found.inside.points)));
-    }
-    let beside = found.first_beside.map_or(String::new(), |i| {
-        format!("beside a voxel measured outside, such as {}, with {}", body.scan.voxel(i), body.scan.values[i])
-    });
-    let mut reasons = vec![
-        (found.on_edge, "at the grid's edge"),
-        (found.beside_outside, &beside),
-        (found.discarded, "among negative voxels that are not counted as inside"),
-    ];
-    reasons.retain(|(tally, _)| tally.points > 0);
-    let place = |(tally, why): &(Tally, &str)| format!("in {} {why}", some(tally.gaps, "gap"));
-    match &reasons[..] {
-        [] => {}
-        [one] => told.push(format!("{} as outside, {}.", count(one.0.points), place(one))),
-        several => {
-            let each: Vec<String> = several.iter().map(|one| format!("{} {}", one.0.points, place(one))).collect();
-            let all = several.iter().map(|(tally, _)| tally.points).sum();
-            told.push(format!("{} as outside: {}.", count(all), each.join("; ")));
-        }
-    }
-    told
-}
-
-/// `1 missing range point counts`, `2 missing range points count`.
-fn count(points: usize) -> String {
-    some(points, "missing range point") + if points == 1 { " counts" } else { " count" }
-}
-
-/// `1 voxel was`, `2 voxels were`.
-fn was(count: usize, what: &str) -> String {
-    some(count, what) + if count == 1 { " was" } else { " were" }
-}
-
-/// What pins hold.
-fn pinned(body: &Body) -> Option<String> {
-    let held = body.count(Kind::Pinned);
-    (held > 0).then(|| format!("{} pinned: kept in the body, though not measured inside.", was(held, "voxel")))
-}
-
-fn filled(body: &Body) -> String {
-    match body.count(Kind::Filled) + body.count(Kind::FilledMissing) {
-        0 if body.count(Kind::Pinned) > 0 => "Nothing else was filled.".to_string(),
-        0 if body.scan.allowed == 0 => "Nothing was filled: the scan is closed as it stands.".to_string(),
-        0 => "Nothing was filled: the body is the inside as it was scanned.".to_string(),
-        filled => format!("{} filled: kept in the body, though not measured inside.", was(filled, "voxel")),
-    }
-}
-
-fn closed(body: &Body) -> String {
-    let r = body.grid.record();
-    let tunnels = |least: i32| some(least.max(0) as usize, "tunnel");
-    match (scan_closed(body), r.openings == u32::from(r.allowed)) {
-        _ if r.allowed == 0 => "T is 0, so the body is closed, whatever was scanned: in one piece, without a tunnel.".to_string(),
-        (_, true) => format!(
-            "Every opening allowed is made (14), so a further one might remove more. The body has {} or more. Allow more openings, in bytes 5 and 6, to know.",
-            tunnels(1 - r.euler)
-        ),
-        _ if body.count(Kind::Pinned) > 0 => {
-            let pieces = body.pieces();
-            let told = match pieces {
-                1 => "one piece".to_string(),
-                many => format!("{many} pieces"),
-            };
-            format!("Nothing is left to open (15) but what is pinned: the body is in {told}, with {}.", tunnels(pieces as i32 - r.euler))
-        }
-        (true, false) => "Nothing is left to open (15): the body is in one piece, without a tunnel. The scan is closed.".to_string(),
-        (false, false) => format!("Nothing is left to open (15): the body is in one piece, with {}.", tunnels(1 - r.euler)),
-    }
-}
-
-fn scan_closed(body: &Body) -> bool {
-    body.grid.record().euler == 1
 }

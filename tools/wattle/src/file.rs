@@ -1,5 +1,7 @@
 //! A grid file: its bytes, and what read makes of them.
 
+use crate::args::Args;
+use crate::words::some;
 use crate::{Failure, Status};
 use std::io::Read;
 use std::path::Path;
@@ -47,8 +49,9 @@ pub struct Records {
 pub struct Scan {
     pub name: String,
     pub sides: Sides,
-    /// T, how many openings are allowed.
+    /// T, how many openings are allowed: as `--openings` says, otherwise as the file does.
     pub allowed: u16,
+    pub allowed_in_file: u16,
     pub values: Vec<i32>,
 }
 
@@ -72,7 +75,7 @@ impl Source {
 
     pub fn read(self) -> Result<Scan, (Source, Refusal)> {
         match values_of(&self.bytes) {
-            Ok((sides, allowed, values)) => Ok(Scan { name: self.name, sides, allowed, values }),
+            Ok((sides, allowed, values)) => Ok(Scan { name: self.name, sides, allowed, allowed_in_file: allowed, values }),
             Err(refused) => Err((self, refused)),
         }
     }
@@ -186,6 +189,21 @@ impl Scan {
         source.read().map_err(|(source, refused)| refusal(&source.name, refused))
     }
 
+    /// The same with as many openings allowed as `--openings` says.
+    pub fn allowing(self, args: &Args) -> Result<Scan, Failure> {
+        let allowed = args.openings()?.unwrap_or(self.allowed);
+        Ok(Scan { allowed, ..self })
+    }
+
+    /// T, and what it is.
+    pub fn allowed_told(&self) -> String {
+        let told = format!("T = {} allowed", some(self.allowed.into(), "opening"));
+        match self.allowed == self.allowed_in_file {
+            true => told,
+            false => format!("{told} ({} in the file)", self.allowed_in_file),
+        }
+    }
+
     pub fn place(&self, index: usize) -> [usize; 3] {
         let Sides { a, b, .. } = self.sides;
         [index % a, index / a % b, index / (a * b)]
@@ -200,6 +218,20 @@ impl Scan {
     pub fn on_border(&self, index: usize) -> bool {
         let Sides { a, b, c } = self.sides;
         self.place(index).iter().zip([a, b, c]).any(|(&p, side)| p == 0 || p + 1 == side)
+    }
+
+    /// The voxels that share a face with one.
+    pub fn faces(&self, index: usize) -> impl Iterator<Item = usize> {
+        let (Sides { a, b, c }, [x, y, z]) = (self.sides, self.place(index));
+        let along = |p: usize, step: usize, side: usize| [(p > 0).then(|| index - step), (p + 1 < side).then_some(index + step)];
+        [along(x, 1, a), along(y, a, b), along(z, a * b, c)].into_iter().flatten().flatten()
+    }
+
+    /// The voxels that touch one, in a face, an edge or a corner, and itself.
+    pub fn touching(&self, index: usize) -> impl Iterator<Item = usize> {
+        let (Sides { a, b, c }, [x, y, z]) = (self.sides, self.place(index));
+        let near = |p: usize, side: usize| p.saturating_sub(1)..(p + 2).min(side);
+        near(z, c).flat_map(move |z| near(y, b).flat_map(move |y| near(x, a).map(move |x| x + a * (y + b * z))))
     }
 
     pub fn size(&self) -> String {

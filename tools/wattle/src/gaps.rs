@@ -2,7 +2,8 @@
 
 use crate::body::{Body, Kind};
 use crate::file::Scan;
-use wattlerugby::{Sides, MISSING};
+use crate::groups::{ends, groups};
+use wattlerugby::{GONE, MISSING};
 
 /// So many gaps, with so many missing range points in them.
 #[derive(Clone, Copy, Default)]
@@ -26,15 +27,11 @@ pub struct Gaps {
 impl Gaps {
     pub fn of(body: &Body) -> Gaps {
         let (scan, mut found) = (body.scan, Gaps::default());
-        let mut seen = vec![false; scan.values.len()];
-        for first in 0..seen.len() {
-            let gap = joined(scan, &mut seen, first);
-            if gap.is_empty() {
-                continue;
-            }
-            let outside = gap.iter().flat_map(|&i| faces(scan, i)).filter(|&j| scan.values[j] >= 0).min();
+        let missing = (0..scan.values.len()).filter(|&i| scan.values[i] == MISSING);
+        for gap in groups(scan, missing, Scan::faces) {
+            let outside = gap.iter().flat_map(|&i| scan.faces(i)).filter(|&j| scan.values[j] >= 0).min();
             let tally = match outside {
-                _ if body.kinds[first] == Kind::Gap => &mut found.inside,
+                _ if body.kinds[gap[0]] == Kind::Gap => &mut found.inside,
                 _ if gap.iter().any(|&i| scan.on_border(i)) => &mut found.on_edge,
                 Some(beside) => {
                     found.first_beside.get_or_insert(beside);
@@ -49,24 +46,15 @@ impl Gaps {
     }
 }
 
-/// The gap of a voxel; nothing where it is not missing, or was seen before.
-fn joined(scan: &Scan, seen: &mut [bool], first: usize) -> Vec<usize> {
-    let (mut gap, mut waiting) = (Vec::new(), vec![first]);
-    while let Some(i) = waiting.pop() {
-        if scan.values[i] == MISSING && !std::mem::replace(&mut seen[i], true) {
-            gap.push(i);
-            waiting.extend(faces(scan, i));
-        }
-    }
-    gap
-}
-
-/// The voxels that share a face with one.
-fn faces(scan: &Scan, index: usize) -> Vec<usize> {
-    let (Sides { a, b, c }, mut found) = (scan.sides, Vec::new());
-    for (place, (step, side)) in scan.place(index).into_iter().zip([(1, a), (a, b), (a * b, c)]) {
-        found.extend((place > 0).then(|| index - step));
-        found.extend((place + 1 < side).then_some(index + step));
-    }
+/// Gaps within the box around the inside, beside it, and carved away: what the surface is there nobody measured. Farther out a missing point
+/// says nothing about the body.
+pub fn dents(body: &Body) -> Vec<Vec<usize>> {
+    let scan = body.scan;
+    let inside = |i: usize| matches!(body.kinds[i], Kind::Inside | Kind::Gap);
+    let ends = ends(scan, &body.all(inside).collect::<Vec<usize>>());
+    let boxed = |i: usize| scan.place(i).iter().zip(ends).all(|(p, (low, high))| (low..=high).contains(p));
+    let carved = body.all(|i| scan.values[i] == MISSING && body.grid.status()[i] == GONE && boxed(i));
+    let mut found = groups(scan, carved, Scan::faces);
+    found.retain(|gap| gap.iter().any(|&i| scan.faces(i).any(inside)));
     found
 }

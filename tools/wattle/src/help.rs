@@ -1,19 +1,83 @@
 //! The commands, their options, and what the help says.
 
-/// A command's name, how many files it takes, its own options, and its help. An option whose name ends in `=` takes a word.
+/// How many files a command takes.
+#[derive(Clone, Copy, PartialEq, Eq)]
+pub enum Files {
+    One,
+    Two,
+    Several,
+}
+
+impl Files {
+    pub fn fits(self, given: usize) -> bool {
+        match self {
+            Files::One => given == 1,
+            Files::Two => given == 2,
+            Files::Several => given >= 1,
+        }
+    }
+}
+
+impl std::fmt::Display for Files {
+    fn fmt(&self, f: &mut std::fmt::Formatter<'_>) -> std::fmt::Result {
+        f.write_str(match self {
+            Files::One => "one file",
+            Files::Two => "two files",
+            Files::Several => "one file or more",
+        })
+    }
+}
+
+/// A command's name, the files it takes, its own options, and its help. An option whose name ends in `=` takes a word.
 pub struct Command {
     pub name: &'static str,
-    pub files: usize,
+    pub files: Files,
     pub options: &'static [&'static str],
     pub help: &'static str,
+}
+
+// ---- what the help of several commands says
+
+macro_rules! openings {
+    () => {
+        "  --openings N    allow N openings, 0 to 65535, whatever the file says. An opening is a removal that changes how the body hangs
+                  together, such as one that pierces a wall; T is how many are allowed. With T = 0 the body is always closed
+"
+    };
+}
+
+macro_rules! marks {
+    () => {
+        "  --pin VOXEL     hold that voxel: it is not removed
+  --hurry VOXEL   examine that voxel before all others
+                  VOXEL is X,Y,Z, an index, or @LIST, a file with one voxel a line, where # begins a remark
+                  Both options may be given many times
+"
+    };
+}
+
+macro_rules! voxel {
+    () => {
+        "  --voxel SIZE    a voxel's size in units of your own, or SIZE,SIZE,SIZE along x, y and z: volumes are given in cubic units too
+"
+    };
+}
+
+macro_rules! place {
+    () => {
+        "  --voxel SIZE    a voxel's size in units of your own, or SIZE,SIZE,SIZE along x, y and z
+  --origin X,Y,Z  where the centre of voxel (0, 0, 0) lies, in the same units; otherwise at 0,0,0
+"
+    };
 }
 
 pub const COMMANDS: &[Command] = &[
     Command {
         name: "look",
-        files: 1,
-        options: &["--png", "--layer=", "--scale=", "--pin=", "--hurry="],
-        help: "wattle look FILE [--layer Z] [--png [--scale N]] [--pin VOXEL ..] [--hurry VOXEL ..] [-o OUT]
+        files: Files::One,
+        options: &["--png", "--layer=", "--scale=", "--openings=", "--pin=", "--hurry="],
+        help: concat!(
+            "wattle look FILE [--layer Z] [--png [--scale N]] [--openings N] [--pin VOXEL ..] [--hurry VOXEL ..] [-o OUT]
 
 Shows what carving leaves of a grid, layer by layer, x to the right and y down, with a key and counts. Where the grid is refused
 for its values, these are shown in its place, with those that it is refused for marked.
@@ -27,57 +91,94 @@ A gap counted as inside is a group of missing range points joined by faces, off 
 face with it is measured negative: no shot reaches the middle of a thick wall.
 
   --layer Z       that layer alone
-  --png           a picture in place of text
+  --png           a picture in place of text; an OUT that ends in .png is one too, one that ends in .txt is text
   --scale N       pixels along a voxel in the picture, 1 to 32; chosen by the grid's size otherwise
-  --pin VOXEL     hold that voxel: it is not removed
-  --hurry VOXEL   examine that voxel before all others
-                  VOXEL is X,Y,Z, an index, or @LIST, a file with one voxel a line, where # begins a remark
-                  Both options may be given many times
-
+",
+            openings!(),
+            marks!(),
+            "
 A pin holds a voxel of the box around the inside, from which carving starts; elsewhere it does nothing, and a note says so. What is pinned
 may hang free in the end. A hurried voxel goes only if it may, as any other: the body can become another, since the order is.
-",
+"
+        ),
     },
     Command {
         name: "explain",
-        files: 1,
-        options: &["--pin=", "--hurry="],
-        help: "wattle explain FILE [--pin VOXEL ..] [--hurry VOXEL ..] [-o OUT]
+        files: Files::Several,
+        options: &["--json", "--voxel=", "--openings=", "--pin=", "--hurry="],
+        help: concat!(
+            "wattle explain FILE .. [--json] [--voxel SIZE] [--openings N] [--pin VOXEL ..] [--hurry VOXEL ..] [-o OUT]
 
 Says why a grid file is refused: the number, the byte, the layer, the patch or the voxel, and what to do. Where it is taken, says what
-its result means: how much was filled, whether range points are missing there, what can be said about tunnels; and how many missing
-points count as inside, since they lie in gaps behind the face, and why the others do not.
+its result means: how many tunnels the body has, whether a voxel is left to open, and how many tunnels there would be were openings
+allowed freely, whatever T is; how much was filled, and where to scan again; what missing points count as, and why; and the volume, with
+how much of it nobody measured. Of several files, each is explained, and the last line counts them.
 
-  --pin VOXEL     hold that voxel: it is not removed
-  --hurry VOXEL   examine that voxel before all others
-                  VOXEL is X,Y,Z, an index, or @LIST, a file with one voxel a line, where # begins a remark
-                  Both options may be given many times
+  --json          a line of JSON for each file: what `wattle carve --json` gives, the tunnels were openings allowed freely and where the
+                  first of them is, and the sentences
 ",
+            voxel!(),
+            openings!(),
+            marks!()
+        ),
+    },
+    Command {
+        name: "list",
+        files: Files::One,
+        options: &["--csv", "--json", "--kind=", "--voxel=", "--origin=", "--openings=", "--pin=", "--hurry="],
+        help: concat!(
+            "wattle list FILE [--kind KIND ..] [--csv | --json] [--voxel SIZE] [--origin X,Y,Z] [--openings N] [--pin VOXEL ..]
+                 [--hurry VOXEL ..] [-o OUT]
+
+The voxels to go back to, one a line: x, y, z, index, value and kind. The value is left empty, in JSON null, where the range point is
+missing. A voxel of two kinds is listed under each.
+
+  --kind KIND     filled      kept, but not inside
+                  missing     filled, and the range point is missing: scan there again
+                  dent        gone, beside the inside, and the range point is missing: scan there again
+                  opened      opened, in the order of the openings, with the local test's k and m
+                  discarded   measured negative, apart from the largest group
+                  gap         a missing range point counted as inside
+                  It may be given many times; without it, all kinds
+  --csv           values with commas between, under a line of names (the default)
+  --json          a list of objects
+",
+            place!(),
+            openings!(),
+            marks!(),
+            "
+Without --csv or --json, the ending of OUT decides. With --voxel or --origin each voxel's centre is given in units too.
+"
+        ),
     },
     Command {
         name: "points",
-        files: 1,
-        options: &["--ply", "--xyz", "--pin=", "--hurry="],
-        help: "wattle points FILE [--ply | --xyz] [--pin VOXEL ..] [--hurry VOXEL ..] [-o OUT]
+        files: Files::One,
+        options: &["--ply", "--xyz", "--voxel=", "--origin=", "--openings=", "--pin=", "--hurry="],
+        help: concat!(
+            "wattle points FILE [--ply | --xyz] [--voxel SIZE] [--origin X,Y,Z] [--openings N] [--pin VOXEL ..] [--hurry VOXEL ..] [-o OUT]
 
 The points where the body's surface crosses from voxel to voxel, for CloudCompare, MeshLab and others. Coordinates are in voxels:
 the centre of voxel (x, y, z) is the point (x, y, z).
 
   --ply           with colours, and `scalar_measured` 1 where both voxels were measured, 0 where the surface is assumed (the default)
   --xyz           a line `x y z` for each point
-  --pin VOXEL     hold that voxel: it is not removed
-  --hurry VOXEL   examine that voxel before all others
-                  VOXEL is X,Y,Z, an index, or @LIST, a file with one voxel a line, where # begins a remark
-                  Both options may be given many times
-
-Without either, the ending of OUT decides. With 64 voxels along each side this can take a minute.
 ",
+            place!(),
+            openings!(),
+            marks!(),
+            "
+Without --ply or --xyz, the ending of OUT decides.
+"
+        ),
     },
     Command {
         name: "volume",
-        files: 1,
-        options: &["--vtk", "--nrrd", "--field=", "--pin=", "--hurry="],
-        help: "wattle volume FILE [--vtk | --nrrd] [--field FIELD] [--pin VOXEL ..] [--hurry VOXEL ..] [-o OUT]
+        files: Files::One,
+        options: &["--vtk", "--nrrd", "--field=", "--voxel=", "--origin=", "--openings=", "--pin=", "--hurry="],
+        help: concat!(
+            "wattle volume FILE [--vtk | --nrrd] [--field FIELD] [--voxel SIZE] [--origin X,Y,Z] [--openings N] [--pin VOXEL ..]
+                   [--hurry VOXEL ..] [-o OUT]
 
 The carved grid as a volume, for ParaView, 3D Slicer and others, a voxel a sample.
 
@@ -88,17 +189,18 @@ The carved grid as a volume, for ParaView, 3D Slicer and others, a voxel a sampl
                   status      0 gone, 1 kept
                   kinds       0 gone, 1 inside, 2 filled, 3 filled over a missing range point, 4 opened, 5 gap counted as inside,
                               6 pinned: kept, but not inside
-  --pin VOXEL     hold that voxel: it is not removed
-  --hurry VOXEL   examine that voxel before all others
-                  VOXEL is X,Y,Z, an index, or @LIST, a file with one voxel a line, where # begins a remark
-                  Both options may be given many times
-
-Without --vtk or --nrrd, the ending of OUT decides.
 ",
+            place!(),
+            openings!(),
+            marks!(),
+            "
+Without --vtk or --nrrd, the ending of OUT decides. How large the body is, `wattle explain` says.
+"
+        ),
     },
     Command {
         name: "compare",
-        files: 2,
+        files: Files::Two,
         options: &["--all"],
         help: "wattle compare A B [--all] [-o OUT]
 
@@ -110,35 +212,41 @@ the same, 1 where they differ, 2 where a file cannot be read as a grid.
     },
     Command {
         name: "page",
-        files: 1,
-        options: &["--pin=", "--hurry="],
-        help: "wattle page FILE [--pin VOXEL ..] [--hurry VOXEL ..] [-o OUT]
+        files: Files::One,
+        options: &["--voxel=", "--origin=", "--openings=", "--pin=", "--hurry="],
+        help: concat!(
+            "wattle page FILE [--voxel SIZE] [--origin X,Y,Z] [--openings N] [--pin VOXEL ..] [--hurry VOXEL ..] [-o OUT]
 
-One HTML page that opens in any browser without a network: layers to scroll through, and the surface's points to turn.
+One HTML page that opens in any browser without a network: what `wattle explain` says, layers to scroll through, and the surface's
+points to turn.
 
-  --pin VOXEL     hold that voxel: it is not removed
-  --hurry VOXEL   examine that voxel before all others
-                  VOXEL is X,Y,Z, an index, or @LIST, a file with one voxel a line, where # begins a remark
-                  Both options may be given many times
 ",
+            place!(),
+            openings!(),
+            marks!()
+        ),
     },
     Command {
         name: "rewrite",
-        files: 1,
-        options: &["--sort"],
-        help: "wattle rewrite FILE [--sort] [-o OUT]
+        files: Files::One,
+        options: &["--sort", "--openings="],
+        help: concat!(
+            "wattle rewrite FILE [--sort] [--openings N] [-o OUT]
 
 The same grid as a file in its written form: layers in rising z and no patches; what patches correct goes into the layers. These have
-two bytes a value where every measured value lies in -32767 to 32767, otherwise four, all of them. Sides, T and values stay as they are.
-A grid has one written form, so files of the same grid become the same bytes. What carving makes of the grid is not asked.
+two bytes a value where every measured value lies in -32767 to 32767, otherwise four, all of them. Sides and values stay as they are, and
+T does unless --openings is given. A grid has one written form, so files of the same grid become the same bytes. What carving makes of the
+grid is not asked.
 
-  --sort   take a file with its layers in any order too, where each is there once: they are put in rising z before the file is read.
-           Up to version 0.4 such files were read as they are
+  --sort          take a file with its layers in any order too, where each is there once: they are put in rising z before the file is
+                  read. Up to version 0.4 such files were read as they are
 ",
+            openings!()
+        ),
     },
     Command {
         name: "patch",
-        files: 1,
+        files: Files::One,
         options: &["--set="],
         help: "wattle patch FILE --set VOXEL=VALUE [--set ..] [-o OUT]
 
@@ -154,21 +262,27 @@ to a voxel the later one stands. FILE stays as it is. `wattle rewrite` puts patc
     },
     Command {
         name: "carve",
-        files: 1,
-        options: &["--large", "--pin=", "--hurry="],
-        help: "wattle carve FILE [--large] [--pin VOXEL ..] [--hurry VOXEL ..] [-o OUT]
+        files: Files::Several,
+        options: &["--large", "--json", "--voxel=", "--openings=", "--pin=", "--hurry="],
+        help: concat!(
+            "wattle carve FILE .. [--large] [--json] [--voxel SIZE] [--openings N] [--pin VOXEL ..] [--hurry VOXEL ..] [-o OUT]
 
 Prints the line that the program `carve` prints, with an exit status: 0 carved, 1 refused, 2 usage or a file that cannot be read.
-As the program does, it refuses input over 65,536 bytes with number 25, before all else, and a side over 24 with number 1.
+As the program does, it refuses input over 65,536 bytes with number 25, before all else, and a side over 24 with number 1; where --large
+takes the grid, a note on the standard error says so. Of several files, each line begins with the file's name, the last line counts them,
+and the status is that of the worst.
 
   --large         files of any length and sides up to 64, as all other commands take them
-  --pin VOXEL     hold that voxel: it is not removed
-  --hurry VOXEL   examine that voxel before all others
-                  VOXEL is X,Y,Z, an index, or @LIST, a file with one voxel a line, where # begins a remark
-                  Both options may be given many times
-
-The program itself marks no voxel.
+  --json          a line of JSON for each file in place of the line: its numbers, pieces and tunnels, how many voxels are left to open, and
+                  the volume in voxels: kept; of these inside, of which gaps; filled, of which over missing points; pinned; unmeasured
 ",
+            voxel!(),
+            openings!(),
+            marks!(),
+            "
+The program itself marks no voxel, and takes T from the file.
+"
+        ),
     },
 ];
 
@@ -178,22 +292,24 @@ pub fn overview() -> String {
         "wattle {}: looks at grid files and at the bodies carved from them
 
   wattle look FILE       layers as text, or as a picture (--png)
-  wattle explain FILE    why a file is refused, or what its result means
+  wattle explain FILE .. why a file is refused, or what its result means
+  wattle list FILE       the voxels to go back to: filled, missing, opened, discarded
   wattle points FILE     the surface's points: PLY, XYZ
   wattle volume FILE     values, distances, status: VTK, NRRD
   wattle compare A B     which voxels differ
   wattle page FILE       a page to look at it in a browser, offline
   wattle patch FILE      the file with single voxels corrected (--set)
   wattle rewrite FILE    the same grid in its written form: layers in rising z, no patches
-  wattle carve FILE      the program's line, with an exit status
+  wattle carve FILE ..   the program's line, with an exit status
   wattle help COMMAND    more about a command
 
-FILE may be -, the standard input. With -o OUT the answer goes to a file, which is not overwritten unless --force is given, and is
-never left half written; otherwise, or with -o -, it goes to the standard output. Sides may be 3 to 64 voxels. What takes long shows
-its progress on a terminal.
+FILE may be -, the standard input; after --, every word is a file. With -o OUT the answer goes to a file, which is not overwritten unless
+--force is given, and is never left half written; otherwise, or with -o -, it goes to the standard output. Sides may be 3 to 64 voxels.
+What takes long shows its progress on a terminal. Several files are shared out among the processor's cores.
 
-All but compare, patch and rewrite take --pin VOXEL, which holds a voxel, and --hurry VOXEL, which has it examined before all others.
-VOXEL is X,Y,Z, an index, or @LIST, a file with one voxel a line.
+All but compare and patch take --openings N in place of the file's T, the number of openings allowed. All but compare, patch and rewrite
+take --pin VOXEL, which holds a voxel, and --hurry VOXEL, which has it examined before all others. VOXEL is X,Y,Z, an index, or @LIST, a
+file with one voxel a line.
 
 Exit status: 0 done; 1 the grid is refused (compare: the two differ); 2 usage, or a file cannot be read or written.
 ",

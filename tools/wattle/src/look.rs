@@ -45,7 +45,7 @@ impl<'a> View<'a> {
     }
 
     pub fn title(&self) -> String {
-        format!("{}: {}, T = {}{}", self.scan.name, self.scan.size(), self.scan.allowed, self.marked)
+        format!("{}: {}, {}{}", self.scan.name, self.scan.size(), self.scan.allowed_told(), self.marked)
     }
 
     pub fn count(&self, kind: Kind) -> usize {
@@ -59,13 +59,14 @@ impl<'a> View<'a> {
 }
 
 pub fn look(args: &Args) -> Result<Answer, Failure> {
-    let scan = Scan::open(&args.files[0])?;
+    let format = args.format(["--txt", "--png"])?;
+    let scan = Scan::open(&args.files[0])?.allowing(args)?;
     let only = args.number("--layer", 0, scan.sides.c - 1)?;
     let scale = args.number("--scale", 1, 32)?;
     let body = Body::carve_marked(&scan, &marks(args, &scan)?);
     body.iter().for_each(Body::note);
     let view = View::new(&scan, &body);
-    if args.has("--png") {
+    if format == "--png" {
         let bytes = picture::png(&view, only, scale);
         return Ok(Answer { bytes, binary: true, status: view.status });
     }

@@ -3,6 +3,7 @@
 //!
 //! Everything about carving comes from the proved library, by way of the wrapper; what is here reads files, words and draws.
 
+mod amounts;
 mod args;
 mod body;
 mod carve;
@@ -10,10 +11,16 @@ mod compare;
 mod deflate;
 mod explain;
 mod file;
+mod frame;
 mod gaps;
+mod groups;
 mod help;
+mod json;
+mod list;
 mod look;
+mod many;
 mod marks;
+mod meaning;
 mod output;
 mod page;
 mod patch;
@@ -23,12 +30,13 @@ mod points;
 mod progress;
 mod rewrite;
 mod volume;
+mod words;
 
 use args::Args;
 use std::process::ExitCode;
 
 /// How a command ended. The numbers are the same for every command; help.rs tells them to the user.
-#[derive(Clone, Copy, Debug, PartialEq, Eq)]
+#[derive(Clone, Copy, Debug, PartialEq, Eq, PartialOrd, Ord)]
 pub enum Status {
     Done = 0,
     /// The grid is refused; for `compare`, the two differ.
@@ -90,6 +98,7 @@ fn run(words: &[std::ffi::OsString]) -> Result<Status, Failure> {
         "points" => points::points(&args),
         "volume" => volume::volume(&args),
         "compare" => compare::compare(&args),
+        "list" => list::list(&args),
         "page" => page::page(&args),
         "patch" => patch::patch(&args),
         "rewrite" => rewrite::rewrite(&args),

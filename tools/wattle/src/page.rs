@@ -2,10 +2,12 @@
 
 use crate::args::Args;
 use crate::body::{Body, Kind};
-use crate::explain::{meaning, unfit};
+use crate::explain::unfit;
 use crate::file::{refusal, Source};
+use crate::frame::Frame;
 use crate::look::View;
 use crate::marks::marks;
+use crate::meaning::meaning;
 use crate::picture::web;
 use crate::points::{surface, SurfacePoint};
 use crate::{Answer, Failure};
@@ -14,13 +16,13 @@ use crate::{Answer, Failure};
 const TEMPLATE: &str = include_str!("page.html");
 
 pub fn page(args: &Args) -> Result<Answer, Failure> {
-    let source = Source::open(&args.files[0])?;
+    let (frame, source) = (Frame::of(args)?, Source::open(&args.files[0])?);
     let records = source.records();
-    let scan = source.read().map_err(|(source, refused)| refusal(&source.name, refused))?;
+    let scan = source.read().map_err(|(source, refused)| refusal(&source.name, refused))?.allowing(args)?;
     let body = Body::carve_marked(&scan, &marks(args, &scan)?);
     let view = View::new(&scan, &body);
     let (sentences, points) = match &body {
-        Ok(body) => (meaning(body), surface(body)),
+        Ok(body) => (meaning(body, body.freely().as_ref().unwrap_or(body), &frame), surface(body)),
         Err(refused) => {
             let (place, advice) = unfit(&scan, &records, *refused);
             (vec![format!("Where: {place}"), format!("What to do: {advice}")], Vec::new())
@@ -32,7 +34,7 @@ pub fn page(args: &Args) -> Result<Answer, Failure> {
         ("LINE", escaped(&view.line)),
         ("MEANING", items.join("\n")),
         ("KEY", key(&view)),
-        ("DATA", data(&view, &points)),
+        ("DATA", data(&view, &points, &frame)),
     ];
     Ok(Answer { bytes: filled(&parts).into_bytes(), binary: true, status: view.status })
 }
@@ -63,12 +65,16 @@ fn key(view: &View) -> String {
 }
 
 /// Everything that the script draws, as JSON of numbers, names of kinds and base64, so that nothing in it can end the script.
-fn data(view: &View, points: &[SurfacePoint]) -> String {
+fn data(view: &View, points: &[SurfacePoint], frame: &Frame) -> String {
     let sides = view.scan.sides;
     let kinds = Kind::ALL.iter().map(|k| format!("{{\"name\": \"{}\", \"colour\": \"{}\"}}", k.name(), web(k.colour())));
     let coordinates = points.iter().flat_map(|p| [p.at.x, p.at.y, p.at.z]).flat_map(|c| (c as f32).to_le_bytes());
+    let placed = match frame.is_given() {
+        true => format!("\"voxel\": {:?},\n\"origin\": {:?},\n", frame.voxel, frame.origin),
+        false => String::new(),
+    };
     format!(
-        "{{\"sides\": [{}, {}, {}],\n\"kinds\": [{}],\n\"voxels\": \"{}\",\n\"values\": \"{}\",\n\"points\": \"{}\",\n\"restsOn\": \"{}\"}}",
+        "{{\"sides\": [{}, {}, {}],\n{placed}\"kinds\": [{}],\n\"voxels\": \"{}\",\n\"values\": \"{}\",\n\"points\": \"{}\",\n\"restsOn\": \"{}\"}}",
         sides.a,
         sides.b,
         sides.c,

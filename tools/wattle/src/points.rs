@@ -3,6 +3,7 @@
 use crate::args::Args;
 use crate::body::{Body, Kind};
 use crate::file::{refusal, Scan};
+use crate::frame::Frame;
 use crate::marks::marks;
 use crate::{Answer, Failure};
 use std::fmt::Write;
@@ -15,13 +16,19 @@ pub struct SurfacePoint {
     pub rests_on: Kind,
 }
 
+impl SurfacePoint {
+    fn place(&self, frame: &Frame) -> [f64; 3] {
+        frame.at([self.at.x, self.at.y, self.at.z])
+    }
+}
+
 pub fn points(args: &Args) -> Result<Answer, Failure> {
-    let format = args.format(["--ply", "--xyz"])?;
-    let scan = Scan::open(&args.files[0])?;
+    let (format, frame) = (args.format(["--ply", "--xyz"])?, Frame::of(args)?);
+    let scan = Scan::open(&args.files[0])?.allowing(args)?;
     let body = Body::carve_marked(&scan, &marks(args, &scan)?).map_err(|refused| refusal(&scan.name, refused))?;
     body.note();
     let points = surface(&body);
-    let text = if format == "--ply" { ply(&body, &points) } else { xyz(&points) };
+    let text = if format == "--ply" { ply(&body, &points, &frame) } else { xyz(&points, &frame) };
     // text, but no text to read: it goes to a terminal only by mistake
     Ok(Answer::file(text.into_bytes()))
 }
@@ -65,25 +72,27 @@ fn basis(body: &Body, inner: usize, outer: usize) -> Kind {
 
 /// A number is written as the shortest decimal that reads back as the same double. CloudCompare takes a property whose name begins with
 /// `scalar_` as a field to colour by.
-fn ply(body: &Body, points: &[SurfacePoint]) -> String {
+fn ply(body: &Body, points: &[SurfacePoint], frame: &Frame) -> String {
     let mut text = format!(
-        "ply\nformat ascii 1.0\ncomment {}: {}\ncomment coordinates in voxels; scalar_measured is 0 where the surface is assumed\n\
+        "ply\nformat ascii 1.0\ncomment {}: {}\ncomment {}, {}; scalar_measured is 0 where the surface is assumed\n\
          element vertex {}\nproperty double x\nproperty double y\nproperty double z\n\
          property uchar red\nproperty uchar green\nproperty uchar blue\nproperty uchar scalar_measured\nend_header\n",
         body.scan.name,
         body.line(),
+        body.scan.allowed_told(),
+        frame.told(),
         points.len()
     );
     for point in points {
-        let (Point { x, y, z }, [r, g, b]) = (point.at, point.rests_on.colour());
+        let ([x, y, z], [r, g, b]) = (point.place(frame), point.rests_on.colour());
         writeln!(text, "{x} {y} {z} {r} {g} {b} {}", u8::from(point.rests_on == Kind::Inside)).expect("a text takes any line");
     }
     text
 }
 
-fn xyz(points: &[SurfacePoint]) -> String {
+fn xyz(points: &[SurfacePoint], frame: &Frame) -> String {
     let mut text = String::new();
-    for SurfacePoint { at: Point { x, y, z }, .. } in points {
+    for [x, y, z] in points.iter().map(|point| point.place(frame)) {
         writeln!(text, "{x} {y} {z}").expect("a text takes any line");
     }
     text

@@ -13,8 +13,10 @@ pub struct Progress {
 }
 
 impl Progress {
+    /// Of several files at a time none is shown: they would write over each other.
     pub fn new() -> Progress {
-        Progress { shown: false, last: Instant::now(), terminal: std::io::stderr().is_terminal() }
+        let alone = std::thread::current().name() == Some("main");
+        Progress { shown: false, last: Instant::now(), terminal: alone && std::io::stderr().is_terminal() }
     }
 
     /// Shows the text in place of the last one, if it is time to. The text is made only then.

@@ -3,6 +3,7 @@
 use crate::args::Args;
 use crate::body::Body;
 use crate::file::{refusal, Scan};
+use crate::frame::Frame;
 use crate::marks::marks;
 use crate::{Answer, Failure};
 use wattlerugby::Sides;
@@ -19,17 +20,17 @@ struct Field {
 const NAMES: [&str; 4] = ["values", "distances", "status", "kinds"];
 
 pub fn volume(args: &Args) -> Result<Answer, Failure> {
-    let format = args.format(["--vtk", "--nrrd"])?;
+    let (format, frame) = (args.format(["--vtk", "--nrrd"])?, Frame::of(args)?);
     let named = args.value("--field");
     if let Some(name) = named.filter(|name| !NAMES.contains(name)) {
         return Err(Failure::unusable(format!("there is no field {name}; the fields are {}", NAMES.join(", "))));
     }
-    let scan = Scan::open(&args.files[0])?;
+    let scan = Scan::open(&args.files[0])?.allowing(args)?;
     let body = Body::carve_marked(&scan, &marks(args, &scan)?).map_err(|refused| refusal(&scan.name, refused))?;
     body.note();
     let bytes = match format {
-        "--nrrd" => nrrd(&body, field(&body, named.unwrap_or("distances"))),
-        _ => vtk(&body, named.map_or(NAMES.to_vec(), |name| vec![name])),
+        "--nrrd" => nrrd(&body, &frame, field(&body, named.unwrap_or("distances"))),
+        _ => vtk(&body, &frame, named.map_or(NAMES.to_vec(), |name| vec![name])),
     };
     Ok(Answer::file(bytes))
 }
@@ -56,14 +57,15 @@ fn field(body: &Body, name: &str) -> Field {
 }
 
 /// The axes are named so that 3D Slicer shows a voxel's own coordinates: it turns the others round.
-fn nrrd(body: &Body, field: Field) -> Vec<u8> {
-    let Sides { a, b, c } = body.scan.sides;
+fn nrrd(body: &Body, frame: &Frame, field: Field) -> Vec<u8> {
+    let (Sides { a, b, c }, [u, v, w], [x, y, z]) = (body.scan.sides, frame.voxel, frame.origin);
     let header = format!(
-        "NRRD0004\n# {}: {}\ntype: {}\ndimension: 3\nspace: right-anterior-superior\nsizes: {a} {b} {c}\n\
-         space directions: (1,0,0) (0,1,0) (0,0,1)\nkinds: domain domain domain\nendian: little\nencoding: raw\n\
-         space origin: (0,0,0)\nfield:={}\nresult:={}\n\n",
+        "NRRD0004\n# {}: {}, {}\ntype: {}\ndimension: 3\nspace: right-anterior-superior\nsizes: {a} {b} {c}\n\
+         space directions: ({u},0,0) (0,{v},0) (0,0,{w})\nkinds: domain domain domain\nendian: little\nencoding: raw\n\
+         space origin: ({x},{y},{z})\nfield:={}\nresult:={}\n\n",
         body.scan.name,
         body.line(),
+        body.scan.allowed_told(),
         field.nrrd,
         field.name,
         body.line()
@@ -72,13 +74,14 @@ fn nrrd(body: &Body, field: Field) -> Vec<u8> {
 }
 
 /// Legacy VTK, version 3.0. Its title line takes 256 characters at most, and its samples stand high byte first.
-fn vtk(body: &Body, names: Vec<&str>) -> Vec<u8> {
-    let Sides { a, b, c } = body.scan.sides;
-    let title: String = body.scan.name.chars().take(120).collect();
+fn vtk(body: &Body, frame: &Frame, names: Vec<&str>) -> Vec<u8> {
+    let (Sides { a, b, c }, [u, v, w], [x, y, z]) = (body.scan.sides, frame.voxel, frame.origin);
+    let title: String = body.scan.name.chars().take(100).collect();
     let mut file = format!(
-        "# vtk DataFile Version 3.0\n{title}: {}\nBINARY\nDATASET STRUCTURED_POINTS\nDIMENSIONS {a} {b} {c}\n\
-         ORIGIN 0 0 0\nSPACING 1 1 1\nPOINT_DATA {}\n",
+        "# vtk DataFile Version 3.0\n{title}: {}, {}\nBINARY\nDATASET STRUCTURED_POINTS\nDIMENSIONS {a} {b} {c}\n\
+         ORIGIN {x} {y} {z}\nSPACING {u} {v} {w}\nPOINT_DATA {}\n",
         body.line(),
+        body.scan.allowed_told(),
         a * b * c
     )
     .into_bytes();

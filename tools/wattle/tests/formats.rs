@@ -2,7 +2,7 @@
 
 mod common;
 
-use common::{answer, carved, left_out, path, samples, text, Carved, COLOURS};
+use common::{answer, carved, left_out, path, python, samples, text, Carved, COLOURS};
 use std::path::{Path, PathBuf};
 use std::process::Command;
 use wattlerugby::{Sides, GREATEST_VALUE, LEAST_VALUE, MISSING};
@@ -76,19 +76,6 @@ fn written(folder: &Path, words: &[&str], name: &str) -> PathBuf {
 }
 
 // ---- other programs
-
-/// What a reader of tests/read_back.py prints, with the first python that has its library.
-fn python(reader: &str, file: &Path) -> Option<String> {
-    let script = Path::new(env!("CARGO_MANIFEST_DIR")).join("tests/read_back.py");
-    for python in ["python3", "/usr/bin/python3"] {
-        let Ok(output) = Command::new(python).arg(&script).args([reader, path(file)]).output() else { continue };
-        if output.status.code() != Some(3) {
-            assert!(output.status.success(), "{reader} on {}: {}", file.display(), text(&output.stderr));
-            return Some(text(&output.stdout));
-        }
-    }
-    None
-}
 
 fn at_hand(found: &[bool], what: &str) {
     if !found.contains(&true) {

@@ -92,12 +92,12 @@ fn place(i: usize) -> String {
 fn every_command_shows_it() {
     let file = ring(2);
     let look = said(&["look", "-", "--pin", "2,2,1", "--layer", "1"], &file);
-    assert!(look.starts_with("the standard input: 5 x 5 x 3, T = 2, 1 pinned\n"), "{look}");
+    assert!(look.starts_with("the standard input: 5 x 5 x 3, T = 2 openings allowed, 1 pinned\n"), "{look}");
     assert!(look.contains("   * pinned: 1   o filled: 0   ") && look.contains("\n.#*#.\n"), "{look}");
     let both = said(&["look", "-", "--pin", "37", "--hurry", "37"], &file);
-    assert!(both.starts_with("the standard input: 5 x 5 x 3, T = 2, 1 pinned, 1 hurried\n"), "{both}");
+    assert!(both.starts_with("the standard input: 5 x 5 x 3, T = 2 openings allowed, 1 pinned, 1 hurried\n"), "{both}");
     let plain = said(&["look", "-"], &file);
-    assert!(plain.starts_with("the standard input: 5 x 5 x 3, T = 2\n") && !plain.contains("pinned"), "{plain}");
+    assert!(plain.starts_with("the standard input: 5 x 5 x 3, T = 2 openings allowed\n") && !plain.contains("pinned"), "{plain}");
 
     let picture = common::png::parse(&wattle_on(&["look", "--png", "-", "--pin", "37"], &file).stdout);
     assert_eq!(picture.count([0, 0, 0]), 7 * 7, "one voxel of 8 pixels, with a line between");
@@ -113,7 +113,7 @@ fn every_command_shows_it() {
     assert_eq!(black, ["2 2 0.6 0 0 0 0", "2 2 1.4 0 0 0 0"], "below and above, and assumed");
 
     let page = said(&["page", "-", "--pin", "37"], &file);
-    assert!(page.contains("<title>the standard input: 5 x 5 x 3, T = 2, 1 pinned</title>"), "{}", &page[..400]);
+    assert!(page.contains("<title>the standard input: 5 x 5 x 3, T = 2 openings allowed, 1 pinned</title>"), "{}", &page[..400]);
     assert!(page.contains("background: #000000\"></span>pinned: 1</li>") && page.contains("<li>1 voxel was pinned: "));
     assert!(!said(&["page", "-"], &file).contains("</span>pinned"));
 }
@@ -125,21 +125,20 @@ fn explain_says_what_pins_change() {
         said(&words, file)
     };
     let held = "- 1 voxel was pinned: kept in the body, though not measured inside.\n- Nothing else was filled.\n";
+    let free = "- Were openings allowed freely, the body would have no tunnel, with what is pinned.\n";
     let ring_held = told(&ring(2), &["37"]);
-    assert!(
-        ring_held
-            .contains(&format!("- Nothing is left to open (15) but what is pinned: the body is in one piece, with 0 tunnels.\n{held}")),
-        "{ring_held}"
-    );
-    assert!(!ring_held.contains("The scan is closed"), "the pin closes it");
+    let left = "- The body is in one piece, without a tunnel, and nothing is left to open but what is pinned (15).\n";
+    assert!(ring_held.contains(&format!("{left}{free}{held}")), "{ring_held}");
+    assert!(!ring_held.contains("the scan is closed"), "the pin closes it");
     let closed = told(&ring(0), &["37"]);
-    assert!(closed.contains(&format!("without a tunnel.\n{held}")), "{closed}");
+    assert!(closed.contains(&format!("without a tunnel, and nothing is left to open but what is pinned.\n{free}{held}")), "{closed}");
     assert!(told(&ring(0), &[]).contains("- 1 voxel was filled: kept"));
     let free = told(&bow(9), &["3,2,1"]);
-    assert!(free.contains("but what is pinned: the body is in 2 pieces, with 0 tunnels.\n"), "{free}");
+    let pieces = "- The body is in 2 pieces, without a tunnel, and nothing is left to open but what is pinned (15).\n";
+    assert!(free.contains(pieces), "{free}");
     // one that is kept anyway changes nothing of what is said
     let inside = told(&ring(2), &["1,1,1"]);
-    assert!(inside.contains("- Nothing is left to open (15): the body is in one piece, with 1 tunnel.\n"), "{inside}");
+    assert!(inside.contains("- The body is in one piece, with 1 tunnel, and nothing is left to open (15).\n"), "{inside}");
 }
 
 #[test]

@@ -46,7 +46,7 @@ fn a_name_cannot_break_it() {
     let grid = folder.join("a<b>&\"{{DATA}}\n.grid");
     std::fs::copy(common::sample("sphere.grid"), &grid).unwrap();
     let page = page(&grid);
-    assert!(page.contains("<title>a&lt;b&gt;&amp;&quot;{{DATA}}?.grid: 12 x 12 x 12, T = 0</title>"), "{}", &page[..600]);
+    assert!(page.contains("<title>a&lt;b&gt;&amp;&quot;{{DATA}}?.grid: 12 x 12 x 12, T = 0 openings allowed</title>"), "{}", &page[..600]);
     assert_eq!(page.matches("\"voxels\": ").count(), 1);
 }
 

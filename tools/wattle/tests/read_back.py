@@ -1,4 +1,4 @@
-"""Reads a file with a library and prints what it found, for tests/formats.rs to compare.
+"""Reads a file with a library and prints what it found, for the tests to compare.
 usage: read_back.py READER FILE        the status is 3 where the library is not there
 """
 import sys
@@ -71,7 +71,34 @@ def ply_by_meshio(name):
         print(numbers(point))
 
 
-READERS = {f.__name__: f for f in (png_by_pil, ply_by_vtk, nrrd_by_vtk, vtk_by_vtk, ply_by_meshio)}
+def rows(entries):
+    """A line for each entry: its names and values, what is empty left out."""
+    for entry in entries:
+        print(*(f"{name}={value}" for name, value in entry.items() if value not in ("", None)))
+
+
+def csv_rows(name):
+    import csv
+
+    with open(name, newline="") as file:
+        rows(csv.DictReader(file))
+
+
+def json_rows(name):
+    import json
+
+    with open(name) as file:
+        rows(json.load(file))
+
+
+def json_lines(name):
+    import json
+
+    with open(name) as file:
+        rows(json.loads(line) for line in file)
+
+
+READERS = {f.__name__: f for f in (png_by_pil, ply_by_vtk, nrrd_by_vtk, vtk_by_vtk, ply_by_meshio, csv_rows, json_rows, json_lines)}
 
 if __name__ == "__main__":
     try:

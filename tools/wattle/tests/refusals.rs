@@ -2,7 +2,7 @@
 
 mod common;
 
-use common::{fed, path, root, sample, status, text, wattle, wattle_on, Seed};
+use common::{damaged, fed, path, root, sample, status, text, wattle, wattle_on, Seed};
 use std::io::Read;
 use std::process::{Command, Stdio};
 use wattlerugby::{patch, GREATEST_VALUE, LEAST_VALUE};
@@ -207,64 +207,6 @@ fn explain_finds_the_voxel() {
 }
 
 #[test]
-fn the_meaning_of_the_last_answer_of_open() {
-    let ring = |allowed: u16| {
-        common::grid_file([5, 5, 3], allowed, |x, y, z| if z == 1 && x.abs_diff(2).max(y.abs_diff(2)) == 1 { -4 } else { 4 })
-    };
-    let told = |file: &[u8]| text(&wattle_on(&["explain", "-"], file).stdout);
-    assert!(told(&ring(0)).contains("T is 0, so the body is closed") && told(&ring(0)).contains("1 voxel was filled"));
-    assert!(told(&ring(1)).contains("(14)") && told(&ring(1)).contains("1 tunnel or more"));
-    assert!(told(&ring(2)).contains("(15): the body is in one piece, with 1 tunnel."));
-    let block =
-        |allowed: u16| common::grid_file([5, 5, 5], allowed, |x, y, z| if [x, y, z].iter().all(|p| (1..4).contains(p)) { -4 } else { 4 });
-    assert!(told(&block(2)).contains("(15): the body is in one piece, without a tunnel. The scan is closed."));
-    assert!(told(&block(0)).contains("Nothing was filled: the scan is closed as it stands."));
-    // a hole over a missing point, and a negative voxel by itself
-    let mut file = ring(2);
-    let at = |x: usize, y: usize, z: usize| 7 + z * (3 + 50) + 3 + 2 * (x + 5 * y);
-    (file[at(2, 2, 1)], file[at(2, 2, 1) + 1]) = (0, 0x80);
-    assert!(told(&file).contains("1 opening was made where the range point is missing"), "{}", told(&file));
-    let stray = common::grid_file([7, 5, 3], 0, |x, y, z| if z == 1 && y == 2 && [1, 2, 5].contains(&x) { -4 } else { 4 });
-    assert!(told(&stray).contains("1 voxel was measured negative apart from the largest group"), "{}", told(&stray));
-}
-
-/// Damage of one to three bytes, now and then with a part cut off or added.
-fn damaged(seed: &mut Seed) -> Vec<u8> {
-    let names = ["sphere.grid", "torus-1.grid", "wet-glass.grid"];
-    let mut file = std::fs::read(sample(names[seed.below(3)])).unwrap();
-    for _ in 0..seed.below(3) + 1 {
-        let records = 7 + (3 + 2 * file[2] as usize * file[3] as usize) * seed.below(9);
-        let at = [seed.below(7), (records + seed.below(3)).min(file.len() - 1), seed.below(file.len())][seed.below(3)];
-        file[at] = [seed.below(30) as u8, seed.below(256) as u8, file[at] ^ 1][seed.below(3)];
-    }
-    match seed.below(8) {
-        0 => file.truncate(seed.below(file.len())),
-        1 => file.push(0),
-        2 | 3 => file.extend(damaged_patches(seed)),
-        _ => {}
-    }
-    file
-}
-
-/// A few patches for grids of some 2,000 voxels; now and then one is for a larger grid, a byte is changed, or the last is cut off.
-fn damaged_patches(seed: &mut Seed) -> Vec<u8> {
-    let mut some = Vec::new();
-    for _ in 0..seed.below(4) + 1 {
-        let index = if seed.below(4) == 0 { seed.below(1 << 20) } else { seed.below(1700) };
-        some.extend(patch(index as u32, seed.below(200) as i16));
-    }
-    match seed.below(4) {
-        0 => some.truncate(seed.below(some.len())),
-        1 => {
-            let at = seed.below(some.len());
-            some[at] ^= 1 << seed.below(8);
-        }
-        _ => {}
-    }
-    some
-}
-
-#[test]
 fn damaged_files_get_the_programs_line() {
     let program = root().join("target/bin/carve");
     if !program.exists() {
@@ -304,6 +246,9 @@ fn the_programs_limit() {
     };
     assert_eq!(run(&["carve", "-"], 24).0, 0);
     assert_eq!(run(&["carve", "-"], 25), (1, "refused 1\n".to_string()));
+    let note = "wattle: note: the program takes 24 voxels a side at most; the library takes 64, and so does `wattle carve --large`\n";
+    assert_eq!(text(&wattle_on(&["carve", "-"], &large(25)).stderr), note);
+    assert_eq!(text(&wattle_on(&["carve", "--large", "-"], &large(25)).stderr), "");
     let (ended, line) = run(&["carve", "--large", "-"], 25);
     assert!(ended == 0 && line.starts_with("kept "), "{line}");
     let (ended, told) = run(&["explain", "-"], 64);
@@ -333,7 +278,8 @@ fn the_programs_limit() {
     // the mark comes before the sides, and the sides before the layers
     let mut file = large(25);
     file[7] = 0;
-    assert_eq!(text(&wattle_on(&["carve", "-"], &file).stdout), "refused 1\n");
+    let output = wattle_on(&["carve", "-"], &file);
+    assert_eq!((text(&output.stdout).as_str(), text(&output.stderr).as_str()), ("refused 1\n", ""), "--large would not take it");
     file[0] = 0;
     assert_eq!(text(&wattle_on(&["carve", "-"], &file).stdout), "refused 22\n");
     assert_eq!(text(&wattle_on(&["carve", "-"], &large(25)[..6]).stdout), "refused 21\n");
@@ -362,6 +308,12 @@ fn the_programs_limit_on_bytes() {
     assert_eq!((line(&[0; 65_536]).as_str(), line(&[0; 65_537]).as_str()), ("refused 22\n", "refused 25\n"));
 
     assert_eq!(text(&wattle_on(&["carve", "--large", "-"], &over).stdout), due);
+    let note =
+        "wattle: note: the program takes input of 65536 bytes at most; the library takes any length, and so does `wattle carve --large`\n";
+    assert_eq!(text(&wattle_on(&["carve", "-"], &over).stderr), note);
+    assert_eq!(text(&wattle_on(&["carve", "-"], &[0; 65_537]).stderr), "", "it is no grid");
+    let on_the_edge = common::grid_file([25, 5, 5], 0, |x, _, _| if x == 0 { -1 } else { 1 });
+    assert_eq!(text(&wattle_on(&["carve", "-"], &on_the_edge).stderr), "", "the library refuses it too");
     let sentence = "prints `refused 25` for it, since it takes input of 65536 bytes at most; the library takes any length.\n";
     let explain = |file: &[u8]| text(&wattle_on(&["explain", "-"], file).stdout);
     assert!(explain(&over).ends_with(&format!("\n- The program carve {sentence}")), "{}", explain(&over));
@@ -389,6 +341,45 @@ fn endless_input_comes_to_an_end() {
     assert!(sorted.starts_with("wattle: the standard input: refused 22: "), "{sorted}");
 }
 
+/// Before every 0A a 0D: what a transfer as text makes of a file.
+fn as_text(file: &[u8]) -> Vec<u8> {
+    file.iter().flat_map(|&byte| if byte == b'\n' { vec![b'\r', byte] } else { vec![byte] }).collect()
+}
+
+#[test]
+fn explain_names_a_transfer_as_text() {
+    // a side of 10 is a 0A in the header, and layer z = 10 has one too
+    let block = common::grid_file([10, 5, 12], 0, |x, y, z| if [x, y, z] == [4, 2, 5] { -10 } else { 3338 });
+    for (name, file) in common::samples()
+        .iter()
+        .map(|path| (path.display().to_string(), std::fs::read(path).unwrap()))
+        .chain([("block".to_string(), block)])
+    {
+        let (sent, first) = (as_text(&file), file.iter().position(|&byte| byte == b'\n'));
+        let output = wattle_on(&["explain", "-"], &sent);
+        let told = text(&output.stdout);
+        let Some(first) = first else {
+            assert!(sent == file && !told.contains("transfer"), "{name}");
+            continue;
+        };
+        let count = sent.len() - file.len();
+        let place = format!("\nWhere: the file was changed by a transfer as text: a byte 0D was put before each byte 0A, the first as byte {first}, {count} in all. Without them it is a grid file.\n");
+        assert_eq!(status(&output), 1, "{name}: {told}");
+        assert!(
+            told.contains(&place) && told.contains("\nWhat to do: send or copy the file again as it is, in binary.\n"),
+            "{name}: {told}"
+        );
+        // with one of them taken out, or the end cut off, it is another damage
+        let mut other = sent.clone();
+        other.remove(first);
+        assert!(!text(&wattle_on(&["explain", "-"], &other).stdout).contains("transfer"), "{name}");
+        assert!(!text(&wattle_on(&["explain", "-"], &sent[..sent.len() - 1]).stdout).contains("transfer"), "{name}");
+    }
+    // a file that is read is what it is, whatever its bytes
+    let good = common::grid_file([5, 5, 3], 0, |x, y, z| if [x, y, z] == [2, 2, 1] { -1 } else { 0x0A0D });
+    assert_eq!(status(&wattle_on(&["explain", "-"], &good)), 0);
+}
+
 // ---- words and files
 
 /// One line on the standard error, nothing on the standard output.
@@ -412,6 +403,14 @@ fn wrong_words_get_one_line() {
     one_line(&["look", good, "--layer", "12"], 2, "--layer takes a number from 0 to 11, not 12");
     one_line(&["look", good, "--png", "--scale", "x"], 2, "--scale takes a number from 1 to 32, not x");
     one_line(&["points", good, "--ply", "--xyz"], 2, "choose one");
+    one_line(&["carve"], 2, "carve takes one file or more, not 0");
+    one_line(&["look", "--", good, good], 2, "look takes one file, not 2");
+    one_line(&["look", "--", "--png"], 2, "--png cannot be read");
+    for (command, endings) in [("look", ".txt or .png"), ("points", ".ply or .xyz"), ("volume", ".vtk or .nrrd"), ("list", ".csv or .json")]
+    {
+        let line = format!("the ending of x.gif is not known: {command} writes {endings}");
+        one_line(&[command, good, "-o", "x.gif"], 2, &line);
+    }
     one_line(&["volume", good, "--field", "colour"], 2, "there is no field colour");
     one_line(&["look", "/no/such.grid"], 2, "/no/such.grid cannot be read");
     one_line(&["look", path(&root())], 2, "cannot be read");
@@ -428,7 +427,7 @@ fn nothing_is_overwritten_unasked() {
     let folder = common::folder("overwrite");
     let (grid, out) = (folder.join("sphere.grid"), folder.join("out"));
     std::fs::copy(sample("sphere.grid"), &grid).unwrap();
-    for command in ["look", "explain", "points", "volume", "page", "patch --set 0=9", "rewrite", "carve"] {
+    for command in ["look", "explain", "points", "volume", "page", "patch --set 0=9", "rewrite", "carve", "list"] {
         let words: Vec<&str> = command.split(' ').chain([path(&grid)]).collect();
         std::fs::write(&out, "mine").unwrap();
         one_line(&[&words[..], &["-o", path(&out)]].concat(), 2, "--force overwrites it");
@@ -453,6 +452,25 @@ fn nothing_is_overwritten_unasked() {
     assert!(!folder.join("points.ply").exists());
 }
 
+/// The ending of the output decides, and a word after -- is a file whatever it looks like.
+#[test]
+fn endings_and_dashes() {
+    let folder = common::folder("endings");
+    let grid = sample("torus-1.grid");
+    let written = |name: &str, more: &[&str]| {
+        let out = folder.join(name);
+        assert_eq!(status(&wattle(&[&["look", path(&grid), "-o", path(&out)], more].concat())), 0, "{name}");
+        std::fs::read(out).unwrap()
+    };
+    let (picture, layers) = (wattle(&["look", "--png", path(&grid)]).stdout, wattle(&["look", path(&grid)]).stdout);
+    assert!(written("a.png", &[]) == picture && written("a.PNG", &[]) == picture && written("a.gif", &["--png"]) == picture);
+    assert!(written("a.txt", &[]) == layers && written("layers", &[]) == layers);
+    std::fs::copy(&grid, folder.join("--png")).unwrap();
+    let mut command = Command::new(env!("CARGO_BIN_EXE_wattle"));
+    let output = command.args(["carve", "--large", "--", "--png"]).current_dir(&folder).output().unwrap();
+    assert_eq!((status(&output), output.stdout), (0, wattle(&["carve", path(&grid)]).stdout));
+}
+
 /// A reader that has seen enough is no failure; a full disk is one.
 #[test]
 fn the_standard_output_may_end_early() {
@@ -475,7 +493,7 @@ fn the_standard_output_may_end_early() {
 #[test]
 fn help_names_every_command_and_option() {
     let overview = text(&wattle(&["help"]).stdout);
-    for command in ["look", "explain", "points", "volume", "compare", "page", "patch", "rewrite", "carve"] {
+    for command in ["look", "explain", "list", "points", "volume", "compare", "page", "patch", "rewrite", "carve"] {
         assert!(overview.contains(&format!("  wattle {command} ")), "{overview}");
         let help = text(&wattle(&["help", command]).stdout);
         assert!(help.starts_with(&format!("wattle {command} ")), "{help}");
@@ -486,7 +504,13 @@ fn help_names_every_command_and_option() {
         let help = text(&wattle(&["help", command]).stdout);
         assert!(help.contains(&format!("\n  {option} ")), "{option} is not in {help}");
     }
+    for command in ["look", "explain", "list", "points", "volume", "page", "rewrite", "carve"] {
+        let help = text(&wattle(&["help", command]).stdout);
+        assert!(help.contains(" [--openings N] ") && help.contains("\n  --openings N    allow N openings"), "{help}");
+        assert!(help.lines().all(|line| line.chars().count() <= 140), "{help}");
+    }
     assert!(text(&wattle(&["--version"]).stdout).starts_with("wattle 0."));
+    assert_eq!(wattle(&["-V"]).stdout, wattle(&["--version"]).stdout);
 }
 
 /// A large grid full of holes takes long: its progress is shown on a terminal, which `script` makes, and nowhere else.

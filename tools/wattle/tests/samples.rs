@@ -86,7 +86,7 @@ fn explain_says_what_a_result_means() {
     let (sphere, torus, glass, refused) = (told("sphere.grid"), told("torus-1.grid"), told("wet-glass.grid"), told("refused.grid"));
     assert_eq!([sphere.0, torus.0, glass.0, refused.0], [0, 0, 0, 1]);
     assert!(sphere.1.contains("T is 0, so the body is closed") && sphere.1.contains("9 voxels were filled"), "{}", sphere.1);
-    assert!(torus.1.contains("(14)") && torus.1.contains("1 tunnel or more"), "{}", torus.1);
+    assert!(torus.1.contains("(14)") && torus.1.contains("with 1 tunnel, and nothing is left to open"), "{}", torus.1);
     assert!(glass.1.contains("missing in 9 filled voxels"), "{}", glass.1);
     assert!(
         glass.1.contains("- 4 missing range points count as inside, in 1 gap behind the face, closed in by voxels measured negative.\n"),

@@ -8,7 +8,7 @@ use std::ffi::OsStr;
 use std::io::Write;
 use std::path::{Path, PathBuf};
 use std::process::{Command, Output, Stdio};
-use wattlerugby::{read, Grid, Refusal, Sides, GONE, MISSING, NO_LIMIT};
+use wattlerugby::{patch, read, Grid, Refusal, Sides, GONE, MISSING, NO_LIMIT};
 
 pub fn root() -> PathBuf {
     Path::new(env!("CARGO_MANIFEST_DIR")).join("../..")
@@ -60,6 +60,19 @@ pub fn answer<I: AsRef<OsStr>>(words: &[I]) -> Vec<u8> {
 
 pub fn text(bytes: &[u8]) -> String {
     String::from_utf8(bytes.to_vec()).expect("text")
+}
+
+/// What a reader of tests/read_back.py prints, with the first python that has its library.
+pub fn python(reader: &str, file: &Path) -> Option<String> {
+    let script = Path::new(env!("CARGO_MANIFEST_DIR")).join("tests/read_back.py");
+    for python in ["python3", "/usr/bin/python3"] {
+        let Ok(output) = Command::new(python).arg(&script).args([reader, path(file)]).output() else { continue };
+        if output.status.code() != Some(3) {
+            assert!(output.status.success(), "{reader} on {}: {}", file.display(), text(&output.stderr));
+            return Some(text(&output.stdout));
+        }
+    }
+    None
 }
 
 /// Says what a test leaves out. Written past the test runner, which would swallow what a passing test prints.
@@ -122,6 +135,42 @@ impl Seed {
         self.0 = self.0.wrapping_mul(1_664_525).wrapping_add(1_013_904_223);
         (self.0 >> 8) as usize % bound
     }
+}
+
+/// Damage of one to three bytes, now and then with a part cut off or added.
+pub fn damaged(seed: &mut Seed) -> Vec<u8> {
+    let names = ["sphere.grid", "torus-1.grid", "wet-glass.grid"];
+    let mut file = std::fs::read(sample(names[seed.below(3)])).unwrap();
+    for _ in 0..seed.below(3) + 1 {
+        let records = 7 + (3 + 2 * file[2] as usize * file[3] as usize) * seed.below(9);
+        let at = [seed.below(7), (records + seed.below(3)).min(file.len() - 1), seed.below(file.len())][seed.below(3)];
+        file[at] = [seed.below(30) as u8, seed.below(256) as u8, file[at] ^ 1][seed.below(3)];
+    }
+    match seed.below(8) {
+        0 => file.truncate(seed.below(file.len())),
+        1 => file.push(0),
+        2 | 3 => file.extend(damaged_patches(seed)),
+        _ => {}
+    }
+    file
+}
+
+/// A few patches for grids of some 2,000 voxels; now and then one is for a larger grid, a byte is changed, or the last is cut off.
+fn damaged_patches(seed: &mut Seed) -> Vec<u8> {
+    let mut some = Vec::new();
+    for _ in 0..seed.below(4) + 1 {
+        let index = if seed.below(4) == 0 { seed.below(1 << 20) } else { seed.below(1700) };
+        some.extend(patch(index as u32, seed.below(200) as i16));
+    }
+    match seed.below(4) {
+        0 => some.truncate(seed.below(some.len())),
+        1 => {
+            let at = seed.below(some.len());
+            some[at] ^= 1 << seed.below(8);
+        }
+        _ => {}
+    }
+    some
 }
 
 // ---- what the library makes of a file
