@@ -39,6 +39,9 @@ pub fn samples() -> Vec<Sample> {
         Sample::new("refused", [12, 12, 12], 0, |x, y, z| tenths(sphere([3.5, 5.5, 5.5], x, y, z))),
         Sample::new("tunnel", [11, 11, 24], 1, noisy(9_000, tunnel_with_gap)),
         Sample::new("wall", [16, 11, 9], 0, wall_with_gaps),
+        Sample::new("ball", [9, 9, 9], 1, |x, y, z| tenths(ball(3.2, 4.0, x, y, z))),
+        Sample::new("hollow", [9, 9, 9], 5, |x, y, z| tenths(ball(3.4, 4.0, x, y, z).max(-ball(1.2, 4.0, x, y, z)))),
+        Sample::new("pieces", [15, 9, 9], 1, |x, y, z| tenths(ball(3.2, 4.0, x, y, z).min(ball(1.2, 11.0, x, y, z)))),
     ]
 }
 
@@ -64,6 +67,11 @@ fn length(parts: &[f64]) -> f64 {
 
 fn sphere([mx, my, mz]: [f64; 3], x: f64, y: f64, z: f64) -> f64 {
     length(&[x - mx, y - my, z - mz]) - 4.0
+}
+
+/// A ball about (middle, 4, 4).
+fn ball(radius: f64, middle: f64, x: f64, y: f64, z: f64) -> f64 {
+    length(&[x - middle, y - 4.0, z - 4.0]) - radius
 }
 
 /// A tube of radius 2 around a circle of radius 4.5.

@@ -117,12 +117,12 @@ impl Args {
             .ok_or_else(|| Failure::unusable(format!("the ending of {} is not known: {} writes {endings}", output.display(), self.command)))
     }
 
-    /// Refuses an output that is there already before any work is done, and one that is the grid file itself even with --force.
+    /// Refuses an output that is there already before any work is done, and one that is itself read even with --force.
     pub fn check_output(&self) -> Result<(), Failure> {
         let Some(output) = &self.output else { return Ok(()) };
         let same = |file: &PathBuf| matches!((file.canonicalize(), output.canonicalize()), (Ok(f), Ok(o)) if f == o);
         if self.files.iter().any(same) {
-            return Err(Failure::unusable(format!("{} is the grid file itself, and is not overwritten", output.display())));
+            return Err(Failure::unusable(format!("{} is the file that is read, and is not overwritten", output.display())));
         }
         if output.exists() && !self.has("--force") {
             return Err(Failure::unusable(format!("{} is there already; --force overwrites it", output.display())));

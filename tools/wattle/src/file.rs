@@ -59,13 +59,19 @@ impl Source {
     pub fn open(path: &Path) -> Result<Source, Failure> {
         let cannot = |e: std::io::Error| Failure::unusable(format!("{} cannot be read: {e}", path.display()));
         if path == Path::new("-") {
-            let bytes = bytes_that_decide(std::io::stdin()).map_err(cannot)?;
-            return Ok(Source { name: "the standard input".to_string(), bytes });
+            return Ok(Source::named(path, bytes_that_decide(std::io::stdin()).map_err(cannot)?));
         }
-        let bytes = std::fs::File::open(path).and_then(bytes_that_decide).map_err(cannot)?;
+        Ok(Source::named(path, std::fs::File::open(path).and_then(bytes_that_decide).map_err(cannot)?))
+    }
+
+    /// Bytes that were read from a path.
+    pub fn named(path: &Path, bytes: Vec<u8>) -> Source {
+        if path == Path::new("-") {
+            return Source { name: "the standard input".to_string(), bytes };
+        }
         let name = path.file_name().unwrap_or(path.as_os_str()).to_string_lossy();
         // a line feed in a name would break the headers that it goes into
-        Ok(Source { name: name.replace(char::is_control, "?"), bytes })
+        Source { name: name.replace(char::is_control, "?"), bytes }
     }
 
     /// The sides that the header names, 0 for those beyond the file's end.

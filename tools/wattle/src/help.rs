@@ -4,6 +4,7 @@
 #[derive(Clone, Copy, PartialEq, Eq)]
 pub enum Files {
     One,
+    OneOrNone,
     Two,
     Several,
 }
@@ -12,6 +13,7 @@ impl Files {
     pub fn fits(self, given: usize) -> bool {
         match self {
             Files::One => given == 1,
+            Files::OneOrNone => given <= 1,
             Files::Two => given == 2,
             Files::Several => given >= 1,
         }
@@ -22,6 +24,7 @@ impl std::fmt::Display for Files {
     fn fmt(&self, f: &mut std::fmt::Formatter<'_>) -> std::fmt::Result {
         f.write_str(match self {
             Files::One => "one file",
+            Files::OneOrNone => "one file or none",
             Files::Two => "two files",
             Files::Several => "one file or more",
         })
@@ -227,19 +230,56 @@ points to turn.
         ),
     },
     Command {
+        name: "make",
+        files: Files::OneOrNone,
+        options: &["--shape=", "--sides=", "--noise=", "--missing=", "--seed=", "--sparse", "--openings="],
+        help: concat!(
+            "wattle make FILE [--sides A,B,C] [--sparse] [--openings N] [-o OUT]
+wattle make --shape SHAPE [--sides A,B,C] [--noise N] [--missing N] [--seed N] [--openings N] [-o OUT]
+
+A grid file from samples or rows of your own, or of a simple shape. A FILE that begins with the letters NRRD is NRRD, any other CSV. What
+is wrong gets one line, and nothing is written. What carving makes of the grid is not asked: `wattle explain` says.
+
+  NRRD  three sizes of 3 to 64, whole numbers of 8 to 64 bits as samples, raw or ascii, right behind the header, as `wattle volume --nrrd`
+        writes them. -2147483648 is a missing range point, and of two bytes -32768 is. Where the samples lie in space is not kept: a grid
+        file does not say
+  CSV   a row x,y,z,value for each voxel, in any order; or columns under a line of names, with these four among them. x, y and z count
+        from 0. An empty value, or the word `missing`, is a missing range point. Empty lines and those that begin with # are passed over.
+        A voxel without a row is an error, and so is one with two
+
+  --sides A,B,C   the grid's sides; otherwise those of CSV just hold its rows, and a shape's are 24,24,24, of 12 to 64 voxels
+  --sparse        a voxel without a row in CSV is a missing range point
+  --shape SHAPE   sphere, torus, wall, or tunnel: a tube along z, open at both ends. It lies about the grid's middle, 1.5 voxels or more
+                  off its outermost ones. A value is the distance from the surface in tenths of a voxel, roots rounded down
+  --noise N       add to each value a number from -N to N, 0 to 1000, but not on the grid's edge
+  --missing N     so many range points in a hundred are missing, 0 to 100, but not on the grid's edge
+  --seed N        another number, 0 to 4294967295, gives other noise and other missing points; 1 unless given. The same words give the
+                  same file on every machine
+",
+            openings!(),
+            "                  Without it T is 0
+
+    wattle make --shape torus --noise 5 --seed 7 --openings 1 -o torus.grid
+"
+        ),
+    },
+    Command {
         name: "rewrite",
         files: Files::One,
-        options: &["--sort", "--openings="],
+        options: &["--sort", "--set=", "--openings="],
         help: concat!(
-            "wattle rewrite FILE [--sort] [--openings N] [-o OUT]
+            "wattle rewrite FILE [--sort] [--set VOXEL=VALUE ..] [--openings N] [-o OUT]
 
 The same grid as a file in its written form: layers in rising z and no patches; what patches correct goes into the layers. These have
-two bytes a value where every measured value lies in -32767 to 32767, otherwise four, all of them. Sides and values stay as they are, and
-T does unless --openings is given. A grid has one written form, so files of the same grid become the same bytes. What carving makes of the
-grid is not asked.
+two bytes a value where every measured value lies in -32767 to 32767, otherwise four, all of them. Sides stay as they are, and so do values
+and T unless --set and --openings are given. A grid has one written form, so files of the same grid become the same bytes. What carving
+makes of the grid is not asked.
 
   --sort          take a file with its layers in any order too, where each is there once: they are put in rising z before the file is
                   read. Up to version 0.4 such files were read as they are
+  --set VOXEL=VALUE
+                  give that voxel that value; it may be given many times, and of two values the later one stands. VOXEL is X,Y,Z or an
+                  index; VALUE is -1000000000 to 1000000000, negative inside the body, or `missing`. A patch takes less: two bytes
 ",
             openings!()
         ),
@@ -298,6 +338,7 @@ pub fn overview() -> String {
   wattle volume FILE     values, distances, status: VTK, NRRD
   wattle compare A B     which voxels differ
   wattle page FILE       a page to look at it in a browser, offline
+  wattle make FILE       a grid file from NRRD or CSV, or of a shape (--shape)
   wattle patch FILE      the file with single voxels corrected (--set)
   wattle rewrite FILE    the same grid in its written form: layers in rising z, no patches
   wattle carve FILE ..   the program's line, with an exit status
@@ -307,9 +348,9 @@ FILE may be -, the standard input; after --, every word is a file. With -o OUT t
 --force is given, and is never left half written; otherwise, or with -o -, it goes to the standard output. Sides may be 3 to 64 voxels.
 What takes long shows its progress on a terminal. Several files are shared out among the processor's cores.
 
-All but compare and patch take --openings N in place of the file's T, the number of openings allowed. All but compare, patch and rewrite
-take --pin VOXEL, which holds a voxel, and --hurry VOXEL, which has it examined before all others. VOXEL is X,Y,Z, an index, or @LIST, a
-file with one voxel a line.
+All but compare and patch take --openings N in place of the file's T, the number of openings allowed. All but compare, make, patch and
+rewrite take --pin VOXEL, which holds a voxel, and --hurry VOXEL, which has it examined before all others. VOXEL is X,Y,Z, an index, or
+@LIST, a file with one voxel a line.
 
 Exit status: 0 done; 1 the grid is refused (compare: the two differ); 2 usage, or a file cannot be read or written.
 ",

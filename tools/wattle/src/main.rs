@@ -1,5 +1,5 @@
-//! wattle: looks at grid files and at the bodies that carving leaves of them, and patches and rewrites grid files, for surveyors and for
-//! support.
+//! wattle: looks at grid files and at the bodies that carving leaves of them, and makes, patches and rewrites grid files, for surveyors and
+//! for support.
 //!
 //! Everything about carving comes from the proved library, by way of the wrapper; what is here reads files, words and draws.
 
@@ -18,6 +18,7 @@ mod help;
 mod json;
 mod list;
 mod look;
+mod make;
 mod many;
 mod marks;
 mod meaning;
@@ -99,6 +100,7 @@ fn run(words: &[std::ffi::OsString]) -> Result<Status, Failure> {
         "volume" => volume::volume(&args),
         "compare" => compare::compare(&args),
         "list" => list::list(&args),
+        "make" => make::make(&args),
         "page" => page::page(&args),
         "patch" => patch::patch(&args),
         "rewrite" => rewrite::rewrite(&args),

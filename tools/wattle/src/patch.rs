@@ -13,24 +13,26 @@ pub fn patch(args: &Args) -> Result<Answer, Failure> {
     let source = Source::open(&args.files[0])?;
     let mut file = source.bytes.clone();
     let scan = Scan::of(source)?;
-    for word in args.values("--set") {
-        let (voxel, value) = word.split_once('=').ok_or_else(|| unlike("VOXEL=VALUE", word))?;
-        file.extend(wattlerugby::patch(index(args, &scan, "--set", voxel)? as u32, number(value)?));
+    for (index, value) in sets(args, &scan, "a value from -32767 to 32767, or `missing`", number)? {
+        file.extend(wattlerugby::patch(index as u32, value));
     }
     Ok(Answer::file(file))
 }
 
-fn unlike(due: &str, word: &str) -> Failure {
-    Failure::unusable(format!("--set takes {due}, not {word}; see `wattle help patch`"))
+/// What a patch has two bytes for. The number -32768 is not taken: in two bytes it is the mark of a missing point, which has its own word.
+fn number(value: &str) -> Option<i16> {
+    match value {
+        "missing" => Some(NARROW_MISSING),
+        _ => value.parse().ok().filter(|&number| number != NARROW_MISSING),
+    }
 }
 
-/// What a patch has two bytes for. The number -32768 is not taken: in two bytes it is the mark of a missing point, which has its own word.
-fn number(value: &str) -> Result<i16, Failure> {
-    match value {
-        "missing" => Ok(NARROW_MISSING),
-        _ => {
-            let number = value.parse().ok().filter(|&number| number != NARROW_MISSING);
-            number.ok_or_else(|| unlike("a value from -32767 to 32767, or `missing`", value))
-        }
-    }
+/// The voxels that `--set` names, each with its value, in the order given. `due` says what a value can be.
+pub fn sets<V>(args: &Args, scan: &Scan, due: &str, number: impl Fn(&str) -> Option<V>) -> Result<Vec<(usize, V)>, Failure> {
+    let unlike = |due: &str, word: &str| Failure::unusable(format!("--set takes {due}, not {word}; see `wattle help {}`", args.command));
+    let set = |word: &str| {
+        let (voxel, value) = word.split_once('=').ok_or_else(|| unlike("VOXEL=VALUE", word))?;
+        Ok((index(args, scan, "--set", voxel)?, number(value).ok_or_else(|| unlike(due, value))?))
+    };
+    args.values("--set").map(set).collect()
 }

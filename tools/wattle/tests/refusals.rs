@@ -435,7 +435,7 @@ fn nothing_is_overwritten_unasked() {
         let done = wattle(&[&words[..], &["--force", "-o", path(&out)]].concat());
         assert_eq!((status(&done), done.stdout.len()), (0, 0));
         assert!(std::fs::read(&out).unwrap() == wattle(&words).stdout, "{command}");
-        one_line(&[&words[..], &["--force", "-o", path(&folder.join("./sphere.grid"))]].concat(), 2, "is the grid file itself");
+        one_line(&[&words[..], &["--force", "-o", path(&folder.join("./sphere.grid"))]].concat(), 2, "is the file that is read");
         assert_eq!(std::fs::read(&grid).unwrap(), sphere());
     }
     one_line(&["look", path(&grid), "-o", path(&folder.join("none/out"))], 2, "cannot be written");
@@ -493,18 +493,25 @@ fn the_standard_output_may_end_early() {
 #[test]
 fn help_names_every_command_and_option() {
     let overview = text(&wattle(&["help"]).stdout);
-    for command in ["look", "explain", "list", "points", "volume", "compare", "page", "patch", "rewrite", "carve"] {
+    for command in ["look", "explain", "list", "points", "volume", "compare", "page", "make", "patch", "rewrite", "carve"] {
         assert!(overview.contains(&format!("  wattle {command} ")), "{overview}");
         let help = text(&wattle(&["help", command]).stdout);
         assert!(help.starts_with(&format!("wattle {command} ")), "{help}");
         assert_eq!(help, text(&wattle(&[command, "--help"]).stdout));
     }
-    for (command, option) in [("look", "--layer"), ("points", "--xyz"), ("volume", "--field"), ("rewrite", "--sort"), ("carve", "--large")]
-    {
+    for (command, option) in [
+        ("look", "--layer"),
+        ("points", "--xyz"),
+        ("volume", "--field"),
+        ("rewrite", "--sort"),
+        ("rewrite", "--set"),
+        ("make", "--shape"),
+        ("carve", "--large"),
+    ] {
         let help = text(&wattle(&["help", command]).stdout);
         assert!(help.contains(&format!("\n  {option} ")), "{option} is not in {help}");
     }
-    for command in ["look", "explain", "list", "points", "volume", "page", "rewrite", "carve"] {
+    for command in ["look", "explain", "list", "points", "volume", "page", "make", "rewrite", "carve"] {
         let help = text(&wattle(&["help", command]).stdout);
         assert!(help.contains(" [--openings N] ") && help.contains("\n  --openings N    allow N openings"), "{help}");
         assert!(help.lines().all(|line| line.chars().count() <= 140), "{help}");

@@ -247,3 +247,53 @@ fn what_is_replaced_keeps_its_place() {
     // a pipe is written to, and stays a pipe
     assert!(answer(&["rewrite", path(&grid), "--force", "-o", "/dev/stdout"]) == std::fs::read(&grid).unwrap());
 }
+
+// ---- single voxels corrected
+
+/// `--set` takes what a patch has no bytes for, and the grid gets the width that its values then need.
+#[test]
+fn any_value_is_set() {
+    let (sides, file) = (Sides { a: 4, b: 3, c: 5 }, rising([4, 3, 5], 7));
+    let wide = common::wide_file([4, 3, 5], 7, &[0, 1, 2, 3, 4], |x, y, z| if (x, y, z) == (1, 1, 2) { 70_000 } else { x as i32 });
+    let set = |file: &[u8], sets: &[&str]| {
+        let words: Vec<&str> = ["rewrite", "-"].into_iter().chain(sets.iter().flat_map(|set| ["--set", set])).collect();
+        let output = wattle_on(&words, file);
+        assert_eq!((status(&output), text(&output.stderr).as_str()), (0, ""), "{sets:?}");
+        output.stdout
+    };
+    let due = |file: &[u8], sets: &[(usize, i32)]| {
+        let (.., mut values) = wattlerugby::read_values(file).unwrap();
+        sets.iter().for_each(|&(index, value)| values[index] = value);
+        written(sides, 7, &values).unwrap()
+    };
+    for file in [&file, &wide] {
+        assert_eq!(set(file, &["0=1000000000"]), due(file, &[(0, 1_000_000_000)]));
+        assert_eq!(set(file, &["3,2,4=-1000000000", "0=missing"]), due(file, &[(59, -1_000_000_000), (0, MISSING)]));
+        assert_eq!(set(file, &["5=-32768", "5=9", "1,1,0=8", "6=-40000"]), due(file, &[(5, 8), (6, -40_000)]));
+        // behind patches too, which it overrules
+        assert_eq!(set(&[&file[..], &patch(3, 1), &patch(4, 2)].concat(), &["3=77777"]), due(file, &[(3, 77_777), (4, 2)]));
+        // what two bytes hold a patch sets as well
+        let patched = wattle_on(&["patch", "-", "--set", "29=5"], file).stdout;
+        assert_eq!(set(file, &["29=5"]), wattle_on(&["rewrite", "-"], &patched).stdout);
+    }
+    assert_eq!(set(&wide, &["1,1,2=5"]).len(), 7 + 5 * 27, "narrow once no value needs more");
+    assert_eq!(wattle_on(&["rewrite", "--sort", "-", "--set", "0=3"], &reordered(&file, &[4, 3, 2, 1, 0])).stdout, due(&file, &[(0, 3)]));
+}
+
+#[test]
+fn wrong_corrections_get_one_line() {
+    let folder = folder("rewrite-set");
+    let out = folder.join("out.grid");
+    let one_line = |set: &str, due: &str| {
+        let output = wattle(&["rewrite", path(&sample("sphere.grid")), "--set", "0=1", "--set", set, "-o", path(&out)]);
+        assert_eq!((status(&output), text(&output.stderr)), (2, format!("wattle: {due}\n")), "{set}");
+        assert!(!out.exists());
+    };
+    one_line("5", "--set takes VOXEL=VALUE, not 5; see `wattle help rewrite`");
+    one_line("1,2=5", "--set takes a voxel as X,Y,Z or as an index, not 1,2; see `wattle help rewrite`");
+    one_line("12,0,0=5", "voxel 12,0,0 lies beyond the grid of 12 x 12 x 12 voxels, with indices 0 to 1727");
+    for value in ["", "1000000001", "-1000000001", "-2147483648", "1.5", "Missing", "99999999999"] {
+        let due = format!("--set takes a value from -1000000000 to 1000000000, or `missing`, not {value}; see `wattle help rewrite`");
+        one_line(&format!("0={value}"), &due);
+    }
+}

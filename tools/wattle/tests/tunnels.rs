@@ -215,7 +215,7 @@ fn openings_stand_in_for_the_files_own() {
 #[test]
 fn wrong_numbers_of_openings() {
     let grid = sample("sphere.grid");
-    for command in ["carve", "look", "explain", "points", "page", "volume", "rewrite", "list"] {
+    for command in ["carve", "look", "explain", "points", "page", "volume", "make", "rewrite", "list"] {
         for word in ["-1", "65536", "x", "", "1.5"] {
             let output = wattle(&[command, path(&grid), "--openings", word]);
             let line = format!("wattle: --openings takes a number from 0 to 65535, not {word}\n");
