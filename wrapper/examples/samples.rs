@@ -248,6 +248,7 @@ impl Carved {
     fn mark(&self, i: usize, value: i32) -> char {
         match (self.grid.status()[i], self.inside[i], value) {
             (GONE, ..) if self.opened.contains(&i) => '+',
+            (GONE, _, v) if v < 0 && v != MISSING => '-',
             (GONE, ..) => '.',
             (_, true, MISSING) => '=',
             (_, true, _) => '#',

@@ -9,7 +9,7 @@ use wattlerugby::{Grid, Opened, Refusal, GONE, MISSING, PINNED, UNMARKED};
 /// Examinations between two looks at the clock. Each call of carve checks the whole grid, so fewer would cost more.
 const SLICE: u32 = 200_000;
 
-/// What a voxel is in pictures. The first seven are of a carved grid, in the order of their numbers in `volume`; the others of one that is
+/// What a voxel is in pictures. The first eight are of a carved grid, in the order of their numbers in `volume`; the others of one that is
 /// refused for its values.
 #[derive(Clone, Copy, Debug, PartialEq, Eq)]
 #[repr(u8)]
@@ -23,6 +23,8 @@ pub enum Kind {
     Gap,
     /// Kept and not inside, by a pin or with one.
     Pinned,
+    /// Gone, and measured negative: discarded, since it is apart from the largest group.
+    Discarded,
     Outside,
     Negative,
     Missing,
@@ -31,7 +33,7 @@ pub enum Kind {
 
 impl Kind {
     /// Every kind, by its number.
-    pub const ALL: [Kind; 11] = [
+    pub const ALL: [Kind; 12] = [
         Kind::Gone,
         Kind::Inside,
         Kind::Filled,
@@ -39,14 +41,16 @@ impl Kind {
         Kind::Opened,
         Kind::Gap,
         Kind::Pinned,
+        Kind::Discarded,
         Kind::Outside,
         Kind::Negative,
         Kind::Missing,
         Kind::NegativeOnBorder,
     ];
     /// The kinds of a carved grid, of one with pins and of a refused one, in the order of the key.
-    pub const CARVED: [Kind; 6] = [Kind::Inside, Kind::Gap, Kind::Filled, Kind::FilledMissing, Kind::Opened, Kind::Gone];
-    pub const WITH_PINS: [Kind; 7] = [Kind::Inside, Kind::Gap, Kind::Pinned, Kind::Filled, Kind::FilledMissing, Kind::Opened, Kind::Gone];
+    pub const CARVED: [Kind; 7] = [Kind::Inside, Kind::Gap, Kind::Filled, Kind::FilledMissing, Kind::Opened, Kind::Discarded, Kind::Gone];
+    pub const WITH_PINS: [Kind; 8] =
+        [Kind::Inside, Kind::Gap, Kind::Pinned, Kind::Filled, Kind::FilledMissing, Kind::Opened, Kind::Discarded, Kind::Gone];
     pub const REFUSED: [Kind; 4] = [Kind::Negative, Kind::NegativeOnBorder, Kind::Missing, Kind::Outside];
 
     pub fn mark(self) -> char {
@@ -58,6 +62,7 @@ impl Kind {
             Kind::Filled => 'o',
             Kind::FilledMissing | Kind::Missing => '?',
             Kind::Opened => '+',
+            Kind::Discarded => '-',
             Kind::NegativeOnBorder => '!',
         }
     }
@@ -71,6 +76,7 @@ impl Kind {
             Kind::Filled => "filled",
             Kind::FilledMissing => "filled, and the range point is missing",
             Kind::Opened => "opened",
+            Kind::Discarded => "discarded: gone, though measured negative",
             Kind::Outside => "measured outside",
             Kind::Negative => "measured negative",
             Kind::Missing => "missing",
@@ -88,6 +94,7 @@ impl Kind {
             Kind::Filled => [0xE6, 0x9F, 0x00],
             Kind::FilledMissing | Kind::Missing => [0xCC, 0x79, 0xA7],
             Kind::Opened => [0x00, 0x9E, 0x73],
+            Kind::Discarded => [0xF0, 0xE4, 0x42],
             Kind::NegativeOnBorder => [0xD5, 0x5E, 0x00],
         }
     }
@@ -204,6 +211,7 @@ impl<'a> Body<'a> {
 
 fn kinds(scan: &Scan, grid: &Grid, inside: &[bool], openings: &[Opened]) -> Vec<Kind> {
     let kind = |i: usize| match (grid.status()[i], inside[i], scan.values[i]) {
+        (GONE, _, value) if is_negative(value) => Kind::Discarded,
         (GONE, ..) => Kind::Gone,
         (_, true, MISSING) => Kind::Gap,
         (_, true, _) => Kind::Inside,

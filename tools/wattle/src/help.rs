@@ -78,9 +78,9 @@ pub const COMMANDS: &[Command] = &[
     Command {
         name: "look",
         files: Files::One,
-        options: &["--png", "--layer=", "--scale=", "--openings=", "--pin=", "--hurry="],
+        options: &["--png", "--layer=", "--layers=", "--scale=", "--openings=", "--pin=", "--hurry="],
         help: concat!(
-            "wattle look FILE [--layer Z] [--png [--scale N]] [--openings N] [--pin VOXEL ..] [--hurry VOXEL ..] [-o OUT]
+            "wattle look FILE [--layer Z | --layers A-B] [--png [--scale N]] [--openings N] [--pin VOXEL ..] [--hurry VOXEL ..] [-o OUT]
 
 Shows what carving leaves of a grid, layer by layer, x to the right and y down, with a key and counts. Where the grid is refused
 for its values, these are shown in its place, with those that it is refused for marked.
@@ -88,13 +88,16 @@ for its values, these are shown in its place, with those that it is refused for 
   #  inside                  blue         o  filled: kept, but not inside             orange
   =  gap counted as inside   light blue   ?  filled, and the range point is missing   pink
   .  gone                    grey         +  opened                                   green
-                                          *  pinned: kept, but not inside             black
+  -  discarded: gone, though measured     *  pinned: kept, but not inside             black
+     negative                yellow
 
 A gap counted as inside is a group of missing range points joined by faces, off the grid's edge, and every other voxel that shares a
 face with it is measured negative: no shot reaches the middle of a thick wall.
 
   --layer Z       that layer alone
-  --png           a picture in place of text; an OUT that ends in .png is one too, one that ends in .txt is text
+  --layers A-B    those from A to B
+  --png           a picture in place of text, with the title, the line and a key of what occurs; an OUT that ends in .png is
+                  one too, one that ends in .txt is text
   --scale N       pixels along a voxel in the picture, 1 to 32; chosen by the grid's size otherwise
 ",
             openings!(),
@@ -191,7 +194,7 @@ The carved grid as a volume, for ParaView, 3D Slicer and others, a voxel a sampl
                   distances   worked distances, negative in the body: its surface is the level 0
                   status      0 gone, 1 kept
                   kinds       0 gone, 1 inside, 2 filled, 3 filled over a missing range point, 4 opened, 5 gap counted as inside,
-                              6 pinned: kept, but not inside
+                              6 pinned: kept, but not inside, 7 discarded: gone, though measured negative
 ",
             place!(),
             openings!(),
@@ -221,7 +224,9 @@ the same, 1 where they differ, 2 where a file cannot be read as a grid.
             "wattle page FILE [--voxel SIZE] [--origin X,Y,Z] [--openings N] [--pin VOXEL ..] [--hurry VOXEL ..] [-o OUT]
 
 One HTML page that opens in any browser without a network: what `wattle explain` says, layers to scroll through, and the surface's
-points to turn.
+points to turn, with a key of their own; the openings, in the picture and as a list that leads to each. Where openings allowed freely make
+another body, a switch shows that one. Hand and keyboard reach everything; it is dark where the reader's screen is, has letters in the
+squares for grey print, and without scripts the layers as a picture.
 
 ",
             place!(),

@@ -5,6 +5,7 @@ use crate::body::{kinds_of_values, Body, Kind};
 use crate::file::Scan;
 use crate::marks::{marks, told};
 use crate::{picture, Answer, Failure, Status};
+use std::ops::RangeInclusive;
 use wattlerugby::Refusal;
 
 /// Columns of text that the layers beside each other may take.
@@ -24,24 +25,28 @@ pub struct View<'a> {
 }
 
 impl<'a> View<'a> {
-    pub fn new(scan: &'a Scan, body: &Result<Body, Refusal>) -> View<'a> {
+    pub fn new(scan: &'a Scan, body: &Result<Body<'a>, Refusal>) -> View<'a> {
         match body {
-            Ok(body) => {
-                let key: &[Kind] = if body.count(Kind::Pinned) > 0 { &Kind::WITH_PINS } else { &Kind::CARVED };
-                let (kinds, marked) = (body.kinds.clone(), told(body.grid.marks()));
-                View { scan, kinds, key, marked, line: body.line(), status: Status::Done }
-            }
-            Err(refused) => {
-                let (kinds, line) = (kinds_of_values(scan), refused.to_string());
-                View { scan, kinds, key: &Kind::REFUSED, marked: String::new(), line, status: Status::Refused }
-            }
+            Ok(body) => View::of(body),
+            Err(refused) => View::refused(scan, *refused),
         }
     }
 
-    /// The layers with their z: all of them, or one.
-    pub fn layers(&self, only: Option<usize>) -> Vec<(usize, &[Kind])> {
+    pub fn of(body: &Body<'a>) -> View<'a> {
+        let key: &[Kind] = if body.count(Kind::Pinned) > 0 { &Kind::WITH_PINS } else { &Kind::CARVED };
+        let (kinds, marked) = (body.kinds.clone(), told(body.grid.marks()));
+        View { scan: body.scan, kinds, key, marked, line: body.line(), status: Status::Done }
+    }
+
+    pub fn refused(scan: &'a Scan, refused: Refusal) -> View<'a> {
+        let (kinds, line) = (kinds_of_values(scan), refused.to_string());
+        View { scan, kinds, key: &Kind::REFUSED, marked: String::new(), line, status: Status::Refused }
+    }
+
+    /// Layers with their z.
+    pub fn layers(&self, shown: RangeInclusive<usize>) -> Vec<(usize, &[Kind])> {
         let all = self.kinds.chunks(self.scan.sides.a * self.scan.sides.b).enumerate();
-        all.filter(|(z, _)| only.is_none_or(|o| o == *z)).collect()
+        all.filter(|(z, _)| shown.contains(z)).collect()
     }
 
     pub fn title(&self) -> String {
@@ -61,26 +66,40 @@ impl<'a> View<'a> {
 pub fn look(args: &Args) -> Result<Answer, Failure> {
     let format = args.format(["--txt", "--png"])?;
     let scan = Scan::open(&args.files[0])?.allowing(args)?;
-    let only = args.number("--layer", 0, scan.sides.c - 1)?;
+    let shown = shown(args, scan.sides.c - 1)?;
     let scale = args.number("--scale", 1, 32)?;
     let body = Body::carve_marked(&scan, &marks(args, &scan)?);
     body.iter().for_each(Body::note);
     let view = View::new(&scan, &body);
     if format == "--png" {
-        let bytes = picture::png(&view, only, scale);
+        let bytes = picture::png(&view, shown, scale);
         return Ok(Answer { bytes, binary: true, status: view.status });
     }
-    let text = format!("{}\n{}\n\n{}\n{}", view.title(), view.line, view.key_with_counts(), layers_as_text(&view, only));
+    let text = format!("{}\n{}\n\n{}\n{}", view.title(), view.line, view.key_with_counts(), layers_as_text(&view, shown));
     Ok(Answer::text(text, view.status))
 }
 
+/// The layers that `--layer` or `--layers` names, otherwise all.
+fn shown(args: &Args, last: usize) -> Result<RangeInclusive<usize>, Failure> {
+    match (args.number("--layer", 0, last)?, args.value("--layers")) {
+        (Some(_), Some(_)) => Err(Failure::unusable("--layer and --layers are given; choose one")),
+        (Some(only), None) => Ok(only..=only),
+        (None, None) => Ok(0..=last),
+        (None, Some(word)) => {
+            let ends = word.split_once('-').and_then(|(a, b)| Some((a.parse().ok()?, b.parse().ok()?)));
+            let wrong = || Failure::unusable(format!("--layers takes A-B, two layers from 0 to {last} with A not above B, not {word}"));
+            ends.filter(|(a, b)| a <= b && *b <= last).map(|(a, b)| a..=b).ok_or_else(wrong)
+        }
+    }
+}
+
 /// The layers, as many beside each other as there is room for.
-fn layers_as_text(view: &View, only: Option<usize>) -> String {
+fn layers_as_text(view: &View, shown: RangeInclusive<usize>) -> String {
     let (a, b) = (view.scan.sides.a, view.scan.sides.b);
     let width = a.max("z = 63".len());
     let line = |words: Vec<String>| format!("\n{}", words.join("  ").trim_end());
     let mut text = String::new();
-    for together in view.layers(only).chunks((COLUMNS / (width + 2)).max(1)) {
+    for together in view.layers(shown).chunks((COLUMNS / (width + 2)).max(1)) {
         text += &line(together.iter().map(|(z, _)| format!("{:width$}", format!("z = {z}"))).collect());
         for y in 0..b {
             let row = |layer: &[Kind]| layer[a * y..a * (y + 1)].iter().map(|k| k.mark()).collect::<String>();

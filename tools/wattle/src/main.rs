@@ -11,6 +11,7 @@ mod compare;
 mod deflate;
 mod explain;
 mod file;
+mod font;
 mod frame;
 mod gaps;
 mod groups;

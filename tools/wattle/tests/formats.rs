@@ -8,14 +8,20 @@ use std::process::Command;
 use wattlerugby::{Sides, GREATEST_VALUE, LEAST_VALUE, MISSING};
 
 /// The samples that are carved, with what the library makes of them, a large flat grid with missing points and openings, one with values up to
-/// the ends of their range, and noise with many gaps.
+/// the ends of their range, one with discarded voxels, and noise with many gaps.
 fn bodies(folder: &Path) -> Vec<(PathBuf, Carved)> {
     let mut files: Vec<PathBuf> = samples();
-    files.extend([flat(folder), far(folder), noise(folder)]);
+    files.extend([flat(folder), far(folder), apart(folder), noise(folder)]);
     let carved = |file: PathBuf| carved(&std::fs::read(&file).unwrap()).ok().map(|body| (file, body));
     let bodies: Vec<(PathBuf, Carved)> = files.into_iter().filter_map(carved).collect();
     assert!((0..6).all(|kind| bodies.last().is_some_and(|(_, body)| body.count(kind) > 0)), "the noise has voxels of every kind");
     bodies
+}
+
+fn apart(folder: &Path) -> PathBuf {
+    let name = folder.join("apart.grid");
+    std::fs::write(&name, common::apart()).unwrap();
+    name
 }
 
 /// 12 x 11 x 10 voxels of noise: off the border three in four are negative, and many missing.
@@ -98,7 +104,7 @@ fn png_has_every_voxel_in_its_colour() {
     for (file, body) in bodies(&common::folder("png-layers")) {
         for (z, layer) in body.kinds.chunks(body.sides.a * body.sides.b).enumerate() {
             let words = ["look", "--png", "--scale", "1", "--layer", &z.to_string(), path(&file)].map(str::to_string);
-            let picture = common::png::parse(&answer(&words));
+            let [_, picture] = common::png::parse(&answer(&words)).halves();
             let due: Vec<[u8; 3]> = layer.iter().map(|&kind| COLOURS[kind as usize]).collect();
             assert!(layer_in(&picture, body.sides) == due, "layer {z} of {}", file.display());
             let drawn: usize = COLOURS.iter().map(|&c| picture.count(c)).sum();
@@ -116,8 +122,9 @@ fn png_of_all_layers_read_by_others() {
         let picture = common::png::parse(&std::fs::read(&name).unwrap());
         assert_eq!(picture.chunks, ["IHDR", "PLTE", "tEXt", "IDAT", "IEND"]);
         let dot = if body.sides.a > 32 { 3 } else { 7 };
+        let [_, layers] = picture.halves();
         for (kind, &colour) in COLOURS.iter().enumerate() {
-            assert_eq!(picture.count(colour), dot * dot * body.count(kind as u8), "kind {kind} in {}", file.display());
+            assert_eq!(layers.count(colour), dot * dot * body.count(kind as u8), "kind {kind} in {}", file.display());
         }
         let read = python("png_by_pil", &name);
         if let Some(read) = &read {
@@ -135,8 +142,68 @@ fn png_of_all_layers_read_by_others() {
 fn png_of_a_refused_grid() {
     let output = common::wattle(&["look", "--png", path(&common::sample("refused.grid"))]);
     let picture = common::png::parse(&output.stdout);
-    let counts = [[0xD5, 0x5E, 0], COLOURS[1], COLOURS[0]].map(|colour| picture.count(colour));
+    let [words, layers] = picture.halves();
+    assert!(read_letters(&words).ends_with(" negative on the grid's edge: 12 measured outside: 1448"), "{}", read_letters(&words));
+    let counts = [[0xD5, 0x5E, 0], COLOURS[1], COLOURS[0]].map(|colour| layers.count(colour));
     assert_eq!((common::status(&output), counts), (1, [12, 268, 1448].map(|voxels| 49 * voxels)));
+}
+
+/// The letters that pictures are written with.
+#[path = "../src/font.rs"]
+mod font;
+
+/// The words above a picture's layers, with one space between any two. What is in colours is no letter.
+fn read_letters(words: &common::png::Picture) -> String {
+    let dot = if words.width >= 600 { 2 } else { 1 };
+    let is_ink = |x: usize, y: usize| x < words.width && words.at(x, y) == [0x33; 3];
+    let seen = |left: usize, top: usize| {
+        let cell = (0..5).flat_map(|x| (0..font::HEIGHT).map(move |y| (x, y)));
+        cell.filter(|(x, y)| is_ink(left + dot * x, top + dot * y)).collect::<Vec<_>>()
+    };
+    let letter = |dots: Vec<(usize, usize)>| (' '..='~').find(|l| font::dots(&l.to_string()).eq(dots.iter().copied())).expect("a letter");
+    let (across, down) = (dot * font::ADVANCE, dot * (font::HEIGHT + 3));
+    let mut text = String::new();
+    for top in (0..(words.height - 12) / down).map(|line| 12 + down * line) {
+        text.extend((0..(words.width - 24) / across).map(|column| letter(seen(12 + across * column, top))));
+        text.push(' ');
+    }
+    text.split_whitespace().collect::<Vec<_>>().join(" ")
+}
+
+/// Title, line and key as `look` has them in text, with a square in its colour for each kind that occurs; in small pictures too.
+#[test]
+fn png_has_title_line_and_key() {
+    for (file, body) in bodies(&common::folder("png-words")) {
+        let shown = text(&answer(&["look", path(&file)]));
+        let [title, line] = [0, 1].map(|i| shown.lines().nth(i).unwrap());
+        for more in [&["--png"][..], &["--png", "--layer", "1", "--scale", "1"]] {
+            let picture = common::png::parse(&answer(&[&["look", path(&file)], more].concat()));
+            let ([words, _], dot) = (picture.halves(), if picture.width >= 600 { 2 } else { 1 });
+            let read = read_letters(&words);
+            assert!(read.starts_with(&format!("{title} {line} ")), "{read}");
+            for (kind, _, name) in common::NAMES {
+                let count = body.count(kind);
+                assert_eq!(read.contains(&format!(" {name}: {count}")), count > 0, "{name} in {read}");
+                assert_eq!(words.count(COLOURS[kind as usize]), usize::from(count > 0) * 49 * dot * dot, "{name}");
+            }
+        }
+    }
+}
+
+/// A name longer than the picture is wide is broken, and one of other letters is written as far as it can be.
+#[test]
+fn png_of_odd_names() {
+    let folder = common::folder("png-names");
+    for (name, due) in
+        [(format!("{}.grid", "long-".repeat(40)), format!("{}.grid:", "long-".repeat(40))), ("\u{fc}ber.grid".into(), "?ber.grid:".into())]
+    {
+        let file = folder.join(name);
+        std::fs::copy(common::sample("sphere.grid"), &file).unwrap();
+        let [words, _] = common::png::parse(&answer(&["look", "--png", path(&file)])).halves();
+        let read = read_letters(&words);
+        // a broken name has a space at each break
+        assert!(read.replace(' ', "").starts_with(&format!("{due}12x12x12,T=0openingsallowedkept296")), "{read}");
+    }
 }
 
 // ---- points

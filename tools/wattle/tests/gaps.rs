@@ -124,9 +124,9 @@ fn every_command_shows_it() {
     });
     let said = |words: &[&str]| text(&wattle(words).stdout);
     let look = said(&["look", "--layer", "3", path(&gap)]);
-    assert!(look.contains("   = gap counted as inside: 1   ") && look.contains("\n.##=##........\n"), "{look}");
-    assert!(said(&["look", "--layer", "3", path(&measured)]).contains("\n.#####........\n"));
-    assert!(said(&["look", "--layer", "3", path(&open)]).contains("\n.#o?##........\n"));
+    assert!(look.contains("   = gap counted as inside: 1   ") && look.contains("\n.##=##...---..\n"), "{look}");
+    assert!(said(&["look", "--layer", "3", path(&measured)]).contains("\n.#####...---..\n"));
+    assert!(said(&["look", "--layer", "3", path(&open)]).contains("\n.#o?##...---..\n"));
     let volume = |file| wattle(&["volume", "--nrrd", "--field", "kinds", path(file)]).stdout;
     let kind = |file| volume(file)[volume(file).len() - 14 * 7 * 7 + index(MIDDLE)];
     assert_eq!([kind(&gap), kind(&measured), kind(&open)], [5, 1, 3]);

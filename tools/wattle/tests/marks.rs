@@ -99,7 +99,7 @@ fn every_command_shows_it() {
     let plain = said(&["look", "-"], &file);
     assert!(plain.starts_with("the standard input: 5 x 5 x 3, T = 2 openings allowed\n") && !plain.contains("pinned"), "{plain}");
 
-    let picture = common::png::parse(&wattle_on(&["look", "--png", "-", "--pin", "37"], &file).stdout);
+    let [_, picture] = common::png::parse(&wattle_on(&["look", "--png", "-", "--pin", "37"], &file).stdout).halves();
     assert_eq!(picture.count([0, 0, 0]), 7 * 7, "one voxel of 8 pixels, with a line between");
     assert!(picture.description.contains("#000000 pinned"), "{}", picture.description);
     assert_eq!(common::png::parse(&wattle_on(&["look", "--png", "-"], &file).stdout).count([0, 0, 0]), 0);
@@ -114,8 +114,12 @@ fn every_command_shows_it() {
 
     let page = said(&["page", "-", "--pin", "37"], &file);
     assert!(page.contains("<title>the standard input: 5 x 5 x 3, T = 2 openings allowed, 1 pinned</title>"), "{}", &page[..400]);
-    assert!(page.contains("background: #000000\"></span>pinned: 1</li>") && page.contains("<li>1 voxel was pinned: "));
-    assert!(!said(&["page", "-"], &file).contains("</span>pinned"));
+    assert!(
+        page.contains("--k6: #000000;")
+            && page.contains("var(--k6)\"></span><code>*</code> pinned: 1</li>")
+            && page.contains("<li>1 voxel was pinned: ")
+    );
+    assert!(!said(&["page", "-"], &file).contains("</code> pinned"));
 }
 
 #[test]

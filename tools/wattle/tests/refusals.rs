@@ -401,6 +401,10 @@ fn wrong_words_get_one_line() {
     one_line(&["look", good, "--ply"], 2, "look has no option --ply");
     one_line(&["look", good, "--layer"], 2, "--layer needs a word");
     one_line(&["look", good, "--layer", "12"], 2, "--layer takes a number from 0 to 11, not 12");
+    for word in ["12-12", "3-2", "4", "-4", "1-2-3", "a-b", ""] {
+        one_line(&["look", good, "--layers", word], 2, "--layers takes A-B, two layers from 0 to 11 with A not above B");
+    }
+    one_line(&["look", good, "--layers", "1-2", "--layer", "1"], 2, "--layer and --layers are given; choose one");
     one_line(&["look", good, "--png", "--scale", "x"], 2, "--scale takes a number from 1 to 32, not x");
     one_line(&["points", good, "--ply", "--xyz"], 2, "choose one");
     one_line(&["carve"], 2, "carve takes one file or more, not 0");
@@ -501,6 +505,7 @@ fn help_names_every_command_and_option() {
     }
     for (command, option) in [
         ("look", "--layer"),
+        ("look", "--layers"),
         ("points", "--xyz"),
         ("volume", "--field"),
         ("rewrite", "--sort"),

@@ -35,15 +35,21 @@ fn look_counts() {
     for grid in samples() {
         let Ok(body) = carved(&std::fs::read(&grid).unwrap()) else { continue };
         let shown = text(&answer(&["look", path(&grid)]));
-        let names = [". gone", "# inside", "o filled", "? filled, and the range point is missing", "+ opened", "= gap counted as inside"];
-        for (kind, name) in names.iter().enumerate() {
-            let entry = format!("{name}: {}", body.count(kind as u8));
+        for (kind, mark, name) in common::NAMES {
+            let entry = format!("{mark} {name}: {}", body.count(kind));
             let key = shown.lines().nth(3).unwrap();
             assert!(key.split("   ").any(|e| e == entry), "{entry} is not in {key}");
         }
     }
     let shown = text(&wattle(&["look", path(&common::sample("refused.grid"))]).stdout);
     assert!(shown.contains("! negative on the grid's edge: 12   "), "{shown}");
+}
+
+#[test]
+fn look_shows_what_is_discarded() {
+    let shown = text(&common::wattle_on(&["look", "-", "--layer", "7"], &common::apart()).stdout);
+    assert!(shown.contains("   - discarded: gone, though measured negative: 2   . gone: 863\n"), "{shown}");
+    assert!(shown.ends_with("\n...........\n........--.\n...........\n"), "{shown}");
 }
 
 #[test]
@@ -56,6 +62,22 @@ fn look_at_one_layer() {
     assert_eq!(rows.len(), 16);
     assert!(rows.iter().all(|row| all.contains(row)));
     assert_eq!(rows[7], "..####.+..####..");
+}
+
+#[test]
+fn look_at_some_layers() {
+    for grid in samples() {
+        let look = |more: &[&str]| wattle(&[&["look", path(&grid)], more].concat()).stdout;
+        let some = text(&look(&["--layers", "3-5"]));
+        let titles: Vec<&str> = some.split_whitespace().zip(some.split_whitespace().skip(2)).filter(|w| w.0 == "z").map(|w| w.1).collect();
+        assert_eq!(titles, ["3", "4", "5"], "{}", grid.display());
+        assert_eq!(look(&["--layers", "4-4"]), look(&["--layer", "4"]));
+        let last = text(&look(&[])).matches("z = ").count() - 1;
+        assert!(
+            look(&["--png", "--layers", &format!("0-{last}")]) == look(&["--png"])
+                && look(&["--png", "--layers", "0-1"]) != look(&["--png"])
+        );
+    }
 }
 
 /// The program's lines are those of samples/NAME.txt; where the program is there, it prints them.
@@ -157,7 +179,8 @@ fn the_pinned_torus_is_what_look_draws() {
 #[test]
 fn a_picture_tells_its_colours() {
     let picture = common::png::parse(&answer(&["look", "--png", path(&common::sample("wet-glass.grid"))]));
-    for [r, g, b] in COLOURS {
+    for (kind, ..) in common::NAMES {
+        let [r, g, b] = COLOURS[kind as usize];
         let colour = format!("#{r:02x}{g:02x}{b:02x} ");
         assert!(picture.description.contains(&colour), "{colour} is not in {}", picture.description);
     }

@@ -182,6 +182,12 @@ fn with_t(file: &[u8], allowed: u16) -> Vec<u8> {
     [&file[..5], &allowed.to_le_bytes(), &file[7..]].concat()
 }
 
+/// A page without the picture in it, in which the title is drawn.
+fn without_picture(text: &str) -> String {
+    let parts = text.split_once("base64,").and_then(|(before, after)| Some((before, after.split_once('"')?.1)));
+    parts.map_or(text.to_string(), |(before, after)| format!("{before}{after}"))
+}
+
 #[test]
 fn openings_stand_in_for_the_files_own() {
     for grid in samples() {
@@ -196,7 +202,7 @@ fn openings_stand_in_for_the_files_own() {
                 assert_eq!(status(&given), status(&due), "{command} {allowed} {}", grid.display());
                 // titles say what the file has, where that is another number
                 let note = if allowed == in_file { String::new() } else { format!(" ({in_file} in the file)") };
-                let plain = |bytes: &[u8]| String::from_utf8_lossy(bytes).replace(&format!(" allowed{note}"), " allowed");
+                let plain = |bytes: &[u8]| without_picture(&String::from_utf8_lossy(bytes)).replace(&format!(" allowed{note}"), " allowed");
                 assert!(plain(&given.stdout) == plain(&due.stdout), "{command} {allowed} {}", grid.display());
             }
         }

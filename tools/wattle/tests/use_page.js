@@ -23,14 +23,14 @@ function seenCloud() {
   return [sum, drawn];
 }
 
-function allLayers() {
+function allLayers(body) {
   for (const [name, wide, high] of [["2", 0, 1], ["1", 0, 2], ["0", 1, 2]]) {
     axis.value = name;
     axis.dispatchEvent(new Event("change"));
     for (let i = 0; i < sides[Number(name)]; i++) {
       slider.value = i;
       slider.dispatchEvent(new Event("input"));
-      say("layer " + name + " " + i, seenLayer(sides[wide], sides[high]));
+      say(body + "layer " + name + " " + i, seenLayer(sides[wide], sides[high]));
     }
   }
   axis.value = "2";
@@ -41,7 +41,62 @@ function pointAt(x, y) {
   const { cell, left, top } = layout(), box = layer.getBoundingClientRect(), ratio = box.width / layer.width;
   const at = (low, n) => (low + (n + 0.5) * cell) * ratio;
   layer.dispatchEvent(new PointerEvent("pointermove", { clientX: box.left + at(left, x), clientY: box.top + at(top, y) }));
-  say("voxel", element("voxel").textContent);
+  say("voxel", voxelLine());
+}
+
+const key = (canvas, name) => canvas.dispatchEvent(new KeyboardEvent("keydown", { key: name, cancelable: true }));
+const voxelLine = () => element("voxel").textContent;
+
+// the line goes with the layer and the pointer, and without a pointer says the voxel that is held
+function voxels() {
+  element("axis").value = "2";
+  chooseAxis();
+  slider.value = 4;
+  slider.dispatchEvent(new Event("input"));
+  say("no voxel", voxelLine());
+  pointAt(7, 2);
+  layer.dispatchEvent(new WheelEvent("wheel", { deltaY: 5, cancelable: true }));
+  say("voxel below", voxelLine());
+  layer.dispatchEvent(new PointerEvent("pointerleave"));
+  say("voxel left", voxelLine());
+  ["ArrowLeft", "ArrowLeft", "ArrowUp", "PageUp", "x"].forEach((name) => key(layer, name));
+  say("voxel by key", voxelLine());
+  "x".repeat(99).split("").forEach(() => key(layer, "ArrowRight"));
+  say("voxel at the edge", voxelLine());
+}
+
+// every opening in the list that is shown, by choosing it, with the layer that it leads to
+function openings(name) {
+  const list = [...document.querySelectorAll(".openings")].find((l) => l.offsetParent);
+  const choose = ({ value }) => { list.value = value; list.dispatchEvent(new Event("change")); return voxelLine() + " in " + element("which").textContent; };
+  say(name, list ? [...list.options].map(choose).join("; ") : "");
+}
+
+// the words, the layers and the openings of the other body
+function freely() {
+  const choice = element("body");
+  openings("openings");
+  if (!choice) return;
+  choice.value = "1";
+  choice.dispatchEvent(new Event("change"));
+  say("free line", [...document.querySelectorAll(".line")].filter((l) => l.offsetParent).map((l) => l.textContent).join(", "));
+  allLayers("free ");
+  openings("free openings");
+}
+
+function lettered() {
+  const seen = () => layer.toDataURL(), before = seen();
+  letters.checked = true;
+  letters.dispatchEvent(new Event("change"));
+  const with_letters = seen();
+  letters.checked = false;
+  letters.dispatchEvent(new Event("change"));
+  say("letters", [before !== with_letters, before === seen()].join(" "));
+}
+
+function zoomed() {
+  const seen = ["+", "+", "-", "0"].map((name) => { key(cloud, name); return nearness; });
+  say("zoomed", seen.map((n) => n.toFixed(2)).join(" "));
 }
 
 const finger = (name, id, x, y) => cloud.dispatchEvent(new PointerEvent(name, { pointerId: id, clientX: x, clientY: y }));
@@ -76,9 +131,13 @@ const steps = [
   () => { say("cloud by key", seenCloud()); say("hand", handedness()); cloud.dispatchEvent(new Event("dblclick")); },
   () => say("cloud again", seenCloud()),
   () => { const z = slider.value; layer.dispatchEvent(new WheelEvent("wheel", { deltaY: 5, cancelable: true })); say("scrolled", slider.value - z); },
-  () => { axis.value = "2"; axis.dispatchEvent(new Event("change")); slider.value = 4; slider.dispatchEvent(new Event("input")); pointAt(7, 2); },
+  voxels,
+  lettered,
+  zoomed,
   () => { say("wide", document.documentElement.scrollWidth <= innerWidth); say("surface", !element("surface").hidden); },
-  allLayers,
+  () => say("dark", matchMedia("(prefers-color-scheme: dark)").matches),
+  () => allLayers(""),
+  freely,
 ];
 
 function next() {

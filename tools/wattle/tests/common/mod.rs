@@ -119,6 +119,15 @@ pub fn wide_file(sides: [usize; 3], allowed: u16, wide: &[usize], value: impl Fn
     bytes
 }
 
+/// 11 x 10 x 9 voxels: a cube, and apart from it two negative voxels, which are discarded.
+pub fn apart() -> Vec<u8> {
+    grid_file([11, 10, 9], 0, |x, y, z| match (x, y, z) {
+        (2..=6, 2..=6, 2..=6) => -5,
+        (8 | 9, 8, 7) => -3,
+        _ => 8,
+    })
+}
+
 /// Ten times the distance from a sphere about the grid's middle, rounded.
 pub fn sphere(sides: [usize; 3], radius: f64) -> impl Fn(usize, usize, usize) -> i16 {
     move |x, y, z| {
@@ -182,6 +191,8 @@ pub struct Carved {
     pub grid: Grid,
     pub inside: Vec<bool>,
     pub kinds: Vec<u8>,
+    /// The openings in their order.
+    pub opened: Vec<usize>,
 }
 
 pub fn carved(file: &[u8]) -> Result<Carved, Refusal> {
@@ -197,12 +208,13 @@ pub fn carved(file: &[u8]) -> Result<Carved, Refusal> {
     }
     grid.finish()?;
     let kind = |i: usize| match (grid.status()[i] != GONE, inside[i]) {
-        (false, _) => u8::from(opened.contains(&i)) * 4,
+        (false, _) if opened.contains(&i) => 4,
+        (false, _) => u8::from(values[i] < 0 && values[i] != MISSING) * 7,
         (true, true) => 1 + u8::from(values[i] == MISSING) * 4,
         (true, false) => 2 + u8::from(values[i] == MISSING),
     };
     let kinds = (0..values.len()).map(kind).collect();
-    Ok(Carved { sides, values, grid, inside, kinds })
+    Ok(Carved { sides, values, grid, inside, kinds, opened })
 }
 
 impl Carved {
@@ -236,6 +248,25 @@ impl Carved {
     }
 }
 
-/// The colours of kinds 0 to 5.
-pub const COLOURS: [[u8; 3]; 6] =
-    [[0xE8, 0xEA, 0xED], [0, 0x72, 0xB2], [0xE6, 0x9F, 0], [0xCC, 0x79, 0xA7], [0, 0x9E, 0x73], [0x56, 0xB4, 0xE9]];
+/// The colours of kinds 0 to 7.
+pub const COLOURS: [[u8; 3]; 8] = [
+    [0xE8, 0xEA, 0xED],
+    [0, 0x72, 0xB2],
+    [0xE6, 0x9F, 0],
+    [0xCC, 0x79, 0xA7],
+    [0, 0x9E, 0x73],
+    [0x56, 0xB4, 0xE9],
+    [0, 0, 0],
+    [0xF0, 0xE4, 0x42],
+];
+
+/// The names of the kinds in keys, but for what is pinned.
+pub const NAMES: [(u8, char, &str); 7] = [
+    (0, '.', "gone"),
+    (1, '#', "inside"),
+    (2, 'o', "filled"),
+    (3, '?', "filled, and the range point is missing"),
+    (4, '+', "opened"),
+    (5, '=', "gap counted as inside"),
+    (7, '-', "discarded: gone, though measured negative"),
+];

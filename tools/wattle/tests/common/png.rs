@@ -17,6 +17,20 @@ impl Picture {
     pub fn count(&self, colour: [u8; 3]) -> usize {
         self.pixels.iter().filter(|&&p| p == colour).count()
     }
+
+    /// The words of a picture of layers, and its layers: it is cut at the rule of ink, 12 pixels off each side.
+    pub fn halves(&self) -> [Picture; 2] {
+        let is_rule = |row: &[[u8; 3]]| row[12..self.width - 12].iter().all(|&p| p == [0x33; 3]);
+        let rule = self.pixels.chunks(self.width).position(is_rule).expect("a rule under the words");
+        let part = |pixels: &[[u8; 3]]| Picture {
+            width: self.width,
+            height: pixels.len() / self.width,
+            pixels: pixels.to_vec(),
+            chunks: self.chunks.clone(),
+            description: self.description.clone(),
+        };
+        [part(&self.pixels[..rule * self.width]), part(&self.pixels[(rule + 1) * self.width..])]
+    }
 }
 
 struct Header {
