@@ -1,7 +1,9 @@
-//! A replay tool's lines against the wanted ones: every difference is counted, and each is reported with its script, line and command, and with
-//! what to run to see it.
+//! A replay tool's lines against the wanted ones: every difference is counted, by kind and by call, and the first of each script is reported with its
+//! line and command, with what the script is for, and with what to run to see it.
 
+use crate::progress::Progress;
 use reference::replay::Replay;
+use std::collections::BTreeMap;
 use std::io::{BufRead, BufReader, Write};
 use std::path::Path;
 use std::process::{Command, Stdio};
@@ -153,6 +155,25 @@ const SHOWN: u64 = 20;
 pub struct Differences {
     pub scripts: u64,
     pub lines: u64,
+    by_kind: BTreeMap<String, u64>,
+    by_call: BTreeMap<String, u64>,
+    progress: Progress,
+}
+
+/// The last comment up to a line of a script, which says what is tried there. Its first line is no such comment, but its name.
+fn comment_before(script: &Script, line: usize) -> Option<&str> {
+    let before = script.text.lines().take(line + 1).skip(1);
+    before.filter(|line| line.starts_with('#')).last()
+}
+
+/// A line wanted or said, cut where it is long: some have a whole buffer.
+fn short(line: Option<&String>) -> String {
+    const LONGEST: usize = 400;
+    match line.map(|line| (line, line.char_indices().nth(LONGEST))) {
+        None => "nothing".to_string(),
+        Some((line, None)) => line.clone(),
+        Some((line, Some((end, _)))) => format!("{} .. ({} characters)", &line[..end], line.chars().count()),
+    }
 }
 
 impl Differences {
@@ -162,7 +183,8 @@ impl Differences {
             return Ok(());
         }
         let before = self.lines;
-        for script in scripts {
+        for (i, script) in scripts.iter().enumerate() {
+            self.progress.at(format!("{}, {} of {} scripts: {} lines differ so far", script.name, i + 1, scripts.len(), self.lines));
             self.script(tool, script, &see(script))?;
         }
         if self.lines == before {
@@ -173,8 +195,7 @@ impl Differences {
 
     fn script(&mut self, tool: &Tool, script: &Script, see: &str) -> Result<(), String> {
         let Run { lines: said, wrong, .. } = tool.run(&script.text)?;
-        let commands = script.text.lines().enumerate().filter(|(_, command)| prints(command));
-        let commands: Vec<(usize, &str)> = commands.map(|(i, command)| (script.first_line + i, command)).collect();
+        let commands: Vec<(usize, &str)> = script.text.lines().enumerate().filter(|(_, command)| prints(command)).collect();
         let mut differ = 0;
         for i in 0..script.answers.len().max(said.len()) {
             let (wanted, found) = (script.answers.get(i), said.get(i));
@@ -182,22 +203,53 @@ impl Differences {
                 continue;
             }
             differ += 1;
+            let command = commands.get(i).copied();
+            let call = command.and_then(|(_, command)| command.split_ascii_whitespace().next()).unwrap_or("lines too many");
+            *self.by_call.entry(call.to_string()).or_default() += 1;
             // The first tells most: what follows it in a script is often its consequence.
             if differ == 1 && self.scripts < SHOWN {
-                let (line, command) = commands.get(i).copied().unwrap_or((0, "after the last command"));
-                println!("{}, line {line}, {command}", script.name);
-                println!("  wanted  {}", wanted.map_or("nothing", String::as_str));
-                println!("  but got {}", found.map_or("nothing", String::as_str));
+                self.progress.clear();
+                let (line, command) = command.unwrap_or((script.text.lines().count(), "after the last command"));
+                println!("{}, line {}, {command}", script.name, script.first_line + line);
+                comment_before(script, line).into_iter().for_each(|comment| println!("  {comment}"));
+                println!("  wanted  {}", short(wanted));
+                println!("  but got {}", short(found));
                 println!("  see it: {see} | {}", tool.name());
             }
         }
-        if let Some(wrong) = wrong {
+        if let Some(wrong) = wrong.filter(|_| self.scripts < SHOWN || differ == 0) {
+            self.progress.clear();
             println!("{}: {} {wrong}", script.name, tool.name());
             differ += u64::from(differ == 0);
         }
-        self.scripts += u64::from(differ > 0);
-        self.lines += differ;
+        self.count(script, differ);
         Ok(())
+    }
+
+    fn count(&mut self, script: &Script, differ: u64) {
+        if differ == 0 {
+            return;
+        }
+        self.scripts += 1;
+        self.lines += differ;
+        let kind = script.name.split(' ').next().unwrap_or(&script.name);
+        *self.by_kind.entry(kind.to_string()).or_default() += differ;
+        if self.scripts == SHOWN {
+            println!("{SHOWN} scripts are listed; those that follow are counted alone");
+        }
+    }
+
+    /// How many lines differ by kind and by call, the most first; nothing where none does.
+    pub fn print_counts(&self) {
+        let told = |counts: &BTreeMap<String, u64>| {
+            let mut counts: Vec<(&String, &u64)> = counts.iter().collect();
+            counts.sort_by_key(|(_, count)| std::cmp::Reverse(**count));
+            counts.iter().map(|(name, count)| format!("{name} {count}")).collect::<Vec<_>>().join(", ")
+        };
+        if self.lines > 0 {
+            println!("  by kind: {}", told(&self.by_kind));
+            println!("  by call: {}", told(&self.by_call));
+        }
     }
 }
 
@@ -253,6 +305,26 @@ mod tests {
         assert_eq!(differences(&[script("hash\nbegin\n", &["hash", "begin"])]), (0, 0));
         assert_eq!(differences(&[script("hash\nbegin\nopen\n", &["other", "begin", "another"])]), (1, 2));
         assert_eq!(differences(&[script("hash\n", &["hash", "begin"]), script("open\n", &[]), script("open\n", &["open"])]), (2, 2));
+    }
+
+    #[test]
+    fn lines_are_counted_by_kind_and_by_call() {
+        let mut found = Differences::default();
+        let scripts = [script("hash\nbegin\nopen\n", &["other", "begin", "another"]), script("open\n", &["one", "two"])];
+        found.of(&echo(), &scripts, |_| "see".to_string()).expect("cat runs");
+        assert_eq!(found.by_kind, BTreeMap::from([("echo".to_string(), 4)]));
+        assert_eq!(found.by_call, BTreeMap::from([("hash", 1), ("open", 2), ("lines too many", 1)].map(|(call, n)| (call.to_string(), n))));
+    }
+
+    #[test]
+    fn a_difference_has_the_comment_before_it() {
+        let of = |line: usize| {
+            let script = script("# echo 1\nautohash 1\n# first\nbegin\n# second\nbegin\n", &[]);
+            comment_before(&script, line).map(str::to_string)
+        };
+        assert_eq!(of(1), None);
+        assert_eq!(of(3).as_deref(), Some("# first"));
+        assert_eq!(of(5).as_deref(), Some("# second"));
     }
 
     #[test]

@@ -1,5 +1,6 @@
 //! What conformance/ must contain, as a list of entries, and which entries a call meets. `fuzz write` fails where an entry is not met.
-//! A request that brings a call adds its checks to `faults::order`, its causes and impossible pairs here, and its own entries to `ALSO`.
+//! A request that brings a call adds its checks to `faults::order`, its causes and impossible pairs here, its own entries to `ALSO`,
+//! and its numbers to `extremes`.
 
 use crate::faults::{faults, order, Check, Fault, PATCH};
 use reference::replay::Replay;
@@ -140,7 +141,6 @@ const ALSO: &[(&str, usize)] = &[
     ("begin: two largest groups of one size", 2),
     ("begin: a value of -32767", 1),
     ("begin: a missing border voxel", 5),
-    ("begin: T of 65535", 1),
     // the carving machine
     ("carve: limit 0 with a voxel pending", 1),
     ("carve: limit over 16 bits", 1),
@@ -583,6 +583,7 @@ pub fn list() -> BTreeMap<String, usize> {
             entries.extend(both.map(|(first, second)| (format!("{call}: {first} before a later record's {second}"), 1)));
         }
     }
+    entries.extend(extremes::entries().into_iter().map(|entry| (entry, 1)));
     for (case, lines) in crate::scripts::cases::LINES {
         entries.extend(lines.iter().map(|line| (worked(case, line), 1)));
     }
@@ -600,6 +601,7 @@ fn impossible(call: &str, first: &str, second: &str) -> bool {
 /// What is seen of a call before it is made.
 pub struct Before {
     call: String,
+    words: Vec<String>,
     faults: Option<Vec<Fault>>,
     seen: Vec<String>,
 }
@@ -608,14 +610,22 @@ impl Before {
     pub fn of(state: &Replay, command: &str) -> Self {
         let words: Vec<&str> = command.split_ascii_whitespace().collect();
         let call = words.first().unwrap_or(&"").to_string();
-        let seen = if order(&call).is_some() || call == "local" { sights::of(state, &call, &words) } else { Vec::new() };
-        Before { call, faults: faults(state, command), seen }
+        let mut seen = Vec::new();
+        if order(&call).is_some() || call == "local" {
+            seen.extend(sights::of(state, &call, &words));
+            seen.extend(extremes::of(state, &call, &words));
+        }
+        Before { call, words: words.iter().map(|word| word.to_string()).collect(), faults: faults(state, command), seen }
     }
 
     /// The entries that the call meets by its answer; an error where the answer is not that of the first fault.
     pub fn entries(self, answer: &str) -> Result<Vec<String>, String> {
         let said = answer.split(" # ").next().unwrap_or("");
-        let Some(faults) = self.faults else { return Ok(if self.call == "local" { self.seen } else { Vec::new() }) };
+        let words: Vec<&str> = self.words.iter().map(String::as_str).collect();
+        let answered = extremes::answered(&self.call, &words, said);
+        let Some(faults) = self.faults else {
+            return Ok(if self.call == "local" { self.seen.into_iter().chain(answered).collect() } else { Vec::new() });
+        };
         let refused = said.trim_start_matches(&self.call).trim_start().strip_prefix("refused ");
         let refused = refused.map(|number| number.split(' ').next().unwrap_or(number));
         if refused != faults.first().map(Fault::number) {
@@ -623,7 +633,7 @@ impl Before {
             return Err(format!("the answer {said:?} is not what the order of checks gives: {by_faults}"));
         }
         let Some(first) = faults.first() else {
-            let seen = self.seen.into_iter().chain(sights::answered(&self.call, said));
+            let seen = self.seen.into_iter().chain(sights::answered(&self.call, said)).chain(answered);
             return Ok(seen.chain([format!("{} done", self.call)]).collect());
         };
         let so = format!("if refused {}: ", first.check);
@@ -654,6 +664,7 @@ pub fn worked_case(case: &str, line: &str) -> String {
     worked(case, line)
 }
 
+pub mod extremes;
 mod gaps;
 mod marked;
 mod ordered;

@@ -9,6 +9,7 @@ pub mod gaps;
 pub mod grids;
 pub mod marks;
 pub mod mutants;
+pub mod progress;
 pub mod random;
 pub mod records;
 pub mod round_trip;

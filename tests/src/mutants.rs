@@ -164,10 +164,17 @@ pub fn given(folder: &Path) -> Result<Vec<(&'static str, Vec<Script>)>, String> 
     WRITTEN.into_iter().chain(SEEDED).map(|kind| read_kind(folder, kind).map(|scripts| (kind, scripts))).collect()
 }
 
-/// A kind of scripts on which a tool's answers are not the wanted ones. Those that begin as its name does are likely to tell, and come first.
-pub fn caught_by(tool: &Tool, name: &str, given: &[(&'static str, Vec<Script>)]) -> Result<Option<&'static str>, String> {
-    let likely = |kind: &str| name.len() >= 4 && kind.starts_with(&name[..4]);
-    let (first, others): (Vec<_>, Vec<_>) = given.iter().partition(|(kind, _)| likely(kind));
+/// The kinds that are likely to tell a mutant apart: those that its patch names in a line `Kinds: KIND ..`, and those that begin as its name does.
+pub fn likely_kinds(name: &str, patch: &str, given: &[(&'static str, Vec<Script>)]) -> Vec<&'static str> {
+    let told = patch.lines().take_while(|line| !line.starts_with("--- ")).find_map(|line| line.strip_prefix("Kinds: ")).unwrap_or("");
+    let named = |kind: &str| told.split_whitespace().any(|word| word == kind);
+    let alike = |kind: &str| name.len() >= 4 && kind.starts_with(&name[..4]);
+    given.iter().map(|(kind, _)| *kind).filter(|kind| named(kind) || told.is_empty() && alike(kind)).collect()
+}
+
+/// A kind of scripts on which a tool's answers are not the wanted ones; the likely ones are tried first.
+pub fn caught_by(tool: &Tool, likely: &[&str], given: &[(&'static str, Vec<Script>)]) -> Result<Option<&'static str>, String> {
+    let (first, others): (Vec<_>, Vec<_>) = given.iter().partition(|(kind, _)| likely.contains(kind));
     for (kind, scripts) in first.into_iter().chain(others) {
         if !tool.agrees(scripts)? {
             return Ok(Some(kind));

@@ -6,7 +6,9 @@
 pub mod cases;
 mod crafted;
 mod damage;
+mod extremes;
 mod filling;
+mod greatest;
 pub mod language;
 mod long;
 mod marking;
@@ -45,9 +47,9 @@ pub const SEEDED: [&str; 14] = [
 ];
 
 /// The kinds of scripts that are written out. What takes longest stands last.
-pub const WRITTEN: [&str; 13] = [
-    "cases", "language", "refusals", "damage", "ordering", "patching", "writing", "widening", "filling", "marking", "long", "points",
-    "shapes",
+pub const WRITTEN: [&str; 15] = [
+    "cases", "language", "refusals", "damage", "ordering", "patching", "writing", "widening", "filling", "marking", "extremes", "long",
+    "points", "shapes", "greatest",
 ];
 
 /// How many scripts of each seeded kind a second supplier is given.
@@ -74,6 +76,8 @@ pub fn conformance(kind: &str) -> Vec<String> {
         "long" => long::scripts(),
         "points" => points::scripts(),
         "shapes" => shapes::scripts(),
+        "extremes" => extremes::scripts(),
+        "greatest" => greatest::scripts(),
         _ => Vec::new(),
     };
     let numbered = |(i, script): (usize, String)| format!("# {kind} {}\nautohash 1\nsides 3 3 3\nT 0\n{script}", i + 1);

@@ -1,6 +1,7 @@
 //! Holds a replay tool to the reference. A tool is named with its arguments in one word: 'reference replay'.
 //!
-//! usage: fuzz check REPLAY FOLDER                 the conformance scripts against their answers, and the lines that a tool must refuse
+//! usage: fuzz check REPLAY FOLDER [KIND ..]       the conformance scripts against their answers, and the lines that a tool must refuse (`mistakes`);
+//!                                                 of these kinds alone where any is named
 //!        fuzz show FOLDER KIND NUMBER             prints one conformance script
 //!        fuzz program PROGRAM FOLDER              the program's line for each file of the conformance scripts
 //!        fuzz rewrite REPLAY FOLDER SAMPLES       every good file of these folders, and of three thousand seeds, read, written and read again
@@ -17,10 +18,11 @@ use std::path::Path;
 use std::process::ExitCode;
 use tests::compare::{bears_on_the_file, line_of, prints, read_kind, reference_lines, Differences, Script, Tool};
 use tests::conformance::{kinds, Made, MISTAKES_FILE};
+use tests::progress::Progress;
 use tests::round_trip;
 use tests::scripts::{script, SEEDED};
 
-const USAGE: &str = "usage: fuzz check REPLAY FOLDER | show FOLDER KIND NUMBER | program PROGRAM FOLDER | \
+const USAGE: &str = "usage: fuzz check REPLAY FOLDER [KIND ..] | show FOLDER KIND NUMBER | program PROGRAM FOLDER | \
                      rewrite REPLAY FOLDER SAMPLES | rewriting FOLDER SAMPLES NUMBER | write FOLDER | list | \
                      run REPLAY COUNT [FIRST SEED] | script KIND SEED GREATEST | blocks REPLAY [FIRST COUNT]";
 
@@ -43,7 +45,7 @@ fn main() -> ExitCode {
 fn command(words: &[&str]) -> Same {
     let number = |word: &str| word.parse::<u64>().map_err(|_| format!("not a number: {word}\n{USAGE}"));
     match words {
-        ["check", replay, folder] => check(&Tool::named(replay), Path::new(folder)),
+        ["check", replay, folder, named @ ..] => check(&Tool::named(replay), Path::new(folder), named),
         ["show", folder, kind, which] => show(Path::new(folder), kind, which),
         ["program", program, folder] => program_lines(program, Path::new(folder)),
         ["rewrite", replay, folder, samples] => rewrite(&Tool::named(replay), folder, samples),
@@ -76,21 +78,44 @@ fn list() -> Same {
 
 // ---- conformance
 
-fn check(replay: &Tool, folder: &Path) -> Same {
-    let (mut tally, mut found, mut scripts) = (Tally::default(), Differences::default(), 0);
-    for kind in kinds() {
+/// The lines that a tool must refuse, as a kind.
+const MISTAKES: &str = "mistakes";
+
+/// Whether a kind is to be checked: all are where none is named.
+fn wanted(named: &[&str], kind: &str) -> bool {
+    named.is_empty() || named.contains(&kind)
+}
+
+fn known(named: &[&str]) -> Result<(), String> {
+    match named.iter().find(|&&name| name != MISTAKES && kinds().all(|kind| kind != name)) {
+        Some(name) => Err(format!("no kind of scripts: {name}; there are {}, {MISTAKES}", kinds().collect::<Vec<_>>().join(", "))),
+        None => Ok(()),
+    }
+}
+
+fn check(replay: &Tool, folder: &Path, named: &[&str]) -> Same {
+    known(named)?;
+    let (mut tally, mut found, mut scripts, progress) = (Tally::default(), Differences::default(), 0, Progress::default());
+    for kind in kinds().filter(|kind| wanted(named, kind)) {
         let given = read_kind(folder, kind)?;
+        progress.at(format!("{kind}: {} scripts", given.len()));
         given.iter().flat_map(|script| &script.answers).for_each(|line| tally.count(line));
         found.of(replay, &given, |script| format!("{} show {} {}", this(), folder.display(), script.name))?;
         scripts += given.len();
     }
-    let taken = mistakes_taken(replay, folder)?;
+    let mut taken = 0;
+    if wanted(named, MISTAKES) {
+        progress.at("lines that are not of the language");
+        taken = mistakes_taken(replay, folder)?;
+    }
+    progress.clear();
     println!(
         "{scripts} conformance scripts, {} calls: {} lines differ in {} scripts, {taken} mistakes are taken",
         tally.total(),
         found.lines,
         found.scripts
     );
+    found.print_counts();
     Ok(found.lines == 0 && taken == 0)
 }
 
@@ -102,6 +127,7 @@ fn mistakes_taken(replay: &Tool, folder: &Path) -> Result<u64, String> {
     for line in lines.lines() {
         let run = replay.run(line)?;
         if run.status != Some(2) || !run.lines.is_empty() {
+            Progress::default().clear();
             let how = run.wrong.unwrap_or("ended well".to_string());
             println!("{} takes {line:?}, which is not of the language: it {how}, with {} lines", replay.name(), run.lines.len());
             println!("  see it: printf '%s\\n' '{line}' | {}", replay.name());
@@ -217,6 +243,7 @@ fn run(replay: &Tool, count: u64, first: u64) -> Same {
         found.of(replay, &scripts, |script| format!("{} script {}", this(), script.name))?;
     }
     println!("{count} scripts, {} calls: {} lines differ in {} scripts", tally.total(), found.lines, found.scripts);
+    found.print_counts();
     tally.print();
     Ok(found.lines == 0)
 }

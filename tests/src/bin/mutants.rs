@@ -1,11 +1,12 @@
 //! Grades conformance/: builds every mutant of tests/mutants and says which of them it does not catch. Run it from the repository's root.
 //! usage: mutants [each | NAME ..]      each: also the kind of scripts that catches each of them; with names, so for those alone
 
+use std::collections::HashMap;
 use std::path::Path;
 use std::process::ExitCode;
 use std::time::Instant;
 use tests::compare::{Script, Tool};
-use tests::mutants::{build, caught_by, given, patched, patches, sources, Mutant, Source};
+use tests::mutants::{build, caught_by, given, likely_kinds, patched, patches, sources, Mutant, Source};
 
 const WORK: &str = "target/mutants";
 
@@ -28,11 +29,14 @@ type Fates = Vec<(String, Fate)>;
 struct Setting {
     sources: Vec<Source>,
     given: Vec<(&'static str, Vec<Script>)>,
+    /// the kinds that are tried first, by mutant
+    likely: HashMap<String, Vec<&'static str>>,
 }
 
 impl Setting {
-    fn mutant(&self, name: &str, patch: &Path) -> Result<Mutant, String> {
+    fn mutant(&mut self, name: &str, patch: &Path) -> Result<Mutant, String> {
         let text = std::fs::read_to_string(patch).map_err(|wrong| format!("{} cannot be read: {wrong}", patch.display()))?;
+        self.likely.insert(name.to_string(), likely_kinds(name, &text, &self.given));
         let sources = patched(&self.sources, &text).map_err(|wrong| format!("its patch no longer applies: {wrong}"))?;
         Ok((name.to_string(), sources))
     }
@@ -47,7 +51,7 @@ impl Setting {
     }
 
     fn fate(&self, tool: &Tool, name: &str) -> Fate {
-        caught_by(tool, name, &self.given)?.ok_or("conformance/ does not catch it".to_string())
+        caught_by(tool, &self.likely[name], &self.given)?.ok_or("conformance/ does not catch it".to_string())
     }
 
     /// The reference itself, built the same way, must not be caught: or nothing that is caught would tell anything. How long it takes orders the
@@ -69,8 +73,8 @@ impl Setting {
 }
 
 fn grade(words: &[String]) -> Result<bool, String> {
-    let setting =
-        Setting { sources: sources(Path::new("reference/src"))?, given: given(Path::new("conformance"))? }.held_to_the_reference()?;
+    let (sources, given) = (sources(Path::new("reference/src"))?, given(Path::new("conformance"))?);
+    let mut setting = Setting { sources, given, likely: HashMap::new() }.held_to_the_reference()?;
     let (mut mutants, mut fates) = (Vec::new(), Vec::new());
     for (name, patch) in patches(Path::new("tests/mutants"))? {
         if words.is_empty() || words[0] == "each" || words.contains(&name) {

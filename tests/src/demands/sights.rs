@@ -113,7 +113,6 @@ fn begin(state: &Replay) -> Vec<String> {
         (groups.iter().filter(|group| group.len() == largest).count() > 1, "begin: two largest groups of one size"),
         (values.contains(&-32767), "begin: a value of -32767"),
         ((0..values.len()).any(|i| values[i] == MISSING && sides.border(i)), "begin: a missing border voxel"),
-        (state.t == u16::MAX, "begin: T of 65535"),
     ]));
     seen
 }
