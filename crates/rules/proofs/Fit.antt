@@ -44,11 +44,14 @@ pub beginnable : (s : Sides) (values : List ℤ) (marks : List ℕ) (dist : List
     → Beginnable s values
 unfolding voxels
 beginnable s values marks dist status h =
-    let v = any-below (λ i. measuredNegative (valueAt values i)) (size s) (not-false _ (h .1 .1 .1 .1 .1 .0)) in
+    let lent = h .1 in
+    let ranged = lent .1 in
+    let clear = ranged .1 .1 in
+    let v = any-below (λ i. measuredNegative (valueAt values i)) (size s) (not-false _ (clear .1 .0)) in
     record {
       sides = not-false (fitSides s) (h .0);
-      known = h .1 .1 .0;
-      border = checked-border s values (h .1 .1 .1 .1 .0);
+      known = ranged .0;
+      border = checked-border s values (clear .0);
       some = v .0;
       some-negative = true-and (ltb (v .0) (size s)) (measuredNegative (valueAt values (v .0))) (lt-ltb (v .0) (size s) (v .1)) (v .2);
     }
