@@ -1,7 +1,7 @@
 -- Waking by bits over the index: the loop, and one voxel of it.
-use mathlib.Core.Path.{_≡_, refl, sym, ap, _∙_, subst, subst₂}
+use mathlib.Core.Path.{_≡_, refl, sym, _∙_, subst, subst₂}
 use mathlib.Core.Logic.{inl, inr}
-use mathlib.Core.Bool.{true, false, not}
+use mathlib.Core.Bool.{true, false}
 use mathlib.Core.List.{List}
 use Prim.Native.Nat.{ℕ, _-_, _/_, _%_, _≤_, _<_}
 use native.Mathlib.Omega.{arith}
@@ -11,7 +11,6 @@ use lib.Dec.{ltb}
 use lib.IntN.{ℤ}
 use lib.ListN.{length}
 use Rattle.prelude.proofs.Bools.{two, not-both}
-use Rattle.rules.specs.Grid.{isNegative, distanceAt}
 use Rattle.rules.specs.Status.{statusOf, pendingByte, isPending, woken}
 use Rattle.rules.specs.Machine.{mayGo}
 use Rattle.rules.proofs.Topology.Steps.{pending-beyond}

@@ -8,10 +8,9 @@ use native.Mathlib.Omega.{arith}
 use lib.IntN.{ℤ}
 use lib.ListN.{length}
 use Rattle.cells.specs.Groups.{any}
-use Rattle.cells.specs.Cells.{passes}
 use Rattle.rules.specs.declared.Sides.{Sides}
 use Rattle.rules.specs.Grid.{size, range, voxels}
-use Rattle.rules.specs.Status.{isPending, anyPending, testAt, firstOf, goes, examine, Progress, progress, counted, carving}
+use Rattle.rules.specs.Status.{isPending, anyPending, firstOf, goes, examine, Progress, progress, counted, carving}
 use Rattle.rules.specs.Marks.{Marked}
 use Rattle.rules.specs.Machine.{mayGo, sooner}
 use Rattle.pending.specs.declared.Choice.{Choice}

@@ -10,12 +10,11 @@ use lib.Dec.{eqb}
 use lib.IntN.{ℤ}
 use lib.ListN.{length, set, length-set}
 use lib.Seq.{getD-set-same, getD-set-other}
-use Rattle.cells.specs.Cells.{passes}
 use Rattle.prelude.proofs.Bools.{and-true, true-and, or-true, not-both}
 use Rattle.prelude.proofs.Ranges.{getD-map-range, length-map-range}
 use Rattle.rules.specs.declared.Sides.{Sides}
 use Rattle.rules.specs.Grid.{size, voxels, touch}
-use Rattle.rules.specs.Status.{statusOf, keptByte, pendingByte, isKept, isPending, rested, removable, testAt, statusWithout, without, goes, examinedAs, examine}
+use Rattle.rules.specs.Status.{statusOf, keptByte, pendingByte, isKept, isPending, rested, removable, statusWithout, without, goes, examinedAs, examine}
 use Rattle.rules.specs.Marks.{Marked}
 use Rattle.rules.specs.Machine.{mayGo}
 use Rattle.rules.specs.Fit.{Known, FitVoxels}

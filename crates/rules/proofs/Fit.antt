@@ -22,7 +22,7 @@ use Rattle.rules.specs.Checks.{_when_, AllHold}
 use Rattle.rules.specs.Meaning.{negative}
 use Rattle.rules.specs.Begin.{beginChecks}
 use Rattle.rules.specs.Status.{statusOf, isKept, anyPending, testAt}
-use Rattle.rules.specs.Marks.{marked, strayMark, wrongMarks}
+use Rattle.rules.specs.Marks.{marked, wrongMarks}
 use Rattle.rules.specs.Machine.{State, isInside, mayGo, unfitCounts, unfitVoxel, unfit, wrongLength, stateChecks, workingChecks, markedChecks}
 use Rattle.rules.specs.Machine.{finishedChecks, voxelChecks, takeChecks, quietChecks, openingChecks, openChecks, finishChecks}
 use Rattle.rules.specs.Fit.{Lent, Known, FitVoxels, FitState, Working, Marking, Ended, Takeable, Quiet, Openable}

@@ -13,7 +13,7 @@ use lib.IntN.{ℤ, pos}
 use lib.ListN.{length, set, length-set, List·getD-eq-default}
 use lib.Seq.{getD-set-same, getD-set-other}
 use Rattle.cells.specs.Cells.{passes}
-use Rattle.prelude.proofs.Bools.{and-true, two, not-both, not-true}
+use Rattle.prelude.proofs.Bools.{and-true, two, not-both}
 use Rattle.prelude.proofs.Ranges.{getD-map-range, length-map-range}
 use Rattle.rules.specs.declared.Sides.{Sides}
 use Rattle.rules.specs.Grid.{size, voxels, onBorder, touch, isNegative}

@@ -17,7 +17,6 @@ use Rattle.cells.proofs.Groups.{mem-none}
 use Rattle.rules.specs.declared.Sides.{Sides}
 use Rattle.rules.specs.Grid.{size, range, voxels, distanceAt}
 use Rattle.rules.specs.Status.{isPending, prefer, foremost, firstOf}
-use Rattle.rules.specs.Marks.{Marked}
 use Rattle.rules.specs.Machine.{farther, sooner}
 use Rattle.rules.specs.Choice.{Order, Foremost, FartherIsOrder, SoonerIsOrder, FirstIsForemost, NoneIsFirst, HurriedFirst}
 use Rattle.prelude.proofs.Ranges.{range-mem, mem-range}

@@ -18,6 +18,11 @@ use Rattle.rules.specs.Grid.{isNegative}
 use Rattle.rules.specs.Marks.{Marked}
 use Rattle.searching.specs.declared.Held.{Held}
 use Rattle.searching.specs.Argmax.{surfaceHeight, surfaceKey, heightAt, keyAt, rank, higher, heldOf, Greatest, Holding, Leading}
+use Rattle.searching.specs.Argmax.{Span}
+
+-- one voxel of a stretch
+pub span-at : {a l first end n i : ℕ} → Span a l first end n → first ≤ i → i < end → Span a l i (i + 1) n
+span-at s low high = record { one = s .one; row = s .row; low = omega (arith, s .low); order = omega arith; high = omega (arith, s .high) }
 
 -- ---- ranks
 

@@ -9,7 +9,6 @@ use native.Mathlib.Omega.{arith}
 use lib.IntN.{ℤ, pos, _+ℤ_, +ℤ-assoc, +ℤ-idr}
 use lib.ListN.{length}
 use Rattle.cells.specs.Groups.{any, filter}
-use Rattle.cells.specs.Cells.{passes}
 use Rattle.prelude.proofs.Bools.{and-true, not-true, not-both, two}
 use Rattle.prelude.proofs.Lists.{Mem, any-true, mem-filter}
 use Rattle.rules.specs.declared.Sides.{Sides}
@@ -17,7 +16,7 @@ use Rattle.rules.specs.declared.Record.{Record}
 use Rattle.rules.specs.Grid.{size, range, voxels}
 use Rattle.rules.specs.Begin.{exposed}
 use Rattle.rules.specs.Meaning.{found}
-use Rattle.rules.specs.Status.{Progress, isKept, isPending, anyPending, removable, testAt, firstOf, goes, examine, carving, counted, openable}
+use Rattle.rules.specs.Status.{Progress, isKept, isPending, anyPending, removable, firstOf, goes, examine, carving, counted, openable}
 use Rattle.rules.specs.Marks.{Marked, marked}
 use Rattle.rules.specs.Machine.{State, after, lentTo, isInside, outside, mayGo, farther, sooner, count, markedChecks, takeChecks, openChecks}
 use Rattle.rules.specs.Machine.{finishChecks, carved, taken, toOpen, isNone, opened, theVoxel, finishedOf, carve, take, openNext, finish}

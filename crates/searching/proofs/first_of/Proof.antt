@@ -8,7 +8,7 @@ use mir.Facts.{toZ-ofZ}
 use mir.Syntax.{w32}
 use Rattle.rules.specs.Marks.{marked}
 use Rattle.searching.specs.Argmax.{heightAt, keyAt, rank}
-use Rattle.searching.proofs.Argmax.{key-is, Skipped, skipped-start, skipped-other, skipped-same, skipped-all}
+use Rattle.searching.proofs.Argmax.{span-at, key-is, Skipped, skipped-start, skipped-other, skipped-same, skipped-all}
 use Rattle.searching.proofs.first_of.Statement.{statement}
 use Rattle.searching.proofs.first_of.Tie as tie
 
@@ -43,9 +43,7 @@ height-at-requires c κs =
     let l = c .before in
     let s = l .before .before .before .before in
     let p = s .pre .0 .span in
-    let v = l .loop .inv .1 in
-    let t = c .loop-test .taken in
-    (record { one = p .one; row = p .row; low = omega (arith, p .low, v .low); order = omega arith; high = omega (arith, p .high) }, s .pre .1)
+    (span-at p (l .loop .inv .1 .low) (c .loop-test .taken), s .pre .1)
 
 returns : tie.Need-returns Inv-loop μ-loop
 returns c =

@@ -8,7 +8,7 @@ use mir.Val.{SFits, toZ}
 use mir.Syntax.{w32}
 use Rattle.rules.specs.Marks.{marked}
 use Rattle.searching.specs.Argmax.{heightAt, keyAt, rank, Greatest}
-use Rattle.searching.proofs.Argmax.{key-is, greatest-start, greatest-held}
+use Rattle.searching.proofs.Argmax.{span-at, key-is, greatest-start, greatest-held}
 use Rattle.searching.proofs.pinned_greatest.Statement.{statement}
 use Rattle.searching.proofs.pinned_greatest.Tie as tie
 
@@ -34,10 +34,7 @@ height-at-requires : tie.Need-height-at-requires Inv-loop μ-loop
 height-at-requires c κs =
     let l = c .before in
     let p = l .before .before .before .pre in
-    let v = l .loop .inv in
-    let t = c .loop-test .taken in
-    let s = p .0 in
-    (record { one = s .one; row = s .row; low = omega (arith, s .low, v .0); order = omega arith; high = omega (arith, s .high) }, p .1)
+    (span-at (p .0) (l .loop .inv .0) (c .loop-test .taken), p .1)
 
 higher-requires : tie.Need-higher-requires Inv-loop μ-loop
 higher-requires c κs = search needs

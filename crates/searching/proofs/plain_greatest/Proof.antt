@@ -7,7 +7,7 @@ use lib.Dec.{lit<}
 use mir.Val.{SFits, toZ}
 use mir.Syntax.{w32}
 use Rattle.searching.specs.Argmax.{surfaceHeight, surfaceKey, rank, Greatest}
-use Rattle.searching.proofs.Argmax.{surface-key-is, greatest-start, greatest-held}
+use Rattle.searching.proofs.Argmax.{span-at, surface-key-is, greatest-start, greatest-held}
 use Rattle.searching.proofs.plain_greatest.Statement.{statement}
 use Rattle.searching.proofs.plain_greatest.Tie as tie
 
@@ -28,10 +28,7 @@ surface-height-requires : tie.Need-surface-height-requires Inv-loop μ-loop
 surface-height-requires c κs =
     let l = c .before in
     let p = l .before .before .pre in
-    let v = l .loop .inv in
-    let t = c .loop-test .taken in
-    let s = p .0 in
-    (record { one = s .one; row = s .row; low = omega (arith, s .low, v .0); order = omega arith; high = omega (arith, s .high) }, p .1)
+    (span-at (p .0) (l .loop .inv .0) (c .loop-test .taken), p .1)
 
 higher-requires : tie.Need-higher-requires Inv-loop μ-loop
 higher-requires c κs = search needs
