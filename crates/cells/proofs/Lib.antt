@@ -1,4 +1,5 @@
 pub mod Examples
+pub mod Faces
 pub mod Chains
 pub mod Groups
 pub mod GroupsAre

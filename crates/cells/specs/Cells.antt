@@ -1,10 +1,11 @@
--- Document 01, "The local test": the cells of a cube's surface, touched and bare, their groups, k and m.
+-- Document 01, "The local test": the cells of a cube's surface, touched and bare, their groups, k and m; by document 02's CR 8 the lowest numbered
+-- bare face.
 -- A place of the 3 by 3 by 3 block has the index x + 3 y + 9 z, with x, y, z in 0, 1, 2; 13 is the middle.
 -- A cell of the middle cube's surface has the index of the neighbour that meets the cube in just that cell: a digit 0 or 2 says on which
 -- side of the cube the cell lies along that axis, and a digit 1 that it runs along the axis.
 use mathlib.Core.Bool.{Bool, not, _&&_, _||_, cond}
 use mathlib.Core.List.{List, [], _∷_}
-use Prim.Native.Nat.{ℕ, _+_, _/_, _%_}
+use Prim.Native.Nat.{ℕ, suc, _+_, _/_, _%_}
 use lib.Dec.{eqb}
 use lib.ListN.{length}
 use Rattle.cells.specs.Groups.{any, filter, groups}
@@ -49,13 +50,23 @@ dimension c = bit (eqb (c % 3) 1) + bit (eqb (c / 3 % 3) 1) + bit (eqb (c / 9) 1
 unfoldable pub countOf : ℕ → List ℕ → ℕ
 countOf d cs = length (filter (λ c. eqb (dimension c) d) cs)
 
--- what the local test gives: the groups of touched cells and of bare ones, and the kinds of the touched cells
+-- the faces by their numbers 0 to 5: low x, high x, low y, high y, low z, high z
+abbrev pub numberedFaces : List ℕ
+numberedFaces = 12 ∷ 14 ∷ 10 ∷ 16 ∷ 4 ∷ 22 ∷ []
+
+-- how many of a list stand before the first that passes the test; all of them, where none does
+unfoldable pub before : (ℕ → Bool) → List ℕ → ℕ
+before p [] = 0
+before p (c ∷ cs) = cond (p c) 0 (suc (before p cs))
+
+-- what the local test gives: the groups of touched cells and of bare ones, the kinds of the touched cells, and the lowest numbered bare face, or 6
 pub record Test : Type 0 where
   pub k : ℕ
   pub m : ℕ
   pub corners : ℕ
   pub edges : ℕ
   pub faces : ℕ
+  pub face : ℕ
 
 unfoldable pub testOf : List ℕ → List ℕ → Test
 testOf touchedCells bareCells =
@@ -65,6 +76,7 @@ testOf touchedCells bareCells =
       corners = countOf 0 touchedCells;
       edges = countOf 1 touchedCells;
       faces = countOf 2 touchedCells;
+      face = before (λ c. any (eqb c) bareCells) numberedFaces;
     }
 
 unfoldable pub test : (ℕ → Bool) → Test

@@ -25,3 +25,18 @@ pub record LocalTests : Type 0 where
   pub five-faces : km (only (4 ∷ 10 ∷ 12 ∷ 14 ∷ 16 ∷ [])) ≡ 1 ∷ 1 ∷ []
   pub eight-corners : km (λ p. eqb (dimension p) 0) ≡ 8 ∷ 1 ∷ []
   pub corners-and-edges : km (λ p. not (eqb (dimension p) 2)) ≡ 1 ∷ 6 ∷ []
+
+-- document 02's CR 8: all neighbours are kept but the one named, and its face is the lowest numbered bare one; all kept, and none
+abbrev pub faceWithout : ℕ → ℕ
+faceWithout p = test (λ q. not (eqb p q)) .face
+
+pub record BareFaces : Type 0 where
+  pub low-x : faceWithout 12 ≡ 0
+  pub high-x : faceWithout 14 ≡ 1
+  pub low-y : faceWithout 10 ≡ 2
+  pub high-y : faceWithout 16 ≡ 3
+  pub low-z : faceWithout 4 ≡ 4
+  pub high-z : faceWithout 22 ≡ 5
+  pub none-bare : faceWithout 13 ≡ 6
+  -- low x before high x, and before low z
+  pub first : test (λ p. false) .face ≡ 0

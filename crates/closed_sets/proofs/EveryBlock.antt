@@ -1,22 +1,26 @@
 -- What holds for every block: Euler's formula on the cube's surface, the groups of touched cells by the rank of the touched edges, and a
 -- bare face where any cell is bare.
-use mathlib.Core.Path.{_≡_, refl, ap, ap₂, sym, subst, fun-ext}
+use mathlib.Core.Path.{_≡_, refl, ap, ap₂, sym, _∙_, subst, fun-ext}
 use mathlib.Core.Logic.{inl, inr}
 use mathlib.Core.Bool.{Bool, true, false, not, _&&_}
 use mathlib.Core.List.{List, [], _∷_}
 use Prim.Native.Nat.{ℕ, _+_, _/_, _%_, _≤_, _<_}
 use native.Mathlib.Omega.{arith}
+use native.Mathlib.Decide.{decLt}
 use lib.Dec.{eqb, ltb}
 use lib.ListN.{length}
 use borrow.Author.Tests.{ltb-true, eqb-true}
 use Rattle.cells.specs.Groups.{any, filter, gather, groups}
-use Rattle.cells.specs.Cells.{spans, contains, joined, positions, facePositions, touched, groupCount, testOf, test}
+use Rattle.cells.specs.Cells.{spans, contains, joined, positions, facePositions, touched, groupCount, testOf, test, passes}
+use Rattle.cells.specs.Faces.{faceAt}
 use Rattle.closed_sets.specs.Rank.{rank}
 use Rattle.closed_sets.specs.Formula.{Formula}
+use Rattle.closed_sets.specs.Faces.{HasFace, PassingHasFace}
 use Rattle.prelude.proofs.Bools.{and-true, true-and, or-true, true-or, two, not-true, not-false, not-both}
 use Rattle.prelude.proofs.Differences.{difference}
 use Rattle.prelude.proofs.Lists.{Mem, any-true, true-any, any-false, any-ext, filter-ext}
 use Rattle.cells.proofs.GroupsAre.{contains-self}
+use Rattle.cells.proofs.Faces.{face-is-lowest, face-is-across}
 use Rattle.closed_sets.proofs.Closed.{ClosedSet}
 use Rattle.closed_sets.proofs.ClosedEnd.{closed-euler, closed-rank, closed-touched-few, closed-bare-few}
 
@@ -132,3 +136,33 @@ bare-face kept h =
 -- the same, by the voxels
 pub face-gone : (kept : ℕ → Bool) → 1 ≤ test kept .m → any (λ c. not (kept c)) facePositions ≡ true
 face-gone kept h = let r = bare-face kept h in true-any (λ c. not (kept c)) facePositions (r .0) (r .1) (ap not (r .3))
+
+-- ---- the lowest numbered bare face, where one is bare
+
+numbered : (c : ℕ) → Mem c facePositions → any (λ n. eqb (faceAt n) c) (0 ∷ 1 ∷ 2 ∷ 3 ∷ 4 ∷ 5 ∷ []) ≡ true
+unfolding any
+numbered = all-in (λ c. any (λ n. eqb (faceAt n) c) (0 ∷ 1 ∷ 2 ∷ 3 ∷ 4 ∷ 5 ∷ [])) facePositions refl
+
+pub has-face : HasFace
+has-face kept h =
+    let b = any-true (λ c. not (kept c)) facePositions h in
+    let r = any-true (λ n. eqb (faceAt n) (b .0)) (0 ∷ 1 ∷ 2 ∷ 3 ∷ 4 ∷ 5 ∷ []) (numbered (b .0) (b .1)) in
+    let n = r .0 in
+    let l : n < 6 = below n (r .1) in
+    let low = face-is-lowest kept in
+    elim (decLt (test kept .face) 6) [
+      | yes y ↦ y
+      | no z ↦
+          not-both (kept (b .0))
+          (ap kept (sym (eqb-true (faceAt n) (b .0) (r .2))) ∙ sym (face-is-across kept n l) ∙ low .lower n (omega (arith, low .few)))
+          (not-true (kept (b .0)) (b .2))
+    ]
+  where
+    below : (n : ℕ) → Mem n (0 ∷ 1 ∷ 2 ∷ 3 ∷ 4 ∷ 5 ∷ []) → n < 6
+    below n m = unfold any in ltb-true n 6 (all-in (λ n. ltb n 6) (0 ∷ 1 ∷ 2 ∷ 3 ∷ 4 ∷ 5 ∷ []) refl n m)
+
+pub passing-has-face : PassingHasFace
+unfolding passes
+passing-has-face kept e =
+    let m = eqb-true (test kept .m) 1 (and-true (eqb (test kept .k) 1) (eqb (test kept .m) 1) e .1) in
+    has-face kept (face-gone kept (omega arith))

@@ -1,2 +1,3 @@
 pub mod Rank
 pub mod Formula
+pub mod Faces

@@ -1,7 +1,7 @@
 -- The cases, by computation from the rules; case C, the arc and the hollow, which take long, stand in the crate of all cases.
 use mathlib.Core.Path.{refl}
 use Rattle.cells.specs.Groups.{any, filter, reached, others, enter, gather, groups}
-use Rattle.cells.specs.Cells.{contains, joined, touched, groupCount, dimension, countOf, testOf, test, passes}
+use Rattle.cells.specs.Cells.{contains, joined, touched, groupCount, dimension, countOf, before, testOf, test, passes}
 use Rattle.rules.specs.Grid.{fitSides, size, index, voxel, range, voxels, onBorder, gap, near, touch, apart, taxicab, shareFace}
 use Rattle.rules.specs.Value.{isMissing, beyond, measuredNegative, measuredNonNegative}
 use Rattle.rules.specs.Grid.{neighbourhoodOf, neighbourhood}
@@ -16,14 +16,14 @@ use Rattle.rules.specs.Machine.{isInside, outside, mayGo, farther, soone
 use Rattle.rules.specs.Machine.{toOpen, opened, openNext, closed, closedAt, finishedOf, finish}
 use Rattle.rules.specs.Cases.{startWith, carvedWith, start, carvedTo, plainCarve, plainTake, plainOpen, ended}
 use Rattle.rules.specs.Cases.{caseA, plate, valuesC, caseC, layerD, valuesD, caseD, valuesArc, arc, bar, cube}
-use Rattle.rules.specs.Cases.{wall, walled, hollow, markAt, markD, begunD, deep, rod, barOf, markBar}
+use Rattle.rules.specs.Cases.{wall, walled, hollow, markAt, markD, begunD, deep, rod, barOf, markBar, block, carvedFace}
 use Rattle.rules.specs.Cases.{CaseA, CaseD, Bar, Numbers, LongTunnels, BehindTheFace, Pinned, Hurried, PinnedAndHurried}
-use Rattle.rules.specs.Cases.{HurriedDeep, MarksLater, MarkNumbers}
+use Rattle.rules.specs.Cases.{HurriedDeep, MarksLater, MarkNumbers, WhichSide}
 
 -- ---- all that a case computes with: to unfold `all-rules` is to unfold the rules
 
 unfoldable local-rules : Unit {0}
-unfolding any filter reached others enter gather groups contains joined touched groupCount dimension countOf testOf test passes
+unfolding any filter reached others enter gather groups contains joined touched groupCount dimension countOf before testOf test passes
 local-rules = tt
 
 unfoldable grid-rules : Unit {0}
@@ -59,7 +59,7 @@ unfolding startWith carvedWith start carvedTo plainCarve plainTake plainOpen end
 case-calls = tt
 
 unfoldable worked-cases : Unit {0}
-unfolding case-calls caseA plate valuesC caseC layerD valuesD caseD valuesArc arc bar cube wall walled hollow markAt markD begunD deep rod barOf markBar
+unfolding case-calls caseA plate valuesC caseC layerD valuesD caseD valuesArc arc bar cube wall walled hollow markAt markD begunD deep rod barOf markBar block carvedFace
 worked-cases = tt
 
 unfoldable pub all-rules : Unit {0}
@@ -187,4 +187,19 @@ mark-numbers =
       value-first = refl;
       border-after = refl;
       none-after = refl;
+    }
+
+pub which-side : WhichSide
+unfolding all-rules
+which-side =
+    record {
+      taken = refl;
+      opened = refl;
+      carved = refl;
+      first-of-two = refl;
+      last-of-two = refl;
+      none-examined = refl;
+      none-pending = refl;
+      none-passes = refl;
+      stays-last = refl;
     }

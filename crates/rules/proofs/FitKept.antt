@@ -18,7 +18,7 @@ use Rattle.prelude.proofs.Ranges.{getD-map-range, length-map-range}
 use Rattle.rules.specs.declared.Sides.{Sides}
 use Rattle.rules.specs.Grid.{size, voxels, onBorder, touch, isNegative}
 use Rattle.rules.specs.Status.{Progress, statusOf, keptByte, pendingByte, woken, rested, isKept, isPending, removable, testAt, statusWithout, without}
-use Rattle.rules.specs.Status.{firstOf, goes, examinedAs, examine, counted, carving}
+use Rattle.rules.specs.Status.{firstOf, goes, examinedAs, examine, examining, carving}
 use Rattle.rules.specs.Marks.{Marked}
 use Rattle.rules.specs.Machine.{isInside, outside, mayGo}
 use Rattle.rules.specs.Choice.{Order}
@@ -202,10 +202,7 @@ module _ (s : Sides) (dist : List ℤ) (free : ℕ → Bool) (inside-stays : (j 
   fit-carving (suc limit) status fit = go (firstOf s ahead (isPending status)) refl (λ i. fit-carving limit (examine s free status i))
     where
       next : Option ℕ → Progress
-      next o = elim o [
-        | none ↦ record { examined = 0; removed = 0; status = status }
-        | some i ↦ counted (goes s free status i) (carving s free ahead limit (examine s free status i))
-      ]
+      next o = examining s free status (λ i. carving s free ahead limit (examine s free status i)) o
 
       go : (o : Option ℕ) → firstOf s ahead (isPending status) ≡ o
           → ((i : ℕ) → let after = examine s free status i in

@@ -17,7 +17,9 @@ pub mod Unmarked
 pub mod Gaps
 pub mod NeverUnfit
 pub mod LongRange
+pub mod Latest
 pub mod Slices
+pub mod Faces
 pub mod Border
 pub mod Fifteen
 pub mod Corollaries

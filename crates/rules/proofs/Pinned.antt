@@ -13,7 +13,7 @@ use Rattle.rules.specs.Grid.{size}
 use Rattle.rules.specs.Answer.{untouched}
 use Rattle.rules.specs.Begin.{exposed}
 use Rattle.rules.specs.Status.{Progress, statusOf, rested, isKept, isPending, removable, testAt, firstOf, without, goes, examinedAs}
-use Rattle.rules.specs.Status.{examine, counted, carving, openable}
+use Rattle.rules.specs.Status.{examine, examining, carving, openable}
 use Rattle.rules.specs.Marks.{marked}
 use Rattle.rules.specs.Machine.{State, after, lentTo, outside, mayGo, farther, sooner, markedChecks, takeChecks, openChecks, finishChecks}
 use Rattle.rules.specs.Machine.{carved, carve, taken, take, toOpen, isNone, theVoxel, opened, openNext, finishedOf, finish}
@@ -70,10 +70,7 @@ module _ (s : Sides) (free : ℕ → Bool) (j : ℕ) (before : Bool) (stays : be
       go (firstOf s ahead (isPending status)) refl (λ i. still-carving ahead order limit (examine s free status i))
     where
       next : Option ℕ → Progress
-      next o = elim o [
-        | none ↦ record { examined = 0; removed = 0; status = status }
-        | some i ↦ counted (goes s free status i) (carving s free ahead limit (examine s free status i))
-      ]
+      next o = examining s free status (λ i. carving s free ahead limit (examine s free status i)) o
 
       go : (o : Option ℕ) → firstOf s ahead (isPending status) ≡ o
           → ((i : ℕ) → let after = examine s free status i in Still s j before after → Still s j before (carving s free ahead limit after .status))

@@ -13,7 +13,7 @@ use Rattle.rules.specs.Grid.{size}
 use Rattle.rules.specs.Checks.{firstFailing, AllHold}
 use Rattle.rules.specs.Answer.{Reply, done, Outcome, outcome, untouched, Buffers, buffers, Carving}
 use Rattle.rules.specs.Begin.{begin}
-use Rattle.rules.specs.Status.{Progress, progress, counted, isPending, anyPending, firstOf, goes, examine, carving}
+use Rattle.rules.specs.Status.{Progress, progress, latest, counted, isPending, anyPending, testAt, firstOf, goes, examine, examining, carving}
 use Rattle.rules.specs.Marks.{marked}
 use Rattle.rules.specs.Machine.{State, state, after, lentTo, mayGo, sooner, count, stateChecks, markedChecks, carved, carve}
 use Rattle.rules.specs.Fit.{Marking}
@@ -22,6 +22,7 @@ use Rattle.rules.specs.Slices.{inTwo, CarvingsAdd, CarvedInTwo, CarvesAd
 use Rattle.rules.proofs.Checks.{all-hold, call-refused}
 use Rattle.rules.proofs.Fit.{fit-state, marking}
 use Rattle.rules.proofs.Demand.{run-append, demand-is-met}
+use Rattle.rules.proofs.Latest.{latest-assoc, carving-face}
 use Rattle.rules.proofs.NeverUnfit.{is-carved, never-unfit}
 
 -- ---- the examinations
@@ -29,20 +30,16 @@ use Rattle.rules.proofs.NeverUnfit.{is-carved, never-unfit}
 module _ (s : Sides) (free : ℕ → Bool) (ahead : ℕ → ℕ → Bool) where
   -- what follows the choice of a voxel
   next : ℕ → List ℕ → Option ℕ → Progress
-  next limit status o =
-      elim o [
-        | none ↦ progress 0 0 status
-        | some i ↦ counted (goes s free status i) (carving s free ahead limit (examine s free status i))
-      ]
+  next limit status o = examining s free status (λ i. carving s free ahead limit (examine s free status i)) o
 
-  after-none : (p : Progress) → p ≡ progress (0 + p .examined) (0 + p .removed) (p .status)
-  after-none p = λ i. progress (same (p .examined) i) (same (p .removed) i) (p .status)
+  after-none : (p : Progress) (status : List ℕ) → latest 6 (p .removed) (p .face) ≡ p .face → p ≡ inTwo (progress 0 0 6 status) p
+  after-none p status e = λ i. progress (same (p .examined) i) (same (p .removed) i) (sym e i) (p .status)
     where
       same : (n : ℕ) → n ≡ 0 + n
       same n = omega arith
 
-  after-one : (u : Bool) (p q : Progress) → counted u (inTwo p q) ≡ inTwo (counted u p) q
-  after-one u p q = λ i. progress (examined i) (removed u i) (q .status)
+  after-one : (u : Bool) (face : ℕ) (p q : Progress) → counted u face (inTwo p q) ≡ inTwo (counted u face p) q
+  after-one u face p q = λ i. progress (examined i) (removed u i) (latest-assoc (cond u face 6) (p .removed) (p .face) (q .removed) (q .face) i) (q .status)
     where
       examined : suc (p .examined + q .examined) ≡ suc (p .examined) + q .examined
       examined = omega arith
@@ -51,7 +48,7 @@ module _ (s : Sides) (free : ℕ → Bool) (ahead : ℕ → ℕ → Bool) where
       removed true = omega arith
       removed false = refl
 
-  quiet : (n : ℕ) (status : List ℕ) → firstOf s ahead (isPending status) ≡ none → carving s free ahead n status ≡ progress 0 0 status
+  quiet : (n : ℕ) (status : List ℕ) → firstOf s ahead (isPending status) ≡ none → carving s free ahead n status ≡ progress 0 0 6 status
   unfolding carving next
   quiet zero status e = refl
   quiet (suc n) status e = ap (next n status) e
@@ -61,7 +58,7 @@ module _ (s : Sides) (free : ℕ → Bool) (ahead : ℕ → ℕ → Bool) where
   unfolding carving next
   add zero n status =
       let e : 0 + n ≡ n = omega arith in
-      ap (λ (k : ℕ). carving s free ahead k status) e ∙ after-none (carving s free ahead n status)
+      ap (λ (k : ℕ). carving s free ahead k status) e ∙ after-none (carving s free ahead n status) status (carving-face s free ahead n status)
   add (suc m) n status =
       let e : suc m + n ≡ suc (m + n) = omega arith in
       ap (λ (k : ℕ). carving s free ahead k status) e ∙ go (firstOf s ahead (isPending status)) refl (λ i. add m n (examine s free status i))
@@ -70,12 +67,13 @@ module _ (s : Sides) (free : ℕ → Bool) (ahead : ℕ → ℕ → Bool) where
           → ((i : ℕ) → let first = carving s free ahead m (examine s free status i) in
           carving s free ahead (m + n) (examine s free status i) ≡ inTwo first (carving s free ahead n (first .status)))
           → next (m + n) status o ≡ inTwo (next m status o) (carving s free ahead n (next m status o .status))
-      go none e ih = unfold next in after-none (progress 0 0 status) ∙ ap (inTwo (progress 0 0 status)) (sym (quiet n status e))
+      go none e ih = unfold next in after-none (progress 0 0 6 status) status refl ∙ ap (inTwo (progress 0 0 6 status)) (sym (quiet n status e))
       go (some i) e ih =
           unfold next in
           let u = goes s free status i in
+          let face = testAt s status i .face in
           let first = carving s free ahead m (examine s free status i) in
-          ap (counted u) (ih i) ∙ after-one u first (carving s free ahead n (first .status))
+          ap (counted u face) (ih i) ∙ after-one u face first (carving s free ahead n (first .status))
 
 pub carvings-add : CarvingsAdd
 carvings-add = add
@@ -113,6 +111,7 @@ module _ (lent : List ℕ) where
         examined = p .examined;
         removed = p .removed;
         pending = anyPending (g .rec .sides) (p .status);
+        face = p .face;
         next = count (g .rec) (p .examined) (p .removed) 0 (pos 0);
       }
       ))
@@ -157,13 +156,21 @@ module _ (lent : List ℕ) where
         let s = g .rec .sides in
         let first = count (g .rec) (p .examined) (p .removed) 0 (pos 0) in
         let answer : Record → Carving =
-        λ r. record { examined = p .examined + q .examined; removed = p .removed + q .removed; pending = anyPending s (q .status); next = r } in
+        λ r.
         record {
-          first = record { examined = p .examined; removed = p .removed; pending = anyPending s (p .status); next = first };
+          examined = p .examined + q .examined;
+          removed = p .removed + q .removed;
+          pending = anyPending s (q .status);
+          face = latest (p .face) (q .removed) (q .face);
+          next = r;
+        } in
+        record {
+          first = record { examined = p .examined; removed = p .removed; pending = anyPending s (p .status); face = p .face; next = first };
           second = record {
             examined = q .examined;
             removed = q .removed;
             pending = anyPending s (q .status);
+            face = q .face;
             next = count first (q .examined) (q .removed) 0 (pos 0);
           };
           first-answer = ap (λ (o : Outcome Buffers Carving). o .answer) (told-carve m g w);

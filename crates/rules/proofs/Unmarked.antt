@@ -19,7 +19,7 @@ use Rattle.rules.specs.Checks.{Check, _when_, unless, AllHold}
 use Rattle.rules.specs.Answer.{done, Outcome, outcome, untouched, Buffers, buffers, Carving}
 use Rattle.rules.specs.Marks.{Marked, markOf, pinnedMark, hurriedMark, marked, strayMark, wrongMarks, unmarked, noMarks}
 use Rattle.rules.specs.Begin.{waitsFirst, statusAt, startStatus, begunOn, begun, begin}
-use Rattle.rules.specs.Status.{isPending, anyPending, testAt, firstOf, goes, examinedAs, examine, Progress, progress, counted, carving}
+use Rattle.rules.specs.Status.{isPending, anyPending, testAt, firstOf, goes, examinedAs, examine, Progress, progress, counted, examining, carving}
 use Rattle.rules.specs.Machine.{State, lentTo, isInside, outside, mayGo, farther, sooner, count, unfit, wrongLength, markedChecks, workingChecks}
 use Rattle.rules.specs.Machine.{carved, carve, voxelChecks, taken, take, toOpen, theVoxel, quietChecks, openingChecks, opened, openNext}
 use Rattle.rules.specs.Fit.{FitVoxels}
@@ -108,16 +108,13 @@ module _ (s : Sides) (dist : List ℤ) where
       passed i = passes (testAt s status i)
 
       by : ℕ → Bool → Progress
-      by i u = counted u (carvingBefore s dist limit (examinedAs u s free status i))
+      by i u = counted u (testAt s status i .face) (carvingBefore s dist limit (examinedAs u s free status i))
 
       now : Option ℕ → Progress
-      now o = elim o [
-        | none ↦ progress 0 0 status
-        | some i ↦ counted (goes s free status i) (carving s free (farther dist) limit (examine s free status i))
-      ]
+      now o = examining s free status (λ i. carving s free (farther dist) limit (examine s free status i)) o
 
       before : Option ℕ → Progress
-      before o = elim o [ none ↦ progress 0 0 status | some i ↦ by i (passed i) ]
+      before o = elim o [ none ↦ progress 0 0 6 status | some i ↦ by i (passed i) ]
 
       go : (o : Option ℕ) → firstOf s (farther dist) (isPending status) ≡ o
           → ((i : ℕ) → let next = examine s free status i in FitVoxels s dist next → carving s free (farther dist) limit next ≡ carvingBefore s dist limit next)
@@ -127,7 +124,7 @@ module _ (s : Sides) (dist : List ℤ) where
           let first = first-foremost s (farther dist) (farther-order dist) (isPending status) i e in
           let goes-on : goes s free status i ≡ passed i =
           ap (λ (u : Bool). passed i && u) (pending-outside s dist status fit i (first .chosen)) ∙ and-one (passed i) in
-          ap (counted (goes s free status i)) (rest i (fit-examined s dist status fit i (first .below) (first .chosen) free inside-stays))
+          ap (counted (goes s free status i) (testAt s status i .face)) (rest i (fit-examined s dist status fit i (first .below) (first .chosen) free inside-stays))
           ∙ ap (by i) goes-on
 
 -- ---- the calls
@@ -179,6 +176,7 @@ carved-before limit g =
           examined = r .examined;
           removed = r .removed;
           pending = anyPending (g .rec .sides) (r .status);
+          face = r .face;
           next = count (g .rec) (r .examined) (r .removed) 0 (pos 0);
         }
         ))

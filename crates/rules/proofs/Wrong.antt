@@ -11,14 +11,15 @@ use lib.IntN.{pos, negsuc, natAbs}
 use Rattle.rules.specs.declared.Record.{Record}
 use Rattle.rules.specs.Answer.{Reply, refused, done, Outcome, Buffers, Carving}
 use Rattle.rules.specs.Status.{statusOf}
-use Rattle.rules.specs.Marks.{marked, unmarked}
+use Rattle.rules.specs.Marks.{marked, unmarked, noMarks}
 use Rattle.rules.specs.Machine.{State, theVoxel}
 use Rattle.rules.specs.Body as body
 use Rattle.rules.specs.Body.{bodyOf, covered, sum, sum3, corners, edges, faces, cubes, eulerOf}
 use Rattle.rules.specs.Grid.{missing}
-use Rattle.rules.specs.Cases.{sides, carvedTo, bar, cube, wall, markAt, markD, begunD, barOf, markBar}
+use Rattle.rules.specs.Faces.{facesOf}
+use Rattle.rules.specs.Cases.{sides, carvedTo, caseD, bar, cube, wall, markAt, markD, begunD, barOf, markBar}
 use Rattle.rules.specs.Wrong.{carvingBy, onlyClears, byKAlone, dropsFailed, byFaceGroups, invents, WrongMachines}
-use Rattle.rules.specs.Wrong.{fillsBy, walledIn, offBorder, WrongFills, carveBy, WrongMarks}
+use Rattle.rules.specs.Wrong.{fillsBy, walledIn, offBorder, WrongFills, carveBy, WrongMarks, WrongLast}
 use Rattle.rules.proofs.Fill.{filled-is-enclosed}
 use Rattle.rules.proofs.Cases.{all-rules}
 
@@ -97,4 +98,14 @@ wrong-marks =
       only-hurried-pending = λ h. let z : _≡_ {A = ℕ} 3 1 = h (sides 5 3 3) unmarked [] alone 22 in omega arith;
       hurried-at-the-surface = λ h. let z : _≡_ {A = ℕ} 3 1 = h (sides 5 3 3) (marked (replicate 45 2)) [] (λ j. true) 22 in omega arith;
       pinned-pending = λ h. let z : _≡_ {A = ℕ} 1 3 = h (sides 5 3 3) (marked (replicate 45 1)) [] alone 22 in omega arith;
+    }
+
+-- ---- the face of another removal
+
+pub wrong-last : WrongLast
+unfolding all-rules facesOf
+wrong-last =
+    record {
+      first-removal = λ h. let e : _≡_ {A = ℕ} 0 1 = h (noMarks (sides 4 4 3)) 2 caseD refl in omega arith;
+      none-is-0 = λ h. let e : _≡_ {A = ℕ} 6 0 = h (noMarks (sides 4 4 3)) 0 caseD refl in omega arith;
     }

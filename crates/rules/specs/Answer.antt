@@ -35,22 +35,26 @@ pub record Buffers : Type 0 where
 abbrev pub buffers : List ℤ → List ℕ → Buffers
 buffers d s = record { dist = d; status = s }
 
--- carve answers examinations and removals made, and whether any voxel is pending; take k and m; open index, k and m; each with the record
+-- carve answers examinations and removals made, whether any voxel is pending, and the face of its last removal, or 6; take k, m and the face; open
+-- index, k, m and the face; each with the record
 pub record Carving : Type 0 where
   pub examined : ℕ
   pub removed : ℕ
   pub pending : Bool
+  pub face : ℕ
   pub next : Record
 
 pub record Removal : Type 0 where
   pub k : ℕ
   pub m : ℕ
+  pub face : ℕ
   pub next : Record
 
 pub record Opening : Type 0 where
   pub index : ℕ
   pub k : ℕ
   pub m : ℕ
+  pub face : ℕ
   pub next : Record
 
 -- ---- the cases of each enum
@@ -60,15 +64,15 @@ begunAnswer (Begun.Ready next) = done next
 begunAnswer (Begun.Refused n) = refused n
 
 abbrev pub carvedAnswer : Carved → Reply Carving
-carvedAnswer (Carved.Done e r p next) = done (record { examined = e; removed = r; pending = p; next = next })
+carvedAnswer (Carved.Done e r p face next) = done (record { examined = e; removed = r; pending = p; face = face; next = next })
 carvedAnswer (Carved.Refused n) = refused n
 
 abbrev pub takenAnswer : Taken → Reply Removal
-takenAnswer (Taken.Gone k m next) = done (record { k = k; m = m; next = next })
+takenAnswer (Taken.Gone k m face next) = done (record { k = k; m = m; face = face; next = next })
 takenAnswer (Taken.Refused n) = refused n
 
 abbrev pub openedAnswer : Opened → Reply Opening
-openedAnswer (Opened.Through i k m next) = done (record { index = i; k = k; m = m; next = next })
+openedAnswer (Opened.Through i k m face next) = done (record { index = i; k = k; m = m; face = face; next = next })
 openedAnswer (Opened.Refused n) = refused n
 
 abbrev pub finishedAnswer : Finished → Reply Record

@@ -1,14 +1,14 @@
 -- Document 01, "What the second supplier may hold us to": the worked cases of begin and the machine, and small ones that notice what those
 -- leave open. proofs/Cases.antt proves each by computation, the crate cases case C, the arc and the hollow; it gathers all of document 01's into one list.
 use mathlib.Core.Path.{_≡_}
-use mathlib.Core.Bool.{Bool, true, false}
+use mathlib.Core.Bool.{Bool, true, false, cond}
 use mathlib.Core.List.{List, [], _∷_, _++_, map}
 use Prim.Native.Nat.{ℕ, _+_, max}
 use lib.ListN.{length, getD, set, replicate}
 use lib.IntN.{ℤ, pos, negsuc}
 use Rattle.rules.specs.declared.Sides.{Sides}
 use Rattle.rules.specs.declared.Record.{Record}
-use Rattle.rules.specs.Grid.{range, missing, voxel, gap, distanceAt}
+use Rattle.rules.specs.Grid.{range, missing, voxel, onBorder, gap, distanceAt}
 use Rattle.rules.specs.Fill.{filled}
 use Rattle.rules.specs.Marks.{noMarks}
 use Rattle.rules.specs.Answer.{Reply, refused, done, Outcome, Buffers, Carving, Removal, Opening}
@@ -77,7 +77,7 @@ caseC T = start (sides 5 5 3) T valuesC
 pub record CarvesC (begun : ℕ → State) : Type 0 where
   pub one-examination : carvedTo 1000 (begun 0) .rec ≡ count (begun 0 .rec) 1 0 0 (pos 0)
   pub middle-filled : distanceAt (ended (carvedTo 1000 (begun 0)) .dist) 37 ≡ negsuc 3
-  -- open answers k = 1, m = 2; the Euler number is 0
+  -- open answers k = 1, m = 2 and the low z face; the Euler number is 0
   pub opening :
       plainOpen (carvedTo 1000 (begun 1)) .answer
       ≡ done (
@@ -85,6 +85,7 @@ pub record CarvesC (begun : ℕ → State) : Type 0 where
         index = 37;
         k = 1;
         m = 2;
+        face = 4;
         next = record { sides = sides 5 5 3; allowed = 1; openings = 1; removals = 1; examinations = 1; euler = pos 0; finished = false };
       }
       )
@@ -336,3 +337,37 @@ pub record MarkNumbers : Type 0 where
   pub value-first : begin (sides 4 4 3) 0 (replicate 48 (pos 1000000001)) (markD 0 4) (caseD .dist) (caseD .status) .answer ≡ refused 28
   pub border-after : begin (sides 4 4 3) 0 (replicate 48 (negsuc 0)) (markD 0 4) (caseD .dist) (caseD .status) .answer ≡ refused 29
   pub none-after : begin (sides 4 4 3) 0 (replicate 48 (pos 5)) (markD 0 4) (caseD .dist) (caseD .status) .answer ≡ refused 29
+
+-- ---- document 02's CR 8: which side it came out by
+
+-- 5, 5, 5: the 27 inner voxels are kept but for one, which is given; 62 in their middle is the farthest, with that status, and passes
+unfoldable pub block : ℕ → ℕ → State
+block gone status =
+    let s = sides 5 5 5 in
+    state (newRecord s 1) (set (replicate 125 (pos 1)) 62 (pos 2)) (set (set (map (λ i. cond (onBorder s i) 0 1) (range 0 125)) gone 0) 62 status)
+
+-- the face that a call answers; 7 after a refusal
+abbrev pub faceOf : {A : Type 0} → (A → ℕ) → Reply A → ℕ
+faceOf face (refused n) = 7
+faceOf face (done a) = face a
+
+unfoldable pub carvedFace : List ℕ → ℕ → State → ℕ
+carvedFace marks limit g = faceOf (λ a. a .face) (carve marks limit g .answer)
+
+-- the neighbours of 62 across its faces 0 to 5
+abbrev pub acrossFaces : List ℕ
+acrossFaces = 61 ∷ 63 ∷ 57 ∷ 67 ∷ 37 ∷ 87 ∷ []
+
+pub record WhichSide : Type 0 where
+  pub taken : map (λ gone. faceOf (λ a. a .face) (plainTake 62 (block gone 1) .answer)) acrossFaces ≡ range 0 6
+  pub opened : map (λ gone. faceOf (λ a. a .face) (plainOpen (block gone 1) .answer)) acrossFaces ≡ range 0 6
+  pub carved : map (λ gone. carvedFace (noMarks (sides 5 5 5)) 1 (block gone 3)) acrossFaces ≡ range 0 6
+  -- of D's two removals the first comes out by high x, the last by low x
+  pub first-of-two : carvedFace (noMarks (sides 4 4 3)) 1 caseD ≡ 1
+  pub last-of-two : carvedFace (noMarks (sides 4 4 3)) 2 caseD ≡ 0
+  -- no removal: no examination, nothing pending after an earlier carve, one that stays
+  pub none-examined : carvedFace (noMarks (sides 4 4 3)) 0 caseD ≡ 6
+  pub none-pending : carvedFace (noMarks (sides 4 4 3)) 9 (carvedTo 2 caseD) ≡ 6
+  pub none-passes : carvedFace (noMarks (sides 5 5 5)) 9 (block 0 3) ≡ 6
+  -- the last examined is pinned and stays; the one before it came out by high x
+  pub stays-last : carvedFace (markBar 1 0) 2 (barOf (pos 1) (pos 2)) ≡ 1

@@ -121,6 +121,7 @@ carved free ahead limit g =
       examined = r .examined;
       removed = r .removed;
       pending = anyPending s (r .status);
+      face = r .face;
       next = count (g .rec) (r .examined) (r .removed) 0 (pos 0);
     }
     ))
@@ -150,7 +151,7 @@ unfoldable pub taken : (ℕ → Bool) → ℕ → State → Outcome Buffers Remo
 taken free i g =
     let s = g .rec .sides in
     let t = testAt s (g .status) i in
-    outcome (done (record { k = t .k; m = t .m; next = count (g .rec) 0 1 0 (pos 0) })) (buffers (g .dist) (without s free (g .status) i))
+    outcome (done (record { k = t .k; m = t .m; face = t .face; next = count (g .rec) 0 1 0 (pos 0) })) (buffers (g .dist) (without s free (g .status) i))
 
 unfoldable pub take : List ℕ → ℕ → State → Outcome Buffers Removal
 take marks i g = unless (takeChecks marks i g) (untouched (lentTo g)) (taken (mayGo (marked marks) (g .dist)) i g)
@@ -182,7 +183,7 @@ opened free i g =
     let s = g .rec .sides in
     let t = testAt s (g .status) i in
     outcome
-    (done (record { index = i; k = t .k; m = t .m; next = count (g .rec) 0 1 1 (pos (t .k) -ℤ pos (t .m)) }))
+    (done (record { index = i; k = t .k; m = t .m; face = t .face; next = count (g .rec) 0 1 1 (pos (t .k) -ℤ pos (t .m)) }))
     (buffers (g .dist) (without s free (g .status) i))
 
 -- none stands for no voxel to open, which number 15 has refused

@@ -10,7 +10,7 @@ use Rattle.rules.specs.declared.Record.{Record}
 use Rattle.rules.specs.Grid.{size}
 use Rattle.rules.specs.Answer.{done, outcome, Carving}
 use Rattle.rules.specs.Begin.{begin}
-use Rattle.rules.specs.Status.{Progress, progress, carving}
+use Rattle.rules.specs.Status.{Progress, progress, latest, carving}
 use Rattle.rules.specs.Marks.{strayMark}
 use Rattle.rules.specs.Machine.{State, state, carve}
 use Rattle.rules.specs.Demand.{Call, carveUpTo, call, run}
@@ -18,7 +18,7 @@ use Rattle.rules.specs.Demand.{Call, carveUpTo, call, run}
 -- ---- m + n examinations are m, and n after them
 
 abbrev pub inTwo : Progress → Progress → Progress
-inTwo p q = progress (p .examined + q .examined) (p .removed + q .removed) (q .status)
+inTwo p q = progress (p .examined + q .examined) (p .removed + q .removed) (latest (p .face) (q .removed) (q .face)) (q .status)
 
 abbrev pub CarvingsAdd : Type 0
 CarvingsAdd =
@@ -28,7 +28,7 @@ CarvingsAdd =
 
 -- ---- the calls
 
--- the answers of two carves add up; pending, the record and the buffers are those of the second
+-- the answers of two carves add up; pending, the record and the buffers are those of the second, and so is the face where it removed any
 pub record CarvedInTwo (lent : List ℕ) (m n : ℕ) (g : State) : Type 0 where
   pub first : Carving
   pub second : Carving
@@ -39,6 +39,7 @@ pub record CarvedInTwo (lent : List ℕ) (m n : ℕ) (g : State) : Type 0 where
         examined = first .examined + second .examined;
         removed = first .removed + second .removed;
         pending = second .pending;
+        face = latest (first .face) (second .removed) (second .face);
         next = second .next;
       })) (carve lent n (call (carveUpTo lent m) g .end) .lent)
 

@@ -80,27 +80,38 @@ examinedAs false s free status i = set status i (rested (statusOf status i))
 unfoldable pub examine : Sides → (ℕ → Bool) → List ℕ → ℕ → List ℕ
 examine s free status i = examinedAs (goes s free status i) s free status i
 
--- ---- up to so many examinations, while a voxel is pending: how many were made, how many removed, and the status bytes after them
+-- ---- up to so many examinations, while a voxel is pending: how many were made, how many removed, the face of the last removal, 6 where there
+-- was none, and the status bytes after them
 
 pub record Progress : Type 0 where
   pub examined : ℕ
   pub removed : ℕ
+  pub face : ℕ
   pub status : List ℕ
 
-abbrev pub progress : ℕ → ℕ → List ℕ → Progress
-progress examined removed status = record { examined = examined; removed = removed; status = status }
+abbrev pub progress : ℕ → ℕ → ℕ → List ℕ → Progress
+progress examined removed face status = record { examined = examined; removed = removed; face = face; status = status }
 
--- one examination, and what follows it
-abbrev pub counted : Bool → Progress → Progress
-counted gone rest = progress (suc (rest .examined)) (cond gone (suc (rest .removed)) (rest .removed)) (rest .status)
+-- what is told of the last removal: the later, unless none was removed later
+abbrev pub latest : ℕ → ℕ → ℕ → ℕ
+latest earlier zero later = earlier
+latest earlier (suc removed) later = later
+
+-- one examination, of a voxel with that face, and what follows it
+abbrev pub counted : Bool → ℕ → Progress → Progress
+counted gone face rest =
+    progress (suc (rest .examined)) (cond gone (suc (rest .removed)) (rest .removed)) (latest (cond gone face 6) (rest .removed) (rest .face))
+    (rest .status)
+
+-- the voxel that comes first, if one is pending, is examined, and the rest follows
+abbrev pub examining : Sides → (ℕ → Bool) → List ℕ → (ℕ → Progress) → Option ℕ → Progress
+examining s free status rest none = progress 0 0 6 status
+examining s free status rest (some i) = counted (goes s free status i) (testAt s status i .face) (rest i)
 
 unfoldable pub carving : Sides → (ℕ → Bool) → (ℕ → ℕ → Bool) → ℕ → List ℕ → Progress
-carving s free ahead zero status = progress 0 0 status
+carving s free ahead zero status = progress 0 0 6 status
 carving s free ahead (suc limit) status =
-    elim (firstOf s ahead (isPending status)) [
-      | none ↦ progress 0 0 status
-      | some i ↦ counted (goes s free status i) (carving s free ahead limit (examine s free status i))
-    ]
+    examining s free status (λ i. carving s free ahead limit (examine s free status i)) (firstOf s ahead (isPending status))
 
 -- ---- the voxels that may be opened: they have a face neighbour not kept
 

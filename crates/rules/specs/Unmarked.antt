@@ -44,12 +44,13 @@ beginBefore s T values dist status =
 -- ---- carve: the greatest worked distance first, and gone where it passes
 
 unfoldable pub carvingBefore : Sides → List ℤ → ℕ → List ℕ → Progress
-carvingBefore s dist zero status = progress 0 0 status
+carvingBefore s dist zero status = progress 0 0 6 status
 carvingBefore s dist (suc limit) status =
     elim (firstOf s (farther dist) (isPending status)) [
-      | none ↦ progress 0 0 status
+      | none ↦ progress 0 0 6 status
       | some i ↦
-          counted (passes (testAt s status i)) (carvingBefore s dist limit (examinedAs (passes (testAt s status i)) s (outside dist) status i))
+          counted (passes (testAt s status i)) (testAt s status i .face)
+          (carvingBefore s dist limit (examinedAs (passes (testAt s status i)) s (outside dist) status i))
     ]
 
 unfoldable pub carveBefore : ℕ → State → Outcome Buffers Carving
@@ -63,6 +64,7 @@ carveBefore limit g =
       examined = r .examined;
       removed = r .removed;
       pending = anyPending s (r .status);
+      face = r .face;
       next = count (g .rec) (r .examined) (r .removed) 0 (pos 0);
     }
     ))

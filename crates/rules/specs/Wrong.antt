@@ -1,5 +1,5 @@
 -- Document 01, "What the second supplier may hold us to" and "Shortcuts that break it": machines that must be rejected, as definitions, and
--- which clause of demand 3 rejects each on a small grid; wrong fills of gaps; and marks read by another rule. proofs/Wrong.antt shows it by computation.
+-- which clause of demand 3 rejects each on a small grid; wrong fills of gaps; marks read by another rule; another face of carve. proofs/Wrong.antt shows it by computation.
 use mathlib.Core.Path.{_≡_}
 use mathlib.Core.Logic.{_↔_}
 use mathlib.Core.Bool.{Bool, true, false, not, cond, _&&_, _||_}
@@ -17,13 +17,14 @@ use Rattle.rules.specs.Grid.{apart, Voxel, voxel, voxels, onBorder, touc
 use Rattle.rules.specs.Fill.{around, enclosed, inSome}
 use Rattle.rules.specs.Gaps.{Enclosed}
 use Rattle.rules.specs.Checks.{unless}
-use Rattle.rules.specs.Answer.{Reply, refused, Outcome, untouched, Buffers, Carving}
+use Rattle.rules.specs.Answer.{Reply, refused, done, Outcome, untouched, Buffers, Carving}
 use Rattle.rules.specs.Status.{isKept, isPending, firstOf, testAt, without, statusOf, rested, openable}
 use Rattle.rules.specs.Marks.{Marked, marked, noMarks}
 use Rattle.rules.specs.Machine.{State, state, lentTo, outside, mayGo, farther, sooner, count, markedChecks, carved, carve, toOpen, finish}
 use Rattle.rules.specs.Begin.{isIn, exposed, statusAt, begin}
 use Rattle.rules.specs.Demand.{Call, Unchanged, Sums, Demand}
-use Rattle.rules.specs.Cases.{sides, plainCarve, plainTake, plainOpen, carvedTo, valuesC, caseC, caseD, valuesD, valuesArc, arc}
+use Rattle.rules.specs.Faces.{facesOf, lastOr}
+use Rattle.rules.specs.Cases.{sides, plainCarve, plainTake, plainOpen, carvedTo, carvedFace, valuesC, caseC, caseD, valuesD, valuesArc, arc}
 
 -- ---- a carve by another rule: whether the voxel goes, and the status bytes after it went
 
@@ -169,3 +170,24 @@ pub record WrongMarks : Type 0 where
   pub only-hurried-pending : OtherStart (λ s m kept i. m .hurried i)
   pub hurried-at-the-surface : OtherStart (λ s m kept i. (m .hurried i || not (m .pinned i)) && exposed s kept i)
   pub pinned-pending : OtherStart (λ s m kept i. m .hurried i || exposed s kept i)
+
+-- ---- document 02's CR 8: the face of another removal
+
+abbrev pub isDone : {A : Type 0} → Reply A → Bool
+isDone (refused n) = false
+isDone (done a) = true
+
+-- a carve that is not refused does not tell that one of the faces of its removals
+abbrev pub OtherLast : (List ℕ → ℕ) → Type 0
+OtherLast told =
+    ((marks : List ℕ) (limit : ℕ) (g : State) → isDone (carve marks limit g .answer) ≡ true
+    → let m = marked marks in
+    carvedFace marks limit g ≡ told (facesOf (g .rec .sides) (mayGo m (g .dist)) (sooner m (g .dist)) limit (g .status))) → ⊥
+
+abbrev pub firstOr : ℕ → List ℕ → ℕ
+firstOr n [] = n
+firstOr n (face ∷ faces) = face
+
+pub record WrongLast : Type 0 where
+  pub first-removal : OtherLast (firstOr 6)
+  pub none-is-0 : OtherLast (lastOr 0)

@@ -32,13 +32,20 @@ pub enum Carved {
         examined: u32,
         removed: u32,
         pending: bool,
+        // the face of its last removal, 6 where it made none
+        face: u32,
         next: Record,
     },
     Refused(u8),
 }
 
 pub enum Taken {
-    Gone { k: u32, m: u32, next: Record },
+    Gone {
+        k: u32,
+        m: u32,
+        face: u32,
+        next: Record,
+    },
     Refused(u8),
 }
 
@@ -47,6 +54,7 @@ pub enum Opened {
         index: usize,
         k: u32,
         m: u32,
+        face: u32,
         next: Record,
     },
     Refused(u8),

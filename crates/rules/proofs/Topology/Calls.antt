@@ -16,7 +16,7 @@ use Rattle.rules.specs.declared.Record.{Record}
 use Rattle.rules.specs.Grid.{size, range, voxels}
 use Rattle.rules.specs.Begin.{exposed}
 use Rattle.rules.specs.Meaning.{found}
-use Rattle.rules.specs.Status.{Progress, isKept, isPending, anyPending, removable, firstOf, goes, examine, carving, counted, openable}
+use Rattle.rules.specs.Status.{openable, Progress, isKept, isPending, anyPending, removable, testAt, firstOf, goes, examine, counted, examining, carving}
 use Rattle.rules.specs.Marks.{Marked, marked}
 use Rattle.rules.specs.Machine.{State, after, lentTo, isInside, outside, mayGo, farther, sooner, count, markedChecks, takeChecks, openChecks}
 use Rattle.rules.specs.Machine.{finishChecks, carved, taken, toOpen, isNone, opened, theVoxel, finishedOf, carve, take, openNext, finish}
@@ -68,14 +68,11 @@ module _ (s : Sides) (S pins held free : ℕ → Bool) (ahead : ℕ → ℕ → 
   carving-sound (suc limit) status t sound = go (firstOf s ahead (isPending status)) refl (λ i t sound. carving-sound limit (examine s free status i) t sound)
     where
       next : Option ℕ → Progress
-      next o = elim o [
-        | none ↦ record { examined = 0; removed = 0; status = status }
-        | some i ↦ counted (goes s free status i) (carving s free ahead limit (examine s free status i))
-      ]
+      next o = examining s free status (λ i. carving s free ahead limit (examine s free status i)) o
 
-      more : (u : Bool) (p : Progress) → Sound s S held total (p .status) (grown (examinedOnce u t) p)
-          → Sound s S held total (counted u p .status) (grown t (counted u p))
-      more u p h = subst (λ (t : Tally). Sound s S held total (p .status) t) (λ n. tally (examinations n) (removals u n) (t .opened) (t .number)) h
+      more : (u : Bool) (face : ℕ) (p : Progress) → Sound s S held total (p .status) (grown (examinedOnce u t) p)
+          → Sound s S held total (counted u face p .status) (grown t (counted u face p))
+      more u face p h = subst (λ (t : Tally). Sound s S held total (p .status) t) (λ n. tally (examinations n) (removals u n) (t .opened) (t .number)) h
         where
           examinations : p .examined + suc (t .examined) ≡ suc (p .examined) + t .examined
           examinations = omega arith
@@ -91,7 +88,7 @@ module _ (s : Sides) (S pins held free : ℕ → Bool) (ahead : ℕ → ℕ → 
       go none e rest = nothing-done status t sound
       go (some i) e rest =
           let first = first-foremost s ahead order (isPending status) i e in
-          more (goes s free status i) (carving s free ahead limit (examine s free status i))
+          more (goes s free status i) (testAt s status i .face) (carving s free ahead limit (examine s free status i))
           (rest i (examinedOnce (goes s free status i) t)
           (sound-examined s S pins held free total within free-is status t sound i (first .below) (first .chosen)))
 
@@ -103,10 +100,7 @@ module _ (s : Sides) (S pins held free : ℕ → Bool) (ahead : ℕ → ℕ → 
   carving-examines (suc limit) status = go (firstOf s ahead (isPending status)) refl (λ i. carving-examines limit (examine s free status i))
     where
       next : Option ℕ → Progress
-      next o = elim o [
-        | none ↦ record { examined = 0; removed = 0; status = status }
-        | some i ↦ counted (goes s free status i) (carving s free ahead limit (examine s free status i))
-      ]
+      next o = examining s free status (λ i. carving s free ahead limit (examine s free status i)) o
 
       quiet : firstOf s ahead (isPending status) ≡ none → anyPending s status ≡ false
       quiet e =
