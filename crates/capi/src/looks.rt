@@ -84,7 +84,7 @@ pub extern "C" fn wattlerugby_write_6(
 
 // The kept voxels are the bits of one number.
 #[no_mangle]
-pub extern "C" fn wattlerugby_local_test(kept: u32) -> Local
+pub extern "C" fn wattlerugby_local_test_9(kept: u32) -> Local
     ensures { λ r. ⌜ asTest r ≡ test (has kept) ⌝ }
 {
     local_test::local_test_of(kept)

@@ -30,7 +30,7 @@ pub extern "C" fn wattlerugby_begin_8(
 }
 
 #[no_mangle]
-pub extern "C" fn wattlerugby_carve_8(
+pub extern "C" fn wattlerugby_carve_9(
     given: CRecord,
     dist: &[i32],
     marks: &[u8],
@@ -45,7 +45,7 @@ pub extern "C" fn wattlerugby_carve_8(
 }
 
 #[no_mangle]
-pub extern "C" fn wattlerugby_take_8(
+pub extern "C" fn wattlerugby_take_9(
     given: CRecord,
     dist: &[i32],
     marks: &[u8],
@@ -60,7 +60,7 @@ pub extern "C" fn wattlerugby_take_8(
 }
 
 #[no_mangle]
-pub extern "C" fn wattlerugby_open_8(
+pub extern "C" fn wattlerugby_open_9(
     given: CRecord,
     dist: &[i32],
     marks: &[u8],

@@ -46,11 +46,11 @@ pub carved-is :
     (m : Marked) (g : State) (limit : ℕ) (after : List ℕ) (t : Tally) (next : Record)
     → Tallied (g .rec .sides) m (g .dist) limit (g .status) after t
     → next ≡ count (g .rec) (t .examined) (t .removed) 0 (pos 0)
-    → outcome (done (record { examined = t .examined; removed = t .removed; pending = t .pending; next = next })) (buffers (g .dist) after)
+    → outcome (done (record { examined = t .examined; removed = t .removed; pending = t .pending; face = t .face; next = next })) (buffers (g .dist) after)
     ≡ carved (mayGo m (g .dist)) (sooner m (g .dist)) limit g
 unfolding carved
 carved-is m g limit after t next r e =
-    (λ j. outcome (done (record { examined = t .examined; removed = t .removed; pending = r .left j; next = e j })) (buffers (g .dist) after))
+    (λ j. outcome (done (record { examined = t .examined; removed = t .removed; pending = r .left j; face = t .face; next = e j })) (buffers (g .dist) after))
     ∙ ap told (r .rule)
   where
     -- what is answered of a run
@@ -62,6 +62,7 @@ carved-is m g limit after t next r e =
           examined = q .examined;
           removed = q .removed;
           pending = anyPending (g .rec .sides) (q .status);
+          face = q .face;
           next = count (g .rec) (q .examined) (q .removed) 0 (pos 0);
         }
         ))

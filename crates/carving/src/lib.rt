@@ -34,6 +34,7 @@ fn carve_fit(given: Record, dist: &[i32], marks: &[u8], status: &mut [u8], limit
         examined: t.examined,
         removed: t.removed,
         pending: t.pending,
+        face: t.face,
         next: counting::counted(given, t.examined, t.removed, 0, 0),
     }
 }

@@ -1,29 +1,32 @@
 -- A body whose pending voxels are kept stays one.
-use mathlib.Core.Path.{_≡_, sym, ap, _∙_, subst}
+use mathlib.Core.Path.{_≡_, sym, ap, ap₂, _∙_}
 use mathlib.Core.Logic.{inl, inr}
-use mathlib.Core.Bool.{Bool, true, false, not, cond, _&&_, _||_}
+use mathlib.Core.Bool.{Bool, true, false, not, cond, _&&_}
 use mathlib.Core.List.{List}
-use Prim.Native.Nat.{ℕ, _<_}
+use Prim.Native.Nat.{ℕ, suc, _+_, _<_}
 use native.Mathlib.Omega.{arith}
-use native.Mathlib.Decide.{ℕ-discrete, decLt}
-use lib.Dec.{eqb}
+use borrow.Author.Tests.{ne-eqb}
+use lib.Dec.{eqb, lit<}
 use lib.IntN.{ℤ}
-use lib.ListN.{length, set, length-set}
-use lib.Seq.{getD-set-same, getD-set-other}
-use Rattle.prelude.proofs.Bools.{and-true, true-and, or-true, not-both}
-use Rattle.prelude.proofs.Ranges.{getD-map-range, length-map-range}
+use lib.ListN.{length, set}
+use Rattle.cells.specs.Cells.{Test, test}
+use Rattle.closed_sets.proofs.EveryBlock.{test-ext}
+use Rattle.prelude.proofs.Bools.{and-true, true-and, and-one, or-true, not-both}
 use Rattle.rules.specs.declared.Sides.{Sides}
-use Rattle.rules.specs.Grid.{size, voxels, touch}
-use Rattle.rules.specs.Status.{statusOf, keptByte, pendingByte, isKept, isPending, rested, removable, statusWithout, without, goes, examinedAs, examine}
+use Rattle.rules.specs.Grid.{size, touch, neighbourhood}
+use Rattle.rules.specs.Status.{statusOf, keptByte, pendingByte, isKept, isPending, testAt, rested, without, goes, examinedAs, examine, latest}
 use Rattle.rules.specs.Marks.{Marked}
 use Rattle.rules.specs.Machine.{mayGo}
 use Rattle.rules.specs.Fit.{Known, FitVoxels}
-use Rattle.rules.proofs.Topology.Bytes.{rested-kept, rested-pending, still-kept, now-pending}
-use Rattle.rules.proofs.Topology.Steps.{pending-beyond}
-use Rattle.neighbourhood.specs.Neighbourhood.{Inner}
+use Rattle.rules.proofs.Topology.Surface.{omit}
+use Rattle.rules.proofs.Topology.Around.{place-low}
+use Rattle.rules.proofs.Topology.Steps.{length-without, kept-without, pending-without, length-stayed, kept-stayed, pending-stayed}
+use Rattle.neighbourhood.specs.Neighbourhood.{Inner, around}
+use Rattle.neighbourhood.proofs.Interior.{around-middle, around-apart}
+use Rattle.neighbourhood.proofs.Gathering.{neighbourhood-around}
 use Rattle.neighbourhood.proofs.Bodies.{kept-inner, fit-body}
 use Rattle.pending.specs.Index.{Index, Written}
-use Rattle.examining.specs.Examining.{Workable, Examined}
+use Rattle.examining.specs.Examining.{Workable, Examined, faceAfter}
 
 known-kept : (x : ℕ) → Known x → pendingByte x ≡ true → keptByte x ≡ true
 unfolding keptByte pendingByte
@@ -39,87 +42,78 @@ module _ (s : Sides) (status : List ℕ) (w : Workable s status) where
   pub pending-inner : (i : ℕ) → i < size s → isPending status i ≡ true → Inner s i
   pending-inner i h p = kept-inner s status (w .body) i h (w .pending i p)
 
-  -- ---- a voxel gone
+  abbrev lent : length status ≡ size s
+  lent = w .body .statuses
 
-  module _ (free : ℕ → Bool) (i : ℕ) where
-    abbrev after : List ℕ
-    after = without s free status i
-
-    length-after : length after ≡ size s
-    unfolding without voxels
-    length-after = length-map-range (statusWithout s free status i) (size s)
-
-    byte-after : (j : ℕ) → j < size s → statusOf after j ≡ statusWithout s free status i j
-    unfolding without voxels
-    byte-after j h = getD-map-range (statusWithout s free status i) 0 (size s) j h
-
-    kept-after : (j : ℕ) → j < size s → isKept after j ≡ isKept status j && not (eqb j i)
-    unfolding statusWithout removable isKept
-    kept-after j h = ap keptByte (byte-after j h) ∙ still-kept (statusOf status j) (eqb j i) (free j) (touch s i j)
-
-    pending-after : (j : ℕ) → j < size s
-        → isPending after j ≡ (isPending status j && not (eqb j i)) || ((isKept status j && not (eqb j i)) && (free j && touch s i j))
-    unfolding statusWithout removable isKept isPending
-    pending-after j h = ap pendingByte (byte-after j h) ∙ now-pending (statusOf status j) (eqb j i) (free j) (touch s i j)
-
-    pub workable-without : Workable s after
-    workable-without =
-        record {
-          body =
-              record {
-                sides = w .body .sides;
-                statuses = length-after;
-                border = λ j h e. kept-after j h ∙ ap (λ (t : Bool). t && not (eqb j i)) (w .body .border j h e);
-              };
-          pending = λ j e. waits j e (decLt j (size s));
-        }
-      where
-        waits : (j : ℕ) → isPending after j ≡ true → Dec (j < size s) → isKept after j ≡ true
-        waits j e (no n) = not-both (isPending after j) e (pending-beyond after j (omega (arith, length-after)))
-        waits j e (yes h) =
-            kept-after j h
-            ∙ elim (or-true (isPending status j && not (eqb j i)) _ (sym (pending-after j h) ∙ e)) [
-              | inl t ↦ (let p = and-true (isPending status j) (not (eqb j i)) t in true-and _ _ (w .pending j (p .0)) (p .1))
-              | inr t ↦ and-true (isKept status j && not (eqb j i)) (free j && touch s i j) t .0
-            ]
-
-  -- ---- a pending voxel rested
+  pub workable-without : (free : ℕ → Bool) (i : ℕ) → Workable s (without s free status i)
+  unfolding omit
+  workable-without free i =
+      let kept = kept-without s free status lent i in
+      let waiting = pending-without s free status lent i in
+      record {
+        body =
+            record {
+              sides = w .body .sides;
+              statuses = length-without s free status lent i;
+              border = λ j h e. (λ n. kept n j) ∙ ap (λ (t : Bool). t && not (eqb j i)) (w .body .border j h e);
+            };
+        pending = λ j e. (λ n. kept n j) ∙ elim (or-true (omit (isPending status) i j) (omit (isKept status) i j && (free j && touch s i j)) ((λ n. sym waiting n j) ∙ e)) [
+          | inl t ↦ (let p = and-true (isPending status j) (not (eqb j i)) t in true-and (isKept status j) (not (eqb j i)) (w .pending j (p .0)) (p .1))
+          | inr t ↦ and-true (omit (isKept status) i j) (free j && touch s i j) t .0
+        ];
+      }
 
   module _ (i : ℕ) (h : i < size s) (p : isPending status i ≡ true) where
-    abbrev x : ℕ
-    x = rested (statusOf status i)
-
-    here : statusOf (set status i x) i ≡ x
-    here = getD-set-same status i x 0 (subst (λ (n : ℕ). i < n) (sym (w .body .statuses)) h)
-
-    kept-rested : (j : ℕ) → isKept (set status i x) j ≡ isKept status j
-    unfolding isKept isPending
-    kept-rested j =
-        elim (ℕ-discrete j i) [
-          | yes e ↦ ap (λ (k : ℕ). keptByte (statusOf (set status i x) k)) e ∙ ap keptByte here ∙ rested-kept (statusOf status i) p ∙ ap
-              (λ (k : ℕ). keptByte (statusOf status k)) (sym e)
-          | no n ↦ ap keptByte (getD-set-other status i j x 0 n)
-        ]
-
-    pub workable-rested : Workable s (set status i x)
-    unfolding isPending
+    pub workable-rested : Workable s (set status i (rested (statusOf status i)))
+    unfolding omit
     workable-rested =
+        let kept = kept-stayed s status lent i h p in
+        let waiting = pending-stayed s status lent i h p in
         record {
           body =
               record {
                 sides = w .body .sides;
-                statuses = length-set status i x ∙ w .body .statuses;
-                border = λ j l e. kept-rested j ∙ w .body .border j l e;
+                statuses = length-stayed s status lent i h p;
+                border = λ j l e. (λ n. kept n j) ∙ w .body .border j l e;
               };
-          pending =
-              λ j e.
-              elim (ℕ-discrete j i) [
-                | yes q ↦
-                    not-both (pendingByte (statusOf (set status i x) j)) e
-                    (ap (λ (k : ℕ). pendingByte (statusOf (set status i x) k)) q ∙ ap pendingByte here ∙ rested-pending (statusOf status i) p)
-                | no n ↦ kept-rested j ∙ w .pending j (sym (ap pendingByte (getD-set-other status i j x 0 n)) ∙ e)
-              ];
+          pending = λ j e. (λ n. kept n j) ∙ w .pending j (and-true (isPending status j) (not (eqb j i)) ((λ n. sym waiting n j) ∙ e) .0);
         }
+
+    -- what is kept around a voxel that is gone, and around any that was gone before, is as it was
+    test-gone : (free : ℕ → Bool) → testAt s (without s free status i) i ≡ testAt s status i
+    unfolding testAt omit
+    test-gone free =
+        let n = pending-inner i h p in
+        let kept = isKept status in
+        ap (λ (k : ℕ → Bool). test (neighbourhood s k i)) (kept-without s free status lent i)
+        ∙ test-ext (neighbourhood s (omit kept i) i) (neighbourhood s kept i) (λ v m.
+        let l = place-low v m in
+        neighbourhood-around s i n (omit kept i) v (l .0)
+        ∙ ap (λ (t : Bool). kept (around s i v) && not t)
+        (ne-eqb (around s i v) i (λ e. l .1 (around-apart s i n v 13 (l .0) (lit< tt) (e ∙ sym (around-middle s i n)))))
+        ∙ and-one (kept (around s i v))
+        ∙ sym (neighbourhood-around s i n kept v (l .0)))
+
+    test-rested : (j : ℕ) → testAt s (set status i (rested (statusOf status i))) j ≡ testAt s status j
+    unfolding testAt
+    test-rested j = ap (λ (k : ℕ → Bool). test (neighbourhood s k j)) (kept-stayed s status lent i h p)
+
+    pub face-examined :
+        (free : ℕ → Bool) (removed last : ℕ)
+        → let u = goes s free status i in
+        faceAfter s (examine s free status i) (removed + cond u 1 0) (latest last (cond u 1 0) i)
+        ≡ latest (faceAfter s status removed last) (cond u 1 0) (testAt s status i .face)
+    unfolding examine
+    face-examined free removed last = go (goes s free status i)
+      where
+        go : (u : Bool) → faceAfter s (examinedAs u s free status i) (removed + cond u 1 0) (latest last (cond u 1 0) i)
+            ≡ latest (faceAfter s status removed last) (cond u 1 0) (testAt s status i .face)
+        go true =
+            let e : removed + 1 ≡ suc removed = omega arith in
+            ap (λ (n : ℕ). latest 6 n (testAt s (without s free status i) i .face)) e ∙ ap (λ (t : Test). t .face) (test-gone free)
+        go false =
+            let e : removed + 0 ≡ removed = omega arith in
+            ap₂ (λ (n : ℕ) (t : Test). latest 6 n (t .face)) e (test-rested last)
 
   pub workable-examine : (free : ℕ → Bool) (i : ℕ) → i < size s → isPending status i ≡ true → Workable s (examine s free status i)
   unfolding examine

@@ -7,7 +7,7 @@ use lib.IntN.{ℤ}
 use lib.ListN.{length}
 use Rattle.rules.specs.declared.Sides.{Sides}
 use Rattle.rules.specs.Grid.{size}
-use Rattle.rules.specs.Status.{isKept, isPending, anyPending, goes, examine, progress, carving}
+use Rattle.rules.specs.Status.{isKept, isPending, anyPending, testAt, goes, examine, progress, latest, carving}
 use Rattle.rules.specs.Marks.{Marked}
 use Rattle.rules.specs.Machine.{mayGo, sooner}
 use Rattle.neighbourhood.specs.Neighbourhood.{Inner, Body}
@@ -53,10 +53,20 @@ pub record Examined (s : Sides) (m : Marked) (dist : List ℤ) (before after off
 
 -- ---- up to so many examinations
 
+-- the face of the last removal, from the status bytes after it
+abbrev pub faceAfter : Sides → List ℕ → ℕ → ℕ → ℕ
+faceAfter s status removed last = latest 6 removed (testAt s status last .face)
+
+-- the last voxel removed, if any was, is off the border
+pub record LastAt (s : Sides) (status : List ℕ) (removed last : ℕ) : Type 0 where
+  pub statuses : length status ≡ size s
+  pub voxel : (removed ≡ 0 → ⊥) → Inner s last
+
 pub record Run (s : Sides) (m : Marked) (dist : List ℤ) (limit : ℕ) (before after offsets tree : List ℕ) (c : Count) : Type 0 where
-  pub rule : progress (c .examined) (c .removed) after ≡ carving s (mayGo m dist) (sooner m dist) limit before
+  pub rule : progress (c .examined) (c .removed) (faceAfter s after (c .removed) (c .last)) after ≡ carving s (mayGo m dist) (sooner m dist) limit before
   pub up-to : c .examined ≤ limit
   pub fewer : c .removed ≤ c .examined
+  pub last : LastAt s after (c .removed) (c .last)
   pub index : Index m dist after offsets tree
 
 -- buffers to work on, and room for their index
@@ -65,7 +75,7 @@ pub record Lending (s : Sides) (dist : List ℤ) (status offsets tree : List ℕ
   pub room : Room dist status offsets tree
 
 pub record Tallied (s : Sides) (m : Marked) (dist : List ℤ) (limit : ℕ) (before after : List ℕ) (t : Tally) : Type 0 where
-  pub rule : progress (t .examined) (t .removed) after ≡ carving s (mayGo m dist) (sooner m dist) limit before
+  pub rule : progress (t .examined) (t .removed) (t .face) after ≡ carving s (mayGo m dist) (sooner m dist) limit before
   pub up-to : t .examined ≤ limit
   pub fewer : t .removed ≤ t .examined
   pub left : t .pending ≡ anyPending s after

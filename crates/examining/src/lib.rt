@@ -5,14 +5,14 @@ ghost use Prim.Native.Nat.{_*_, _≤_, _<_};
 ghost use lib.ListN.{length};
 ghost use Rattle.cells.specs.Groups.{any};
 ghost use Rattle.rules.specs.Grid.{range};
-ghost use Rattle.rules.specs.Status.{isPending, rested};
+ghost use Rattle.rules.specs.Status.{isPending, rested, latest};
 ghost use Rattle.rules.specs.Marks.{marked};
 ghost use Rattle.rules.specs.Machine.{mayGo};
 ghost use Rattle.bits.specs.Bits.{bits};
 ghost use Rattle.neighbourhood.specs.Neighbourhood.{firstAround};
 ghost use Rattle.waking.specs.Waking.{idleBit, Only, AtBits, fromVoxel};
 ghost use Rattle.pending.specs.Index.{Index};
-ghost use Rattle.examining.specs.Examining.{Workable, Callables, Roused, Leaving, Examinable, Examined, Run, Lending, Tallied};
+ghost use Rattle.examining.specs.Examining.{Workable, Callables, Roused, Leaving, Examinable, Examined, faceAfter, LastAt, Run, Lending, Tallied};
 use pending::Choice;
 use rules::Sides;
 
@@ -138,10 +138,21 @@ fn examine(
     0
 }
 
-// How many voxels were examined, and how many of them removed.
+// The last voxel removed: i where it is gone, else the one before.
+fn later(last: usize, gone: u32, i: usize) -> usize
+    ensures { λ r. ⌜ r ≡ latest last gone i ⌝ }
+{
+    if gone == 0 {
+        return last;
+    }
+    i
+}
+
+// How many voxels were examined, how many of them removed, and the last of these.
 pub struct Count {
     pub examined: u32,
     pub removed: u32,
+    pub last: usize,
 }
 
 // Examines pending voxels, the farthest first, up to limit times.
@@ -160,20 +171,25 @@ fn run(
 {
     let mut examined: u32 = 0;
     let mut removed: u32 = 0;
+    let mut last: usize = 0;
     while examined < limit {
         let next = pending::best(dist, marks, status, offsets, tree);
         let Choice::At(i) = next else {
             return Count {
                 examined: examined,
                 removed: removed,
+                last: last,
             };
         };
-        removed += examine(s, dist, marks, status, offsets, tree, i);
+        let gone = examine(s, dist, marks, status, offsets, tree, i);
+        last = later(last, gone, i);
+        removed += gone;
         examined += 1;
     }
     Count {
         examined: examined,
         removed: removed,
+        last: last,
     }
 }
 
@@ -188,11 +204,23 @@ fn any_pending(dist: &[i32], marks: &[u8], status: &[u8], offsets: &[u8], tree: 
     }
 }
 
-// The same, and whether any voxel is still pending.
+// The face of the last voxel removed, 6 where none was. It is made once, after all: what is kept around that voxel has not changed since.
+fn last_face(s: Sides, status: &[u8], removed: u32, last: usize) -> u32
+    requires { ⌜ LastAt s (now status) removed last ⌝ }
+    ensures { λ r. ⌜ r ≡ faceAfter s (now (status .entry)) removed last ⌝ }
+{
+    if removed == 0 {
+        return 6;
+    }
+    neighbourhood::groups_at(s, status, last).face
+}
+
+// How many voxels were examined and removed, whether any is still pending, and the face of the last removal.
 pub struct Tally {
     pub examined: u32,
     pub removed: u32,
     pub pending: bool,
+    pub face: u32,
 }
 
 // Examines up to limit times, over an index that is made for it in the lent offsets and tree.
@@ -215,5 +243,6 @@ pub fn carve(
         examined: c.examined,
         removed: c.removed,
         pending: left,
+        face: last_face(s, status, c.removed, c.last),
     }
 }

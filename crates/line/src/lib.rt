@@ -44,6 +44,7 @@ fn carve_on(given: Record, dist: &[i32], marks: &[u8], status: &mut [u8]) -> Rec
             examined: _,
             removed: _,
             pending: _,
+            face: _,
             next,
         } => next,
         Carved::Refused(_) => given,
@@ -65,6 +66,7 @@ fn open_on(given: Record, dist: &[i32], marks: &[u8], status: &mut [u8]) -> Open
             index: _,
             k: _,
             m: _,
+            face: _,
             next,
         } => Opening { opened: true, next },
         Opened::Refused(_) => Opening {

@@ -17,8 +17,8 @@ abbrev pub keptInLayer : List ℕ → ℕ → Bool
 keptInLayer layer p = has (getD layer (p / 3) 0) (p % 3)
 
 abbrev pub asTest : Local → Test
-asTest l = record { k = l .k; m = l .m; corners = l .corners; edges = l .edges; faces = l .faces }
+asTest l = record { k = l .k; m = l .m; corners = l .corners; edges = l .edges; faces = l .faces; face = l .face }
 
--- the groups are those of the test: with them it is the same
+-- the groups and the face are those of the test: with them it is the same
 abbrev pub GroupsOf : Test → Groups → Type 0
-GroupsOf t g = record { k = g .k; m = g .m; corners = t .corners; edges = t .edges; faces = t .faces } ≡ t
+GroupsOf t g = record { k = g .k; m = g .m; corners = t .corners; edges = t .edges; faces = t .faces; face = g .face } ≡ t

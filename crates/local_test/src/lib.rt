@@ -1,18 +1,21 @@
 // The 26-neighbour test of document 01. The touched cells are the bits of one number, at x + 3 y + 9 z with the middle left out; masked
-// counts of ones give their kinds, and the rank of the touched edges gives their groups.
+// counts of ones give their kinds, the rank of the touched edges gives their groups, and six of the bits the lowest numbered bare face.
 ghost use mathlib.Core.Path.{_≡_};
+ghost use mathlib.Core.Bool.{not};
 ghost use Prim.Native.Nat.{_+_, _≤_};
 ghost use lib.Bits.{bitAnd};
 ghost use lib.Count.{ones};
-ghost use Rattle.cells.specs.Cells.{bit, touched, test, passes};
+ghost use Rattle.cells.specs.Cells.{bit, touched, numberedFaces, before, test, passes};
+ghost use Rattle.cells.specs.Faces.{faceAt};
 ghost use Rattle.closed_sets.specs.Rank.{rank, rankOf3, rankOf4};
 ghost use Rattle.bits.specs.Bits.{has, bits};
 ghost use Rattle.local_test.specs.Block.{keptIn, keptInLayer, asTest, GroupsOf};
 
-// The groups of touched cells and of bare ones.
+// The groups of touched cells and of bare ones, and the lowest numbered bare face, or 6.
 pub struct Groups {
     pub k: u32,
     pub m: u32,
+    pub face: u32,
 }
 
 // The same, and the kinds of the touched cells. It is laid out as C has it, so that a call from C hands it back as it is.
@@ -23,6 +26,7 @@ pub struct Local {
     pub corners: u32,
     pub edges: u32,
     pub faces: u32,
+    pub face: u32,
 }
 
 fn wide(x: u8) -> u32
@@ -114,7 +118,21 @@ fn bare_groups(k: u32, corners: u32, edges: u32, faces: u32) -> u32
     k + 1 + edges - corners - faces
 }
 
-// k and m alone, of a block given by its kept voxels as bits.
+// The touched faces, each at its number: low x, high x, low y, high y, low z, high z. High x and high y move by the same.
+fn face_bits(t: u32) -> u32
+    ensures { λ r. ⌜ r ≡ bits 6 (λ n. has t (faceAt n)) ⌝ }
+{
+    (t >> 12 & 1) + (t >> 13 & 10) + (t >> 8 & 4) + (t & 16) + (t >> 17 & 32)
+}
+
+// The lowest numbered bare face, or 6. One more than the touched ones has its lowest 1 where their lowest 0 was.
+fn bare_face(t: u32) -> u32
+    ensures { λ r. ⌜ r ≡ before (λ c. not (has t c)) numberedFaces ⌝ }
+{
+    u32::trailing_zeros(face_bits(t) + 1)
+}
+
+// k, m and the face alone, of a block given by its kept voxels as bits.
 pub fn groups_of(kept: u32) -> Groups
     ensures { λ r. ⌜ GroupsOf (test (has kept)) r ⌝ }
 {
@@ -128,6 +146,7 @@ pub fn groups_of(kept: u32) -> Groups
             u32::count_ones(t & 0o252505252),
             u32::count_ones(t & 0o020252020),
         ),
+        face: bare_face(t),
     }
 }
 
@@ -146,6 +165,7 @@ pub fn local_test_of(kept: u32) -> Local
         corners: corners,
         edges: edges,
         faces: faces,
+        face: bare_face(t),
     }
 }
 

@@ -71,7 +71,7 @@ pub fn kept_bits(code: u64) -> u32
     ((x16 | x16 >> 16) & 0x7FFFFFF) as u32
 }
 
-// k and m of the local test of voxel i.
+// k, m and the face of the local test of voxel i.
 pub fn groups_at(s: Sides, status: &[u8], i: usize) -> Groups
     requires { ⌜ Inner s i × (length (now status) ≡ size s) ⌝ }
     ensures { λ r. ⌜ GroupsOf (testAt s (now (status .entry)) i) r ⌝ }

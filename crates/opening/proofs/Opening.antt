@@ -54,12 +54,12 @@ module _ (free : ℕ → Bool) (g : State) where
       → next ≡ count (g .rec) 0 1 1 change
       → change ≡ pos (r .k) -ℤ pos (r .m)
       → status ≡ without (g .rec .sides) free (g .status) i
-      → outcome (done (record { index = i; k = r .k; m = r .m; next = next })) (buffers (g .dist) status) ≡ opened free i g
+      → outcome (done (record { index = i; k = r .k; m = r .m; face = r .face; next = next })) (buffers (g .dist) status) ≡ opened free i g
   unfolding opened
   opened-is i r next status change e f c h =
       let n : next ≡ count (g .rec) 0 1 1 (pos (testAt (g .rec .sides) (g .status) i .k) -ℤ pos (testAt (g .rec .sides) (g .status) i .m)) =
       f ∙ ap (count (g .rec) 0 1 1) (c ∙ ap (λ (u : Test). pos (u .k) -ℤ pos (u .m)) e) in
-      λ j. outcome (done (record { index = i; k = e j .k; m = e j .m; next = n j })) (buffers (g .dist) (h j))
+      λ j. outcome (done (record { index = i; k = e j .k; m = e j .m; face = e j .face; next = n j })) (buffers (g .dist) (h j))
 
 -- ---- open, by its checks up to 14 and what the search finds
 

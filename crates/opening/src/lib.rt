@@ -52,6 +52,7 @@ fn open_at(given: Record, dist: &[i32], marks: &[u8], status: &mut [u8], i: usiz
         index: i,
         k: t.k,
         m: t.m,
+        face: t.face,
         next: counting::counted(given, 0, 1, 1, change(t.k, t.m)),
     }
 }

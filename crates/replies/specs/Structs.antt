@@ -1,4 +1,4 @@
--- What each struct holds for each reply. After a refusal the numbers are 0, and `next` is the record given.
+-- What each struct holds for each reply. After a refusal the numbers are 0, the face too, where 0 means nothing, and `next` is the record given.
 use mathlib.Core.Bool.{Bool, false, not}
 use lib.Dec.{eqb}
 use lib.IntN.{pos}
@@ -58,16 +58,17 @@ beginStruct (refused n) = record { refusal = n; next = noRecord }
 beginStruct (done next) = record { refusal = 0; next = recordOut next }
 
 abbrev pub carveStruct : CRecord → Reply Carving → CarveAnswer
-carveStruct given (refused n) = record { refusal = n; examined = 0; removed = 0; pending = false; next = given }
-carveStruct given (done a) = record { refusal = 0; examined = a .examined; removed = a .removed; pending = a .pending; next = recordOut (a .next) }
+carveStruct given (refused n) = record { refusal = n; examined = 0; removed = 0; pending = false; face = 0; next = given }
+carveStruct given (done a) =
+    record { refusal = 0; examined = a .examined; removed = a .removed; pending = a .pending; face = a .face; next = recordOut (a .next) }
 
 abbrev pub takeStruct : CRecord → Reply Removal → TakeAnswer
-takeStruct given (refused n) = record { refusal = n; k = 0; m = 0; next = given }
-takeStruct given (done a) = record { refusal = 0; k = a .k; m = a .m; next = recordOut (a .next) }
+takeStruct given (refused n) = record { refusal = n; k = 0; m = 0; face = 0; next = given }
+takeStruct given (done a) = record { refusal = 0; k = a .k; m = a .m; face = a .face; next = recordOut (a .next) }
 
 abbrev pub openStruct : CRecord → Reply Opening → OpenAnswer
-openStruct given (refused n) = record { refusal = n; index = 0; k = 0; m = 0; next = given }
-openStruct given (done a) = record { refusal = 0; index = a .index; k = a .k; m = a .m; next = recordOut (a .next) }
+openStruct given (refused n) = record { refusal = n; index = 0; k = 0; m = 0; face = 0; next = given }
+openStruct given (done a) = record { refusal = 0; index = a .index; k = a .k; m = a .m; face = a .face; next = recordOut (a .next) }
 
 abbrev pub finishStruct : CRecord → Reply Record → FinishAnswer
 finishStruct given (refused n) = record { refusal = n; next = given }

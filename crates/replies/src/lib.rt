@@ -105,6 +105,7 @@ pub struct CarveAnswer {
     pub examined: u32,
     pub removed: u32,
     pub pending: bool,
+    pub face: u32,
     pub next: CRecord,
 }
 
@@ -113,6 +114,7 @@ pub struct TakeAnswer {
     pub refusal: u8,
     pub k: u32,
     pub m: u32,
+    pub face: u32,
     pub next: CRecord,
 }
 
@@ -122,6 +124,7 @@ pub struct OpenAnswer {
     pub index: usize,
     pub k: u32,
     pub m: u32,
+    pub face: u32,
     pub next: CRecord,
 }
 
@@ -139,12 +142,14 @@ pub fn carve_answer(given: CRecord, a: Carved) -> CarveAnswer
             examined,
             removed,
             pending,
+            face,
             next,
         } => CarveAnswer {
             refusal: 0,
             examined,
             removed,
             pending,
+            face,
             next: record_out(next),
         },
         Carved::Refused(refusal) => CarveAnswer {
@@ -152,6 +157,7 @@ pub fn carve_answer(given: CRecord, a: Carved) -> CarveAnswer
             examined: 0,
             removed: 0,
             pending: false,
+            face: 0,
             next: given,
         },
     }
@@ -161,16 +167,18 @@ pub fn take_answer(given: CRecord, t: Taken) -> TakeAnswer
     ensures { λ r. ⌜ r ≡ takeStruct given (takenAnswer t) ⌝ }
 {
     match t {
-        Taken::Gone { k, m, next } => TakeAnswer {
+        Taken::Gone { k, m, face, next } => TakeAnswer {
             refusal: 0,
             k,
             m,
+            face,
             next: record_out(next),
         },
         Taken::Refused(refusal) => TakeAnswer {
             refusal,
             k: 0,
             m: 0,
+            face: 0,
             next: given,
         },
     }
@@ -180,11 +188,18 @@ pub fn open_answer(given: CRecord, o: Opened) -> OpenAnswer
     ensures { λ r. ⌜ r ≡ openStruct given (openedAnswer o) ⌝ }
 {
     match o {
-        Opened::Through { index, k, m, next } => OpenAnswer {
+        Opened::Through {
+            index,
+            k,
+            m,
+            face,
+            next,
+        } => OpenAnswer {
             refusal: 0,
             index,
             k,
             m,
+            face,
             next: record_out(next),
         },
         Opened::Refused(refusal) => OpenAnswer {
@@ -192,6 +207,7 @@ pub fn open_answer(given: CRecord, o: Opened) -> OpenAnswer
             index: 0,
             k: 0,
             m: 0,
+            face: 0,
             next: given,
         },
     }

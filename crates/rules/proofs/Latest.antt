@@ -8,7 +8,10 @@ use native.Mathlib.Omega.{arith}
 use Rattle.rules.specs.declared.Sides.{Sides}
 use Rattle.rules.specs.Status.{Progress, latest, counted, isPending, testAt, firstOf, goes, examine, examining, carving}
 
--- a lot that removed any
+-- a lot that removed none, and one that removed any
+pub latest-none : (earlier removed later : ℕ) → removed ≡ 0 → latest earlier removed later ≡ earlier
+latest-none earlier removed later e = ap (λ (n : ℕ). latest earlier n later) e
+
 pub latest-some : (earlier removed later : ℕ) → (removed ≡ 0 → ⊥) → latest earlier removed later ≡ later
 latest-some earlier zero later n = absurd (n refl)
 latest-some earlier (suc removed) later n = refl

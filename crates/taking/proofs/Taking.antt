@@ -23,6 +23,6 @@ module _ (free : ℕ → Bool) (g : State) where
       → GroupsOf (testAt (g .rec .sides) (g .status) i) r
       → next ≡ count (g .rec) 0 1 0 (pos 0)
       → status ≡ without (g .rec .sides) free (g .status) i
-      → outcome (done (record { k = r .k; m = r .m; next = next })) (buffers (g .dist) status) ≡ taken free i g
+      → outcome (done (record { k = r .k; m = r .m; face = r .face; next = next })) (buffers (g .dist) status) ≡ taken free i g
   unfolding taken
-  taken-is i r next status e f h = λ j. outcome (done (record { k = e j .k; m = e j .m; next = f j })) (buffers (g .dist) (h j))
+  taken-is i r next status e f h = λ j. outcome (done (record { k = e j .k; m = e j .m; face = e j .face; next = f j })) (buffers (g .dist) (h j))

@@ -57,6 +57,7 @@ fn take_fit(given: Record, dist: &[i32], marks: &[u8], status: &mut [u8], index:
     Taken::Gone {
         k: t.k,
         m: t.m,
+        face: t.face,
         next: counting::counted(given, 0, 1, 0, 0),
     }
 }

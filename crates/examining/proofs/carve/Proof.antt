@@ -1,4 +1,4 @@
--- `examining::carve` meets its contract: the index is made, then the examinations, then a look at what is left.
+-- `examining::carve` meets its contract: the index is made, then the examinations, then a look at what is left and at the last removal.
 use borrow.Author.Needs.{needs}
 use Rattle.rules.specs.Marks.{marked}
 use Rattle.examining.proofs.Running.{tallied}
@@ -24,6 +24,9 @@ run-requires c κs = search needs
 any-pending-requires : tie.Need-any-pending-requires
 any-pending-requires c κs = search needs
 
+last-face-requires : tie.Need-last-face-requires
+last-face-requires c κs = ran (c .before) .run .ensures .last
+
 same-length : tie.Need-same-length
 same-length c = search needs
 
@@ -35,12 +38,13 @@ same-length-3 c = search needs
 
 returns : tie.Need-returns
 returns c =
-    let r = ran c in
+    let p = c .before .before in
+    let r = ran p in
     let s = start (built r) in
     let a = s .args in
-    tallied (a .s) (marked (a .marks .now)) (a .dist .now) (a .limit) (a .status .now) _ _ _ _ (c .any-pending .result) (s .pre .work)
+    tallied (a .s) (marked (a .marks .now)) (a .dist .now) (a .limit) (a .status .now) _ _ _ _ (p .any-pending .result) _ (s .pre .work)
     (r .run .kept .1 .1 .1 .0) (r .run .ensures)
-    (c .any-pending .ensures)
+    (p .any-pending .ensures) (c .last-face .ensures)
 
 pub carve-spec : {M : Type 1} → statement M
 carve-spec =
@@ -49,6 +53,7 @@ carve-spec =
     build-requires
     run-requires
     any-pending-requires
+    last-face-requires
     same-length
     same-length-2
     same-length-3

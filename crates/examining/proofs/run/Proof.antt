@@ -13,11 +13,11 @@ use Rattle.examining.proofs.run.Statement.{statement}
 use Rattle.examining.proofs.run.Tie as tie
 
 abbrev Inv-loop : tie.InvT-loop
-Inv-loop s dist marks status₀ offsets₀ tree₀ limit examined₀ removed₀ status offsets tree examined removed =
-    Running s (marked marks) dist limit status₀ offsets₀ tree₀ status offsets tree examined removed
+Inv-loop s dist marks status₀ offsets₀ tree₀ limit examined₀ removed₀ last₀ status offsets tree examined removed last =
+    Running s (marked marks) dist limit status₀ offsets₀ tree₀ status offsets tree examined removed last
 
 abbrev μ-loop : tie.MeasureT-loop
-μ-loop s dist marks status₀ offsets₀ tree₀ limit examined₀ removed₀ status offsets tree examined removed = limit - examined
+μ-loop s dist marks status₀ offsets₀ tree₀ limit examined₀ removed₀ last₀ status offsets tree examined removed last = limit - examined
 
 loop-holds : tie.Need-loop-holds Inv-loop μ-loop
 loop-holds c =
@@ -56,7 +56,7 @@ returns c =
     let a = start l .args in
     running-none (a .s) (marked (a .marks .now)) (a .dist .now) (a .limit) (a .status .now) (a .offsets .now) (a .tree .now) (l .loop .status)
     (l .loop .offsets)
-    (l .loop .tree) (l .loop .examined) (l .loop .removed) (l .loop .inv) _ refl refl
+    (l .loop .tree) (l .loop .examined) (l .loop .removed) (l .loop .last) (l .loop .inv)
     (subst (Best (marked (a .marks .now)) (a .dist .now) (l .loop .status)) (c .enum-told .given .1) (b .best .ensures))
 
 -- the voxel chosen
@@ -81,13 +81,18 @@ examine-requires c κs =
     let h =
     running-below (a .s) (marked (a .marks .now)) (a .dist .now) (a .limit) (a .status .now) (a .offsets .now) (a .tree .now) (l .loop .status)
     (l .loop .offsets)
-    (l .loop .tree) (l .loop .examined) (l .loop .removed) k _ b in
+    (l .loop .tree) (l .loop .examined) (l .loop .removed) (l .loop .last) k _ b in
     record { index = k .index; work = k .work; below = h; pending = b .pending _ refl }
+
+later-requires : tie.Need-later-requires Inv-loop μ-loop
+later-requires c κs = search needs
+
+abbrev examined-at : tie.After-later Inv-loop μ-loop → tie.After-examine Inv-loop μ-loop
+examined-at c = let k = c .before .before .before in k .before .before .before .before
 
 add-removed : tie.Need-add-removed Inv-loop μ-loop
 add-removed c =
-    let e-back = c .before .before .before in
-    let e = e-back .before .before .before in
+    let e = examined-at c in
     let x = chosen-at e in
     let b = x .before .before in
     let l = at-best b in
@@ -100,8 +105,7 @@ add-removed c =
 
 add-examined : tie.Need-add-examined Inv-loop μ-loop
 add-examined c =
-    let e-back = c .before .before .before in
-    let e = e-back .before .before .before in
+    let e = examined-at c in
     let b = chosen-at e .before .before in
     let f = start (at-best b) .fits .limit in
     let t = b .before .before .before .before .loop-test .taken in
@@ -109,24 +113,22 @@ add-examined c =
 
 loop-less : tie.Need-loop-less Inv-loop μ-loop
 loop-less c =
-    let e-back = c .before .before .before in
-    let e = e-back .before .before .before in
+    let e = examined-at c in
     let b = chosen-at e .before .before in
     let t = b .before .before .before .before .loop-test .taken in
     omega arith
 
 loop-again : tie.Need-loop-again Inv-loop μ-loop
 loop-again c =
-    let e-back = c .before .before .before in
-    let e = e-back .before .before .before in
+    let e = examined-at c in
     let x = chosen-at e in
     let b = x .before .before in
     let l = at-best b in
     let a = start l .args in
     running-step (a .s) (marked (a .marks .now)) (a .dist .now) (a .limit) (a .status .now) (a .offsets .now) (a .tree .now) (l .loop .status)
     (l .loop .offsets)
-    (l .loop .tree) (l .loop .examined) (l .loop .removed) (l .loop .inv) _ (best-at x) _ _ _ _
-    (b .before .before .before .before .loop-test .taken) (e .examine .ensures) (search needs) (search needs) (search needs)
+    (l .loop .tree) (l .loop .examined) (l .loop .removed) (l .loop .last) (l .loop .inv) _ (best-at x) _ _ _ _ _
+    (b .before .before .before .before .loop-test .taken) (e .examine .ensures) (c .later .ensures) (search needs) (search needs) (search needs)
 
 same-length-4 : tie.Need-same-length-4 Inv-loop μ-loop
 same-length-4 c = c .before .loop .inv .statuses
@@ -143,7 +145,7 @@ returns-2 c =
     let a = start l .args in
     running-done (a .s) (marked (a .marks .now)) (a .dist .now) (a .limit) (a .status .now) (a .offsets .now) (a .tree .now) (l .loop .status)
     (l .loop .offsets)
-    (l .loop .tree) (l .loop .examined) (l .loop .removed) (l .loop .inv) _ refl refl (c .loop-test .left)
+    (l .loop .tree) (l .loop .examined) (l .loop .removed) (l .loop .last) (l .loop .inv) (c .loop-test .left)
 
 pub run-spec : {M : Type 1} → statement M
 run-spec =
@@ -160,6 +162,7 @@ run-spec =
     same-length-3
     returns
     examine-requires
+    later-requires
     add-removed
     add-examined
     loop-less

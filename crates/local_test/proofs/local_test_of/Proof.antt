@@ -1,5 +1,5 @@
 -- `local_test::local_test_of` meets its contract: the groups and counts of ones give the test.
-use mathlib.Core.Path.{_≡_}
+use mathlib.Core.Path.{_≡_, _∙_}
 use native.Mathlib.Omega.{arith}
 use borrow.Author.Needs.{needs}
 use Rattle.cells.specs.Cells.{Test, test}
@@ -7,6 +7,7 @@ use Rattle.bits.specs.Bits.{has}
 use Rattle.local_test.specs.declared.Local.{Local}
 use Rattle.local_test.specs.Block.{asTest}
 use Rattle.local_test.proofs.Counts.{Counted, counted}
+use Rattle.local_test.proofs.Faces.{face-of}
 use Rattle.local_test.proofs.local_test_of.Statement.{statement}
 use Rattle.local_test.proofs.local_test_of.Tie as tie
 
@@ -25,18 +26,25 @@ bare-groups-requires c κs =
     let k = c .touched-groups .ensures in
     (omega arith, omega arith)
 
-same-test : (l : Local) (t : Test) → l .k ≡ t .k → l .m ≡ t .m → l .corners ≡ t .corners → l .edges ≡ t .edges → l .faces ≡ t .faces → asTest l ≡ t
-same-test l t k m c e f = λ i. record { k = k i; m = m i; corners = c i; edges = e i; faces = f i }
+bare-face-requires : tie.Need-bare-face-requires
+bare-face-requires c κs = search needs
+
+same-test : (l : Local) (t : Test) → l .k ≡ t .k → l .m ≡ t .m → l .corners ≡ t .corners → l .edges ≡ t .edges → l .faces ≡ t .faces → l .face ≡ t .face
+    → asTest l ≡ t
+same-test l t k m c e f n = λ i. record { k = k i; m = m i; corners = c i; edges = e i; faces = f i; face = n i }
 
 returns : tie.Need-returns
 returns c =
-    let g = c .before in
+    let b = c .before in
+    let g = b .before in
     let t = g .before in
+    let kept = has (t .before .args .kept) in
     let f = known t in
     let k = g .touched-groups .ensures in
-    let m = c .bare-groups .ensures in
-    same-test _ (test (has (t .before .args .kept))) (omega arith) (omega arith) (f .corners) (f .edges) (f .faces)
+    let m = b .bare-groups .ensures in
+    same-test _ (test kept) (omega arith) (omega arith) (f .corners) (f .edges) (f .faces)
+    (c .bare-face .ensures ∙ face-of kept (t .touched-bits .result) (t .touched-bits .ensures))
 
 pub local-test-of-spec : {M : Type 1} → statement M
 local-test-of-spec =
-    tie.close (tie.spec touched-bits-requires touched-groups-requires bare-groups-requires returns)
+    tie.close (tie.spec touched-bits-requires touched-groups-requires bare-groups-requires bare-face-requires returns)

@@ -1,12 +1,12 @@
--- `capi::machine::wattlerugby_carve_8` meets its contract: the struct is the reply written out.
+-- `capi::machine::wattlerugby_carve_9` meets its contract: the struct is the reply written out.
 use borrow.Author.Needs.{needs}
-use Rattle.capi.proofs.machine.wattlerugby_carve_8.Statement.{statement}
-use Rattle.capi.proofs.machine.wattlerugby_carve_8.Tie as tie
+use Rattle.capi.proofs.machine.wattlerugby_carve_9.Statement.{statement}
+use Rattle.capi.proofs.machine.wattlerugby_carve_9.Tie as tie
 
 returns : tie.Need-returns
 returns c =
     let p = c .before .before .before in
     rw (c .carve-answer .ensures, ← (p .before .before .record-in .ensures), ← (p .carve .ensures))
 
-pub wattlerugby-carve-8-spec : {M : Type 1} → statement M
-wattlerugby-carve-8-spec = tie.close (tie.spec (λ c κs. search needs) (λ c κs. search needs) (λ c κs. search needs) (λ c. search needs) returns)
+pub wattlerugby-carve-9-spec : {M : Type 1} → statement M
+wattlerugby-carve-9-spec = tie.close (tie.spec (λ c κs. search needs) (λ c κs. search needs) (λ c κs. search needs) (λ c. search needs) returns)
