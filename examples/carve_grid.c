@@ -52,7 +52,8 @@ static wattlerugby_record carve_to_the_end(wattlerugby_record record, size_t n, 
         opened = wattlerugby_open(record, dist, n, marks, n, status, n);
         record = opened.next;
         if (opened.refusal == 0)
-            printf("open: voxel %u, k %u, m %u\n", (unsigned)opened.index, (unsigned)opened.k, (unsigned)opened.m);
+            printf("open: voxel %u, k %u, m %u, face %u\n", (unsigned)opened.index, (unsigned)opened.k, (unsigned)opened.m,
+                   (unsigned)opened.face);
     } while (opened.refusal == 0);
     *ended_by = opened.refusal;
     return record;

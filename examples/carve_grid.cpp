@@ -122,7 +122,7 @@ uint8_t carve_to_the_end(Grid &grid)
         const wattlerugby_open_answer opened = grid.open();
         if (opened.refusal != 0)
             return opened.refusal;
-        std::cout << "open: voxel " << opened.index << ", k " << opened.k << ", m " << opened.m << '\n';
+        std::cout << "open: voxel " << opened.index << ", k " << opened.k << ", m " << opened.m << ", face " << opened.face << '\n';
     }
 }
 

@@ -34,11 +34,12 @@ class Next(Structure):
 
 
 class Carved(Structure):
-    _fields_ = [("refusal", c_uint8), ("examined", c_uint32), ("removed", c_uint32), ("pending", c_bool), ("next", Record)]
+    _fields_ = [("refusal", c_uint8), ("examined", c_uint32), ("removed", c_uint32), ("pending", c_bool), ("face", c_uint32),
+                ("next", Record)]
 
 
 class Opened(Structure):
-    _fields_ = [("refusal", c_uint8), ("index", c_size_t), ("k", c_uint32), ("m", c_uint32), ("next", Record)]
+    _fields_ = [("refusal", c_uint8), ("index", c_size_t), ("k", c_uint32), ("m", c_uint32), ("face", c_uint32), ("next", Record)]
 
 
 class Points(Structure):
@@ -56,15 +57,15 @@ BYTES, NUMBERS, DOUBLES = lent(c_uint8), lent(c_int32), lent(c_double)
 CALLS = {
     "wattlerugby_read_6": (Read, BYTES + NUMBERS),
     "wattlerugby_begin_8": (Next, [Sides, c_uint16] + NUMBERS + BYTES + NUMBERS + BYTES),
-    "wattlerugby_carve_8": (Carved, [Record] + NUMBERS + BYTES + BYTES + [c_uint32]),
-    "wattlerugby_open_8": (Opened, [Record] + NUMBERS + BYTES + BYTES),
+    "wattlerugby_carve_9": (Carved, [Record] + NUMBERS + BYTES + BYTES + [c_uint32]),
+    "wattlerugby_open_9": (Opened, [Record] + NUMBERS + BYTES + BYTES),
     "wattlerugby_finish": (Next, [Record] + NUMBERS + BYTES),
     "wattlerugby_points": (Points, [Record] + NUMBERS + BYTES + [c_size_t] + DOUBLES),
 }
 
 
 def library():
-    found = CDLL("libwattlerugby.so.0.8")
+    found = CDLL("libwattlerugby.so.0.9")
     for symbol, (answer, takes) in CALLS.items():
         call = getattr(found, symbol)
         call.restype, call.argtypes = answer, takes
@@ -96,13 +97,13 @@ class Grid:
 
     def carve(self, limit):
         n = self.n
-        carved = done("carve", self.lib.wattlerugby_carve_8(self.record, self.dist, n, self.marks, n, self.status, n, limit))
+        carved = done("carve", self.lib.wattlerugby_carve_9(self.record, self.dist, n, self.marks, n, self.status, n, limit))
         self.record = carved.next
         return carved
 
     def open(self):
         n = self.n
-        opened = self.lib.wattlerugby_open_8(self.record, self.dist, n, self.marks, n, self.status, n)
+        opened = self.lib.wattlerugby_open_9(self.record, self.dist, n, self.marks, n, self.status, n)
         self.record = opened.next
         return opened
 
@@ -141,7 +142,7 @@ def carve_to_the_end(grid):
         opened = grid.open()
         if opened.refusal != 0:
             return opened.refusal
-        print(f"open: voxel {opened.index}, k {opened.k}, m {opened.m}")
+        print(f"open: voxel {opened.index}, k {opened.k}, m {opened.m}, face {opened.face}")
 
 
 def carve_file(lib, name, points_name):

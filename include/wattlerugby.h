@@ -95,12 +95,20 @@
  * could go may be kept and not pending, and open may take one of them, with k and m both 1. Marks of voxels that are inside, gone or on the
  * border have no effect; but each byte of the buffer must be 3 or less, or the call refuses with 29.
  *
+ * FACES
+ *
+ * A display may draw each removed voxel sliding away. So take and open answer which side their voxel came out by, and carve of the last voxel
+ * that it removed: `face`, 0 to 5 for low x, high x, low y, high y, low z, high z. It is the lowest numbered bare face. Just before the
+ * removal the voxel across it was not kept, so that nothing was in the way, and the voxels across all lower numbered faces were kept. Take and
+ * open always have one. Carve answers WATTLERUGBY_NO_FACE, 6, exactly where it removed nothing. To draw every removal, carve with limit 1: at
+ * most one status byte becomes WATTLERUGBY_GONE, and `face` is that voxel's.
+ *
  * ANSWERS
  *
  * Each answer is a struct, by value. Its first field, `refusal`, is 0 when the call did what it is for. Otherwise it is one of the
- * numbers below, nothing was written to any buffer, and every other number in the answer is 0. A record in `next` is the one for the next
- * call on the same buffers: after a refusal that is the record you gave, each field as it was. So a caller that always goes on with it is
- * always right.
+ * numbers below, nothing was written to any buffer, and every other number in the answer is 0: `face` too, which then stands for no face. A
+ * record in `next` is the one for the next call on the same buffers: after a refusal that is the record you gave, each field as it was. So a
+ * caller that always goes on with it is always right.
  *
  * Checks are made in the order that stands with each call, and the first that fails gives the number. Any input at all gets an answer:
  * there is no record, buffer content, index or file that a call may not be given. What you owe is C's own: pointers as above.
@@ -136,11 +144,11 @@
 /* ---- version */
 
 #define WATTLERUGBY_VERSION_MAJOR 0
-#define WATTLERUGBY_VERSION_MINOR 8
+#define WATTLERUGBY_VERSION_MINOR 9
 #define WATTLERUGBY_VERSION_PATCH 0
-#define WATTLERUGBY_VERSION "0.8.0"
+#define WATTLERUGBY_VERSION "0.9.0"
 
-/* The version as one number, 8000 for 0.8.0: the later of two versions has the greater one. It may stand in an #if, where it is 0 with
+/* The version as one number, 9000 for 0.9.0: the later of two versions has the greater one. It may stand in an #if, where it is 0 with
  * a header that does not have it yet. */
 #define WATTLERUGBY_VERSION_NUMBER \
     (WATTLERUGBY_VERSION_MAJOR * 1000000u + WATTLERUGBY_VERSION_MINOR * 1000u + WATTLERUGBY_VERSION_PATCH)
@@ -151,12 +159,13 @@
  * that changed it last. So where a program makes a call that its header and the archive have in different forms, the linker refuses it and
  * names that symbol; otherwise the call would run, and read past a buffer. Write the plain names: these lines map them. */
 #define wattlerugby_begin wattlerugby_begin_8
-#define wattlerugby_carve wattlerugby_carve_8
-#define wattlerugby_take wattlerugby_take_8
-#define wattlerugby_open wattlerugby_open_8
+#define wattlerugby_carve wattlerugby_carve_9
+#define wattlerugby_take wattlerugby_take_9
+#define wattlerugby_open wattlerugby_open_9
 #define wattlerugby_read wattlerugby_read_6
 #define wattlerugby_read_layer wattlerugby_read_layer_6
 #define wattlerugby_write wattlerugby_write_6
+#define wattlerugby_local_test wattlerugby_local_test_9
 
 #ifdef __cplusplus
 extern "C" {
@@ -264,6 +273,17 @@ enum {
     WATTLERUGBY_PINNED_AND_HURRIED = 3   /* examined first, and kept */
 };
 
+/* What `face` is in an answer: see FACES above. The axis is face / 2, and face % 2 is 1 on the side where that coordinate is higher. */
+enum {
+    WATTLERUGBY_LOW_X = 0,
+    WATTLERUGBY_HIGH_X = 1,
+    WATTLERUGBY_LOW_Y = 2,
+    WATTLERUGBY_HIGH_Y = 3,
+    WATTLERUGBY_LOW_Z = 4,
+    WATTLERUGBY_HIGH_Z = 5,
+    WATTLERUGBY_NO_FACE = 6   /* local test: no face is bare; carve: nothing was removed */
+};
+
 /* ---- values
  *
  * A value is measured, WATTLERUGBY_LEAST_VALUE to WATTLERUGBY_GREATEST_VALUE, or the mark of a missing range point. Negative is inside the
@@ -369,6 +389,7 @@ typedef struct wattlerugby_carve_answer {
     uint32_t examined;   /* voxels examined by this call */
     uint32_t removed;    /* voxels removed by this call */
     bool pending;        /* whether any voxel is still pending */
+    uint32_t face;       /* which side the last removed voxel came out by; WATTLERUGBY_NO_FACE exactly where `removed` is 0 */
     wattlerugby_record next;
 } wattlerugby_carve_answer;
 
@@ -393,8 +414,9 @@ wattlerugby_carve_answer wattlerugby_carve(
 
 typedef struct wattlerugby_take_answer {
     uint8_t refusal;
-    uint32_t k;   /* what the local test found: both are 1 where the voxel is gone */
+    uint32_t k;      /* what the local test found: both are 1 where the voxel is gone */
     uint32_t m;
+    uint32_t face;   /* which side the voxel came out by: never WATTLERUGBY_NO_FACE */
     wattlerugby_record next;
 } wattlerugby_take_answer;
 
@@ -413,9 +435,10 @@ wattlerugby_take_answer wattlerugby_take(
 
 typedef struct wattlerugby_open_answer {
     uint8_t refusal;
-    size_t index;   /* the voxel that was removed */
-    uint32_t k;     /* what the local test found there: k - m was added to the Euler number */
+    size_t index;    /* the voxel that was removed */
+    uint32_t k;      /* what the local test found there: k - m was added to the Euler number */
     uint32_t m;
+    uint32_t face;   /* which side the voxel came out by: never WATTLERUGBY_NO_FACE */
     wattlerugby_record next;
 } wattlerugby_open_answer;
 
@@ -682,13 +705,14 @@ typedef struct wattlerugby_local_answer {
     uint32_t corners;   /* touched corners, edges and faces */
     uint32_t edges;
     uint32_t faces;
+    uint32_t face;      /* the lowest numbered bare face; WATTLERUGBY_NO_FACE exactly where all six are touched */
 } wattlerugby_local_answer;
 
 /* The test of a block of three by three by three voxels. Bit (dx + 1) + 3 (dy + 1) + 9 (dz + 1) of `kept` says whether the voxel at
  * (dx, dy, dz) from the middle is kept; the middle's own, bit 13, and bits 27 to 31 are not regarded. The middle voxel's surface has 26
  * cells: 8 corners, 12 edges, 6 faces. A cell is touched if a kept voxel other than the middle contains it, otherwise bare. The middle
  * voxel may go, without changing how the body hangs together, exactly when k and m are both 1. For every block
- * m = k + 1 - corners + edges - faces. Never refused. */
+ * m = k + 1 - corners + edges - faces. A face is touched exactly where the voxel across it is kept. Never refused. */
 wattlerugby_local_answer wattlerugby_local_test(uint32_t kept);
 
 #ifdef __cplusplus

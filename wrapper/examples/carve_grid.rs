@@ -64,7 +64,7 @@ fn carve_to_the_end(grid: &mut Grid) -> Result<Refusal, Refusal> {
             continue;
         }
         match grid.open() {
-            Ok(opened) => println!("open: voxel {}, k {}, m {}", opened.index, opened.k, opened.m),
+            Ok(opened) => println!("open: voxel {}, k {}, m {}, face {}", opened.index, opened.k, opened.m, opened.face.number()),
             Err(ended_by) => return Ok(ended_by),
         }
     }

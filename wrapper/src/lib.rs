@@ -83,11 +83,13 @@ compile_error!(
      README.md says what can be done on other machines"
 );
 
+mod face;
 mod grid;
 pub mod raw;
 mod refusal;
 mod surface;
 
+pub use face::Face;
 pub use grid::Grid;
 pub use refusal::Refusal;
 pub use surface::Points;
@@ -222,6 +224,8 @@ pub struct Carved {
     pub removed: u32,
     /// Whether any voxel is still pending.
     pub pending: bool,
+    /// Which side the last voxel that this call removed came out by; nothing exactly where it removed none.
+    pub face: Option<Face>,
     /// The record for the next call.
     pub next: Record,
 }
@@ -233,6 +237,8 @@ pub struct Taken {
     pub k: u32,
     /// Groups of bare cells.
     pub m: u32,
+    /// Which side the voxel came out by.
+    pub face: Face,
     /// The record for the next call.
     pub next: Record,
 }
@@ -246,6 +252,8 @@ pub struct Opened {
     pub k: u32,
     /// Groups of bare cells.
     pub m: u32,
+    /// Which side the voxel came out by.
+    pub face: Face,
     /// The record for the next call.
     pub next: Record,
 }
@@ -259,8 +267,7 @@ pub struct Filled {
     pub next: usize,
 }
 
-/// The local test: groups of touched cells and of bare ones, and the touched corners, edges and faces.
-#[repr(C)]
+/// The local test: groups of touched cells and of bare ones, the touched corners, edges and faces, and the first face that is bare.
 #[derive(Clone, Copy, Debug, PartialEq, Eq)]
 pub struct LocalTest {
     /// Groups of touched cells.
@@ -273,6 +280,8 @@ pub struct LocalTest {
     pub edges: u32,
     /// Touched faces.
     pub faces: u32,
+    /// The lowest numbered bare face; nothing exactly where all six are touched.
+    pub face: Option<Face>,
 }
 
 /// A layer of a grid file: its z, and its values' bytes, low byte first, where they stand in the file.
@@ -334,6 +343,17 @@ fn done<T>(refusal: u8, answer: T) -> Result<T, Refusal> {
     }
 }
 
+/// A face in an answer. No number over 6 is ever one, so that it is not taken for 6.
+fn face(number: u32) -> Option<Face> {
+    (number != raw::NO_FACE).then(|| Face::of(number).expect("a face in an answer is 0 to 6"))
+}
+
+/// The face of a voxel that was taken or opened. That neither call answers 6 is proved (`TakeHasFace`, `OpenHasFace`): a voxel that passes the
+/// local test has a bare face, and open chooses among voxels that have one.
+fn bare_face(number: u32) -> Face {
+    face(number).expect("a voxel that is taken or opened has a bare face")
+}
+
 /// Starts a grid from n measured values and n marks, and fills both other buffers with worked distances and status bytes. Of the kept voxels
 /// outside those are pending which lie bare, unless they are only pinned, and those that are hurried. Marks change nothing else.
 ///
@@ -384,12 +404,12 @@ pub fn begin(sides: Sides, allowed: u16, values: &[i32], marks: &[u8], dist: &mu
 
 /// Examines pending voxels, `limit` of them at most: hurried ones before all others, and of either each time the one with the greatest worked
 /// distance, of equals the one with the smallest index. Those that pass the local test and are not pinned are gone. Many small calls with the
-/// same marks leave what one large call leaves.
+/// same marks leave what one large call leaves. With a limit of 1 the answer's face is that of the one voxel that is gone, if any is.
 ///
 /// Checks: 1, 2, 7, 29, 8.
 ///
 /// ```
-/// use wattlerugby::{begin, carve, Sides, NO_LIMIT, PINNED_AND_HURRIED, UNMARKED};
+/// use wattlerugby::{begin, carve, Face, Sides, NO_LIMIT, PINNED_AND_HURRIED, UNMARKED};
 ///
 /// let mut values = [6; 48];
 /// (values[21], values[26]) = (-6, -6); // two voxels that touch in an edge: 22 and 25 fill the box around them
@@ -397,10 +417,12 @@ pub fn begin(sides: Sides, allowed: u16, values: &[i32], marks: &[u8], dist: &mu
 /// let record = begin(Sides { a: 4, b: 4, c: 3 }, 0, &values, &marks, &mut dist, &mut status)?;
 /// let done = carve(record, &dist, &marks, &mut status.clone(), NO_LIMIT)?;
 /// assert_eq!((done.examined, done.removed, done.pending), (2, 2, false));
+/// assert_eq!(done.face, Some(Face::LowX)); // of 25, the last
 ///
 /// marks[25] = PINNED_AND_HURRIED;
 /// let done = carve(record, &dist, &marks, &mut status, NO_LIMIT)?;
 /// assert_eq!((done.examined, done.removed, done.pending), (2, 1, false));
+/// assert_eq!(done.face, Some(Face::HighX)); // of 22: 25 was examined before it, and stayed
 /// # Ok::<(), wattlerugby::Refusal>(())
 /// ```
 pub fn carve(given: impl Into<raw::Record>, dist: &[i32], marks: &[u8], status: &mut [u8], limit: u32) -> Result<Carved, Refusal> {
@@ -417,7 +439,10 @@ pub fn carve(given: impl Into<raw::Record>, dist: &[i32], marks: &[u8], status: 
             limit,
         )
     };
-    done(r.refusal, Carved { examined: r.examined, removed: r.removed, pending: r.pending, next: r.next.into() })
+    done(r.refusal, r).map(|r| {
+        let (face, next) = (face(r.face), r.next.into());
+        Carved { examined: r.examined, removed: r.removed, pending: r.pending, face, next }
+    })
 }
 
 /// Removes the voxel of that index, pending or not, if it is kept, outside, not pinned, and passes the local test.
@@ -437,7 +462,7 @@ pub fn take(given: impl Into<raw::Record>, dist: &[i32], marks: &[u8], status: &
             index,
         )
     };
-    done(r.refusal, Taken { k: r.k, m: r.m, next: r.next.into() })
+    done(r.refusal, r).map(|r| Taken { k: r.k, m: r.m, face: bare_face(r.face), next: r.next.into() })
 }
 
 /// Removes the kept outside voxel with a face neighbour not kept that has the greatest worked distance, of equals the smallest index. Pinned
@@ -449,7 +474,7 @@ pub fn open(given: impl Into<raw::Record>, dist: &[i32], marks: &[u8], status: &
     let r = unsafe {
         raw::wattlerugby_open(given.into(), dist.as_ptr(), dist.len(), marks.as_ptr(), marks.len(), status.as_mut_ptr(), status.len())
     };
-    done(r.refusal, Opened { index: r.index, k: r.k, m: r.m, next: r.next.into() })
+    done(r.refusal, r).map(|r| Opened { index: r.index, k: r.k, m: r.m, face: bare_face(r.face), next: r.next.into() })
 }
 
 /// Makes every kept voxel part of the body: a worked distance w of 0 or more becomes -w, or -1 where w is 0.
@@ -695,17 +720,24 @@ pub fn written(sides: Sides, allowed: u16, values: &[i32]) -> Result<Vec<u8>, Re
 
 /// The test of a block: bit (dx + 1) + 3 (dy + 1) + 9 (dz + 1) of `kept` says whether the voxel at (dx, dy, dz) from the middle is kept.
 /// The middle's own, bit 13, and bits from 27 on are not regarded. The middle voxel may go exactly when k and m are both 1. For every block
-/// m = k + 1 - corners + edges - faces.
+/// m = k + 1 - corners + edges - faces. A face is touched exactly where the voxel across it is kept, and the lowest numbered one that is bare
+/// is the side that the middle voxel comes out by.
 ///
 /// ```
-/// use wattlerugby::local_test;
+/// use wattlerugby::{local_test, Face};
 ///
 /// let below = local_test(1 << 4); // one face neighbour: the voxel is a bump
-/// assert_eq!((below.k, below.m), (1, 1));
+/// assert_eq!((below.k, below.m, below.face), (1, 1, Some(Face::LowX)));
 /// let between = local_test(1 << 4 | 1 << 22); // two opposite ones: it is a bridge
 /// assert_eq!((between.k, between.m), (2, 1));
+///
+/// // a tile on the floor, between four others: up is the only way out
+/// let tile = local_test(1 << 4 | 1 << 10 | 1 << 12 | 1 << 14 | 1 << 16);
+/// assert_eq!((tile.k, tile.m, tile.face), (1, 1, Some(Face::HighZ)));
+/// assert_eq!(local_test(!0).face, None); // shut in
 /// ```
 pub fn local_test(kept: u32) -> LocalTest {
     // SAFETY: numbers alone cross.
-    unsafe { raw::wattlerugby_local_test(kept) }
+    let r = unsafe { raw::wattlerugby_local_test(kept) };
+    LocalTest { k: r.k, m: r.m, corners: r.corners, edges: r.edges, faces: r.faces, face: face(r.face) }
 }

@@ -44,6 +44,7 @@ pub struct CarveAnswer {
     pub examined: u32,
     pub removed: u32,
     pub pending: bool,
+    pub face: u32,
     pub next: Record,
 }
 
@@ -52,6 +53,7 @@ pub struct TakeAnswer {
     pub refusal: u8,
     pub k: u32,
     pub m: u32,
+    pub face: u32,
     pub next: Record,
 }
 
@@ -61,6 +63,7 @@ pub struct OpenAnswer {
     pub index: usize,
     pub k: u32,
     pub m: u32,
+    pub face: u32,
     pub next: Record,
 }
 
@@ -106,6 +109,21 @@ pub struct WriteAnswer {
     pub length: usize,
 }
 
+#[repr(C)]
+#[derive(Clone, Copy, Debug, PartialEq, Eq)]
+pub struct LocalAnswer {
+    pub k: u32,
+    pub m: u32,
+    pub corners: u32,
+    pub edges: u32,
+    pub faces: u32,
+    pub face: u32,
+}
+
+/// What `face` is where no face is bare, and of a carve that removed nothing. After a refusal `face` is 0, as every number but `refusal` is, and
+/// stands for no face either.
+pub const NO_FACE: u32 = 6;
+
 // The symbols are those that the header maps the names to.
 extern "C" {
     pub fn wattlerugby_version_number() -> u32;
@@ -124,7 +142,7 @@ extern "C" {
         status_len: usize,
     ) -> BeginAnswer;
 
-    #[link_name = "wattlerugby_carve_8"]
+    #[link_name = "wattlerugby_carve_9"]
     pub fn wattlerugby_carve(
         given: Record,
         dist: *const i32,
@@ -136,7 +154,7 @@ extern "C" {
         limit: u32,
     ) -> CarveAnswer;
 
-    #[link_name = "wattlerugby_take_8"]
+    #[link_name = "wattlerugby_take_9"]
     pub fn wattlerugby_take(
         given: Record,
         dist: *const i32,
@@ -148,7 +166,7 @@ extern "C" {
         index: usize,
     ) -> TakeAnswer;
 
-    #[link_name = "wattlerugby_open_8"]
+    #[link_name = "wattlerugby_open_9"]
     pub fn wattlerugby_open(
         given: Record,
         dist: *const i32,
@@ -198,5 +216,6 @@ extern "C" {
         file_len: usize,
     ) -> WriteAnswer;
 
-    pub fn wattlerugby_local_test(kept: u32) -> crate::LocalTest;
+    #[link_name = "wattlerugby_local_test_9"]
+    pub fn wattlerugby_local_test(kept: u32) -> LocalAnswer;
 }

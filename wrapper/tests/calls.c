@@ -1,5 +1,5 @@
 /* Every call on a state from C, on document 01's case C, with each answer printed: a ring of eight voxels around an empty one, and one
- * opening allowed. Then marks, a file out and in, patches to it, layers of both widths, and what the header says of null pointers, padding
+ * opening allowed. Then marks, faces, a file out and in, patches to it, layers of both widths, and what the header says of null pointers, padding
  * and numbers. The status is 0 where all of that holds. */
 #include <stdio.h>
 #include <string.h>
@@ -8,8 +8,9 @@
 
 enum { A = 5, B = 5, C = 3, N = A * B * C, ALLOWED = 1 };
 
-/* Marks for any grid here: none is larger. */
-static const uint8_t unmarked[N] = {WATTLERUGBY_UNMARKED};
+/* Marks for any grid here: none is larger than that of the faces. */
+enum { LARGEST = 125 };
+static const uint8_t unmarked[LARGEST] = {WATTLERUGBY_UNMARKED};
 
 static void print_record(wattlerugby_record r)
 {
@@ -21,10 +22,10 @@ static wattlerugby_record carve(wattlerugby_record record, const int32_t *dist, 
 {
     wattlerugby_carve_answer r = wattlerugby_carve(record, dist, N, unmarked, N, status, N, limit);
     if (r.refusal != 0)
-        printf("carve: refused %u\n", r.refusal);
+        printf("carve: refused %u, face %u\n", r.refusal, (unsigned)r.face);
     else
-        printf("carve: examined %u, removed %u, %s\n", (unsigned)r.examined, (unsigned)r.removed,
-               r.pending ? "some pending" : "nothing pending");
+        printf("carve: examined %u, removed %u, %s, face %u\n", (unsigned)r.examined, (unsigned)r.removed,
+               r.pending ? "some pending" : "nothing pending", (unsigned)r.face);
     print_record(r.next);
     return r.next;
 }
@@ -33,9 +34,9 @@ static wattlerugby_record take(wattlerugby_record record, const int32_t *dist, u
 {
     wattlerugby_take_answer r = wattlerugby_take(record, dist, N, unmarked, N, status, N, index);
     if (r.refusal != 0)
-        printf("take %u: refused %u\n", (unsigned)index, r.refusal);
+        printf("take %u: refused %u, face %u\n", (unsigned)index, r.refusal, (unsigned)r.face);
     else
-        printf("take %u: gone, k %u, m %u\n", (unsigned)index, (unsigned)r.k, (unsigned)r.m);
+        printf("take %u: gone, k %u, m %u, face %u\n", (unsigned)index, (unsigned)r.k, (unsigned)r.m, (unsigned)r.face);
     return r.next;
 }
 
@@ -43,9 +44,9 @@ static wattlerugby_record open_body(wattlerugby_record record, const int32_t *di
 {
     wattlerugby_open_answer r = wattlerugby_open(record, dist, N, unmarked, N, status, N);
     if (r.refusal != 0)
-        printf("open: refused %u\n", r.refusal);
+        printf("open: refused %u, face %u\n", r.refusal, (unsigned)r.face);
     else
-        printf("open: voxel %u, k %u, m %u\n", (unsigned)r.index, (unsigned)r.k, (unsigned)r.m);
+        printf("open: voxel %u, k %u, m %u, face %u\n", (unsigned)r.index, (unsigned)r.k, (unsigned)r.m, (unsigned)r.face);
     print_record(r.next);
     return r.next;
 }
@@ -282,6 +283,60 @@ static int marks(void)
     wrong += carve_d(&g, OF_D, 1) != 0;
     print_d("both pinned when they are pending, one examination", &g);
     printf("marks: %s\n", wrong ? "WRONG" : "each is read where it stands, and counts for its call");
+    return wrong;
+}
+
+/* ---- faces: a block of 3 x 3 x 3 voxels, of which the middle one of each side in turn is outside. It comes out by that side, whichever call
+ * removes it. */
+
+static wattlerugby_record begin_block(size_t outside, const uint8_t *lent, int32_t *dist, uint8_t *status)
+{
+    const wattlerugby_sides sides = {5, 5, 5};
+    int32_t values[LARGEST];
+    size_t i;
+    for (i = 0; i < LARGEST; i++) {
+        int inner = i % 5 % 4 != 0 && i / 5 % 5 % 4 != 0 && i / 25 % 4 != 0;
+        values[i] = inner && i != outside ? -7 : 7;
+    }
+    return wattlerugby_begin(sides, 1, values, LARGEST, lent, LARGEST, dist, LARGEST, status, LARGEST).next;
+}
+
+static int comes_out_by(uint32_t face)
+{
+    static const int across[6] = {-1, 1, -5, 5, -25, 25};
+    const size_t outside = (size_t)(62 + across[face]);
+    int32_t dist[LARGEST];
+    uint8_t status[LARGEST], pins[LARGEST] = {0};
+    wattlerugby_record record = begin_block(outside, unmarked, dist, status);
+    const wattlerugby_carve_answer none = wattlerugby_carve(record, dist, LARGEST, unmarked, LARGEST, status, LARGEST, 0);
+    const wattlerugby_carve_answer carved = wattlerugby_carve(record, dist, LARGEST, unmarked, LARGEST, status, LARGEST, 1);
+    wattlerugby_take_answer taken;
+    wattlerugby_open_answer opened;
+    record = begin_block(outside, unmarked, dist, status);
+    taken = wattlerugby_take(record, dist, LARGEST, unmarked, LARGEST, status, LARGEST, outside);
+    /* pinned when the grid begins, so that it is not pending and open does not refuse */
+    pins[outside] = WATTLERUGBY_PINNED;
+    record = begin_block(outside, pins, dist, status);
+    opened = wattlerugby_open(record, dist, LARGEST, unmarked, LARGEST, status, LARGEST);
+    printf("  voxel %u: carve %u, take %u, open %u\n", (unsigned)outside, (unsigned)carved.face, (unsigned)taken.face, (unsigned)opened.face);
+    return none.face == WATTLERUGBY_NO_FACE && none.refusal + carved.refusal + taken.refusal + opened.refusal == 0 &&
+           carved.face == face && taken.face == face && opened.face == face;
+}
+
+/* All neighbours across lower numbered faces are kept, for each face, and all six. */
+static int faces(void)
+{
+    static const uint32_t across[7] = {12, 14, 10, 16, 4, 22, 13};
+    uint32_t face, kept = 0;
+    int wrong = 0;
+    printf("faces:\n");
+    for (face = WATTLERUGBY_LOW_X; face < WATTLERUGBY_NO_FACE; face++)
+        wrong += !comes_out_by(face);
+    for (face = WATTLERUGBY_LOW_X; face <= WATTLERUGBY_NO_FACE; face++) {
+        wrong += wattlerugby_local_test(kept).face != face;
+        kept |= (uint32_t)1 << across[face];
+    }
+    printf("faces: %s\n", wrong ? "WRONG" : "a voxel comes out by the lowest that is bare");
     return wrong;
 }
 
@@ -597,6 +652,11 @@ static int finished_bytes(void)
 
 #define NUMBER(name) printf("%s %u %s\n", #name, (unsigned)WATTLERUGBY_##name, wattlerugby_reason(WATTLERUGBY_##name))
 
+static void print_face(const char *name, int face)
+{
+    printf("%s %d axis %d %s\n", name, face, face / 2, face % 2 ? "true" : "false");
+}
+
 static void numbers(void)
 {
     printf("version %s, %u, of the archive %u\n", wattlerugby_version(), (unsigned)WATTLERUGBY_VERSION_NUMBER,
@@ -633,6 +693,13 @@ static void numbers(void)
     printf("layers of %d bytes a value, missing %d, and of %d\n", WATTLERUGBY_NARROW, WATTLERUGBY_NARROW_MISSING, WATTLERUGBY_WIDE);
     printf("status %d %d %d\n", WATTLERUGBY_GONE, WATTLERUGBY_KEPT, WATTLERUGBY_PENDING);
     printf("marks %d %d %d %d\n", WATTLERUGBY_UNMARKED, WATTLERUGBY_PINNED, WATTLERUGBY_HURRIED, WATTLERUGBY_PINNED_AND_HURRIED);
+    print_face("low x", WATTLERUGBY_LOW_X);
+    print_face("high x", WATTLERUGBY_HIGH_X);
+    print_face("low y", WATTLERUGBY_LOW_Y);
+    print_face("high y", WATTLERUGBY_HIGH_Y);
+    print_face("low z", WATTLERUGBY_LOW_Z);
+    print_face("high z", WATTLERUGBY_HIGH_Z);
+    printf("no face %d\n", WATTLERUGBY_NO_FACE);
 }
 
 /* ---- lengths: a line `A B C VOXELS NARROW WIDE`, with the length of either width, for each side from 2 to 65 along each axis, beside some
@@ -762,5 +829,5 @@ int main(int argc, char **argv)
         lengths();
         return 0;
     }
-    return ring() + marks() + files() + patches() + order() + widths() + nulls() + padding() + finished_bytes();
+    return ring() + marks() + faces() + files() + patches() + order() + widths() + nulls() + padding() + finished_bytes();
 }

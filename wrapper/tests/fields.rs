@@ -27,11 +27,12 @@ fn the_record_given_comes_back() {
         // SAFETY: the pointers are those of three live arrays of N elements, or null with length 0.
         unsafe {
             let carved = wattlerugby_carve(given, d, N, m, N, s, N, 9);
-            assert_eq!((carved.refusal, carved.examined, carved.removed, carved.pending, carved.next), (7, 0, 0, false, given));
+            assert_eq!((carved.refusal, carved.examined, carved.removed, carved.pending, carved.face), (7, 0, 0, false, 0));
+            assert_eq!(carved.next, given);
             let taken = wattlerugby_take(given, d, N, m, N, s, N, 9);
-            assert_eq!((taken.refusal, taken.k, taken.m, taken.next), (7, 0, 0, given));
+            assert_eq!((taken.refusal, taken.k, taken.m, taken.face, taken.next), (7, 0, 0, 0, given));
             let opened = wattlerugby_open(given, d, N, m, N, s, N);
-            assert_eq!((opened.refusal, opened.index, opened.k, opened.m, opened.next), (7, 0, 0, 0, given));
+            assert_eq!((opened.refusal, opened.index, opened.k, opened.m, opened.face, opened.next), (7, 0, 0, 0, 0, given));
             let closed = wattlerugby_finish(given, d, N, s, N);
             assert_eq!((closed.refusal, closed.next), (7, given));
             let crossed = wattlerugby_crossing(given, d, N, s, N, 9, 1);
@@ -147,8 +148,13 @@ fn a_written_file() {
 }
 
 #[test]
-fn the_local_test_has_five_numbers() {
-    // The two middle voxels below and above are not kept: no two of the five numbers are equal.
-    let t = wattlerugby::local_test(0x07FF_FFFF & !(1 << 4 | 1 << 13 | 1 << 22));
-    assert_eq!((t.k, t.m, t.corners, t.edges, t.faces), (1, 2, 8, 12, 4));
+fn the_local_test_has_six_numbers() {
+    // SAFETY: numbers alone cross.
+    let of = |gone: u32| unsafe { wattlerugby_local_test(0x07FF_FFFF & !(1 << 13 | gone)) };
+    // The voxels at low x and at high z are not kept: no two of the numbers are equal.
+    let t = of(1 << 12 | 1 << 22);
+    assert_eq!((t.k, t.m, t.corners, t.edges, t.faces, t.face), (1, 2, 8, 12, 4, 0));
+    // Only the one at low z is not: the face is not 0 for want of a number.
+    let t = of(1 << 4);
+    assert_eq!((t.k, t.m, t.corners, t.edges, t.faces, t.face), (1, 1, 8, 12, 5, 4));
 }

@@ -7,9 +7,7 @@ use std::mem::{offset_of, size_of};
 use std::path::Path;
 use std::process::Command;
 use wattlerugby::raw::*;
-use wattlerugby::{
-    archive_version, patch, read, read_header, write, written_length, written_width, Grid, LocalTest, Point, Refusal, Sides,
-};
+use wattlerugby::{archive_version, patch, read, read_header, write, written_length, written_width, Face, Grid, Point, Refusal, Sides};
 use wattlerugby::{GONE, HURRIED, KEPT, PENDING, PINNED, PINNED_AND_HURRIED, UNMARKED};
 use wattlerugby::{GREATEST_VALUE, LEAST_VALUE, LONGEST_FILE, MISSING, NARROW, NARROW_MISSING, VERSION, WIDE};
 
@@ -66,22 +64,22 @@ fn sizes_and_offsets() {
     lay_out!(ours, "record", Record, sides allowed openings removals examinations euler finished);
     lay_out!(ours, "point", Point, x y z);
     lay_out!(ours, "begin_answer", BeginAnswer, refusal next);
-    lay_out!(ours, "carve_answer", CarveAnswer, refusal examined removed pending next);
-    lay_out!(ours, "take_answer", TakeAnswer, refusal k m next);
-    lay_out!(ours, "open_answer", OpenAnswer, refusal index k m next);
+    lay_out!(ours, "carve_answer", CarveAnswer, refusal examined removed pending face next);
+    lay_out!(ours, "take_answer", TakeAnswer, refusal k m face next);
+    lay_out!(ours, "open_answer", OpenAnswer, refusal index k m face next);
     lay_out!(ours, "finish_answer", FinishAnswer, refusal next);
     lay_out!(ours, "crossing_answer", CrossingAnswer, refusal crosses point);
     lay_out!(ours, "points_answer", PointsAnswer, refusal count next);
     lay_out!(ours, "read_answer", ReadAnswer, refusal sides allowed);
     lay_out!(ours, "read_layer_answer", ReadLayerAnswer, refusal z width from to);
     lay_out!(ours, "write_answer", WriteAnswer, refusal length);
-    lay_out!(ours, "local_answer", LocalTest, k m corners edges faces);
+    lay_out!(ours, "local_answer", LocalAnswer, k m corners edges faces face);
     for header in printed_by_each(&root().join("wrapper/tests/layout.c"), "layout", &[]) {
         assert_eq!(header.lines().collect::<Vec<_>>(), ours);
     }
 }
 
-/// Each call's answers, marks, a file out and in, patches, layers out of order, both widths, null pointers, padding.
+/// Each call's answers, marks, faces, a file out and in, patches, layers out of order, both widths, null pointers, padding.
 #[test]
 fn calls() {
     let source = root().join("wrapper/tests/calls.c");
@@ -104,6 +102,8 @@ fn version_and_numbers() {
     ours.push(format!("layers of {NARROW} bytes a value, missing {NARROW_MISSING}, and of {WIDE}"));
     ours.push(format!("status {GONE} {KEPT} {PENDING}"));
     ours.push(format!("marks {UNMARKED} {PINNED} {HURRIED} {PINNED_AND_HURRIED}"));
+    ours.extend(Face::ALL.iter().map(|face| format!("{face} {} axis {} {}", face.number(), face.axis(), face.is_high())));
+    ours.push(format!("no face {NO_FACE}"));
     let source = root().join("wrapper/tests/calls.c");
     for header in printed_by_each(&source, "numbers", &["numbers"]) {
         assert_eq!(header.lines().collect::<Vec<_>>(), ours);

@@ -32,17 +32,20 @@ int main(void)
     FIELD(carve_answer, examined);
     FIELD(carve_answer, removed);
     FIELD(carve_answer, pending);
+    FIELD(carve_answer, face);
     FIELD(carve_answer, next);
     STRUCT(take_answer);
     FIELD(take_answer, refusal);
     FIELD(take_answer, k);
     FIELD(take_answer, m);
+    FIELD(take_answer, face);
     FIELD(take_answer, next);
     STRUCT(open_answer);
     FIELD(open_answer, refusal);
     FIELD(open_answer, index);
     FIELD(open_answer, k);
     FIELD(open_answer, m);
+    FIELD(open_answer, face);
     FIELD(open_answer, next);
     STRUCT(finish_answer);
     FIELD(finish_answer, refusal);
@@ -74,5 +77,6 @@ int main(void)
     FIELD(local_answer, corners);
     FIELD(local_answer, edges);
     FIELD(local_answer, faces);
+    FIELD(local_answer, face);
     return 0;
 }

@@ -1,8 +1,8 @@
 //! A script's state, and what each line does to it.
 
 use crate::words::{hash, Words};
-use wattlerugby::raw::Record;
-use wattlerugby::{begin, carve, crossing, finish, local_test, open, points, read, read_layer, take, write, Grid, Refusal, Sides};
+use wattlerugby::raw::{Record, NO_FACE};
+use wattlerugby::{begin, carve, crossing, finish, local_test, open, points, read, read_layer, take, write, Face, Grid, Refusal, Sides};
 
 pub struct State {
     sides: Sides,
@@ -161,14 +161,17 @@ impl State {
             "begin" => begin(self.sides, self.allowed, &self.values, marks, dist, status).map(|next| self.goes_on(next)),
             "carve" => carve(given, dist, marks, status, words.number()?).map(|c| {
                 let next = self.goes_on(c.next);
-                format!("examined {} removed {} pending {} | {next}", c.examined, c.removed, u8::from(c.pending))
+                let (pending, face) = (u8::from(c.pending), number_of(c.face));
+                format!("examined {} removed {} pending {pending} face {face} | {next}", c.examined, c.removed)
             }),
-            "take" => {
-                take(given, dist, marks, status, words.number()?).map(|t| format!("gone k {} m {} | {}", t.k, t.m, self.goes_on(t.next)))
-            }
-            "open" => {
-                open(given, dist, marks, status).map(|o| format!("opened {} k {} m {} | {}", o.index, o.k, o.m, self.goes_on(o.next)))
-            }
+            "take" => take(given, dist, marks, status, words.number()?).map(|t| {
+                let next = self.goes_on(t.next);
+                format!("gone k {} m {} face {} | {next}", t.k, t.m, t.face.number())
+            }),
+            "open" => open(given, dist, marks, status).map(|o| {
+                let next = self.goes_on(o.next);
+                format!("opened {} k {} m {} face {} | {next}", o.index, o.k, o.m, o.face.number())
+            }),
             "finish" => finish(given, dist, status).map(|next| self.goes_on(next)),
             "crossing" => crossing(given, dist, status, words.number()?, words.number()?).map(|point| match point {
                 None => "none".to_string(),
@@ -176,7 +179,8 @@ impl State {
             }),
             "local" => {
                 let t = local_test(words.hexadecimal()?);
-                Ok(format!("k {} m {} corners {} edges {} faces {}", t.k, t.m, t.corners, t.edges, t.faces))
+                let face = number_of(t.face);
+                Ok(format!("k {} m {} corners {} edges {} faces {} face {face}", t.k, t.m, t.corners, t.edges, t.faces))
             }
             "readlayer" => read_layer(self.sides, &self.file, words.number()?)
                 .map(|l| format!("z {} width {} from {} to {} bytes {}", l.z, l.width, l.from, l.end(), hash(l.bytes.iter().copied()))),
@@ -213,6 +217,10 @@ fn edit<T: Copy + Default + TryFrom<i128>>(buffer: &mut Vec<T>, words: &mut Word
         other => return Err(format!("a buffer is not changed by {other}")),
     }
     Ok(())
+}
+
+fn number_of(face: Option<Face>) -> u32 {
+    face.map_or(NO_FACE, Face::number)
 }
 
 fn shown(r: &Record) -> String {
