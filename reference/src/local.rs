@@ -1,4 +1,10 @@
-//! The local test (document 01, "The local test"), by searching cells.
+//! The local test (document 01, "The local test"), by searching cells, and the face by which its voxel comes out (document 02, CR 8).
+
+/// The cells that are faces, in the order of their numbers: low x, high x, low y, high y, low z, high z.
+const FACES: [usize; 6] = [12, 14, 10, 16, 4, 22];
+
+/// What stands for a face where there is none.
+pub const NO_FACE: u32 = 6;
 
 #[derive(Clone, Copy, Debug, PartialEq, Eq)]
 pub struct Local {
@@ -7,6 +13,8 @@ pub struct Local {
     pub corners: u32,
     pub edges: u32,
     pub faces: u32,
+    /// The lowest numbered bare face, or `NO_FACE`.
+    pub face: u32,
 }
 
 impl Local {
@@ -55,7 +63,8 @@ pub fn local_test(kept: &[bool; 27]) -> Local {
     let touched: Vec<usize> = places.iter().copied().filter(|&c| is_touched(c)).collect();
     let bare: Vec<usize> = places.iter().copied().filter(|&c| !is_touched(c)).collect();
     let of_kind = |axes: usize| touched.iter().filter(|&&c| offset(c).iter().filter(|&&d| d == 0).count() == axes).count() as u32;
-    Local { k: groups(&touched), m: groups(&bare), corners: of_kind(0), edges: of_kind(1), faces: of_kind(2) }
+    let face = FACES.iter().position(|face| bare.contains(face)).map_or(NO_FACE, |number| number as u32);
+    Local { k: groups(&touched), m: groups(&bare), corners: of_kind(0), edges: of_kind(1), faces: of_kind(2), face }
 }
 
 #[cfg(test)]
@@ -99,7 +108,7 @@ mod tests {
                 state ^= state << 17;
                 state % 100 < round % 101
             });
-            let Local { k, m, corners, edges, faces } = local_test(&block);
+            let Local { k, m, corners, edges, faces, .. } = local_test(&block);
             assert_eq!(i64::from(m), i64::from(k) + 1 - i64::from(corners) + i64::from(edges) - i64::from(faces), "{block:?}");
         }
     }

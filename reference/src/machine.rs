@@ -1,14 +1,16 @@
-//! The carving machine and surface points (document 01, "The carving machine", "Surface points", numbers 5 to 15), with marks (document 02, CR 7).
-//! `points`, every crossing in a row, is a call of this library and not of document 01.
+//! The carving machine and surface points (document 01, "The carving machine", "Surface points", numbers 5 to 15), with marks and with the face by
+//! which a voxel came out (document 02, CR 7 and CR 8). `points`, every crossing in a row, is a call of this library and not of document 01.
 
 use crate::grid::{Record, Refused};
-use crate::local::{local_test, Local};
+use crate::local::{local_test, Local, NO_FACE};
 use crate::marks::{hurried, is_mark, pinned};
 
 pub struct Carving {
     pub examined: u64,
     pub removed: u64,
     pub pending: bool,
+    /// Of the last removal, or `NO_FACE`.
+    pub face: u32,
 }
 
 pub struct Opening {
@@ -92,19 +94,21 @@ pub fn carve(r: &mut Record, dist: &[i32], marks: &[u8], status: &mut [u8], limi
     ready(r, dist, Some(marks), status)?;
     let key = |i: usize| (!hurried(marks[i]), std::cmp::Reverse(dist[i]), i);
     let mut pending: std::collections::BTreeSet<_> = (0..status.len()).filter(|&i| status[i] == 3).map(key).collect();
-    let (mut examined, mut removed) = (0, 0);
+    let (mut examined, mut removed, mut face) = (0, 0, NO_FACE);
     while examined < limit {
         let Some((_, _, i)) = pending.pop_first() else { break };
         status[i] = 1;
         examined += 1;
-        if !pinned(marks[i]) && test_at(r, status, i).passes() {
+        let local = test_at(r, status, i);
+        if !pinned(marks[i]) && local.passes() {
             remove(r, dist, marks, status, i);
             removed += 1;
+            face = local.face;
             pending.extend(r.sides.touching(i).into_iter().filter(|&j| status[j] == 3).map(key));
         }
     }
     r.examinations += examined;
-    Ok(Carving { examined, removed, pending: any_pending(status) })
+    Ok(Carving { examined, removed, pending: any_pending(status), face })
 }
 
 pub fn take(r: &mut Record, dist: &[i32], marks: &[u8], status: &mut [u8], index: u64) -> Result<Local, Refused> {

@@ -3,7 +3,7 @@
 use crate::file::{layer, program_line, read, write};
 use crate::grid::{begin, Record, Refused, Sides};
 use crate::local::local_test;
-use crate::machine::{carve, crossing, finish, open, points, take};
+use crate::machine::{carve, crossing, finish, open, points, take, Opening};
 use crate::words::{Mistake, Words};
 use std::io::{BufRead, Write};
 
@@ -232,10 +232,15 @@ impl Replay {
                 self.record = new;
                 shown(&new)
             }),
-            "carve" => carve(r, dist, marks, status, words.number::<u32>()?.into())
-                .map(|c| format!("examined {} removed {} pending {} | {}", c.examined, c.removed, u8::from(c.pending), shown(r))),
-            "take" => take(r, dist, marks, status, words.number()?).map(|t| format!("gone k {} m {} | {}", t.k, t.m, shown(r))),
-            "open" => open(r, dist, marks, status).map(|o| format!("opened {} k {} m {} | {}", o.index, o.local.k, o.local.m, shown(r))),
+            "carve" => carve(r, dist, marks, status, words.number::<u32>()?.into()).map(|c| {
+                let pending = u8::from(c.pending);
+                format!("examined {} removed {} pending {pending} face {} | {}", c.examined, c.removed, c.face, shown(r))
+            }),
+            "take" => {
+                take(r, dist, marks, status, words.number()?).map(|t| format!("gone k {} m {} face {} | {}", t.k, t.m, t.face, shown(r)))
+            }
+            "open" => open(r, dist, marks, status)
+                .map(|Opening { index, local }| format!("opened {index} k {} m {} face {} | {}", local.k, local.m, local.face, shown(r))),
             "finish" => finish(r, dist, status).map(|()| shown(r)),
             "crossing" => {
                 let (index, axis) = (words.number()?, words.number::<u32>()?);
@@ -246,7 +251,7 @@ impl Replay {
             "local" => {
                 let bits = words.bits()?;
                 let t = local_test(&std::array::from_fn(|p| bits >> p & 1 == 1));
-                Ok(format!("k {} m {} corners {} edges {} faces {}", t.k, t.m, t.corners, t.edges, t.faces))
+                Ok(format!("k {} m {} corners {} edges {} faces {} face {}", t.k, t.m, t.corners, t.edges, t.faces, t.face))
             }
             "readlayer" => layer(&self.sides, &self.file, words.number()?).map(|l| {
                 let bytes = self.file[l.from..l.to].iter().copied();
