@@ -206,6 +206,31 @@ mod tests {
         }
     }
 
+    /// 22 goes by high x, and then 25 by low x.
+    #[test]
+    fn an_answer_with_another_face_is_told() {
+        let pair = ["sides 4 4 3", "T 1", "values fill 6", "values set 21 -6", "values set 26 -6", "begin"];
+        let all = [
+            ("carve 9", "carve ok examined 2 removed 2 pending 0 face", 0, "carve: another face of the first removal"),
+            ("carve 1", "carve ok examined 1 removed 1 pending 1 face", 1, "carve: another face, z before y before x"),
+            ("carve 0", "carve ok examined 0 removed 0 pending 1 face", 6, "carve: no removal, limit 0"),
+            ("take 22", "take ok gone k 1 m 1 face", 1, "take: a lower face covered by a voxel of S"),
+            ("local 15410", "local ok k 1 m 1 corners 8 edges 12 faces 5 face", 5, "local: one face is bare"),
+        ];
+        let mut state = Replay::new();
+        for line in pair {
+            state.line(line).expect("a line of the language");
+        }
+        for (call, said, face, met) in all {
+            let entries = |answer: String| Before::of(&state, call).entries(&answer);
+            assert!(entries(format!("{said} {face}")).is_ok_and(|all| all.contains(&met.to_string())), "{call}: {met}");
+            for other in (0..=6).filter(|&other| other != face) {
+                assert!(entries(format!("{said} {other}")).is_err(), "{call}: {other}");
+            }
+            assert!(entries(said.trim_end_matches(" face").to_string()).is_err(), "{call}: none");
+        }
+    }
+
     /// A wide grid is given the length of wide layers to write, and a narrow one that of narrow ones.
     #[test]
     fn the_length_for_the_width_is_told() {

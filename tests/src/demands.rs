@@ -560,6 +560,86 @@ const ALSO: &[(&str, usize)] = &[
     ("crossing: a mark over 3", 1),
     ("points: marks of another length", 3),
     ("points: a mark over 3", 1),
+    // faces
+    ("local: face 0", 10),
+    ("local: face 1", 10),
+    ("local: face 2", 10),
+    ("local: face 3", 10),
+    ("local: face 4", 10),
+    ("local: face 5", 10),
+    ("local: face 6", 10),
+    ("local: another face, from the highest number down", 10),
+    ("local: another face, high before low", 10),
+    ("local: another face, z before y before x", 10),
+    ("local: another face, y before x", 10),
+    ("local: another face, all low ones first", 10),
+    ("local: another face, by the place in the block", 10),
+    ("local: one face is bare", 10),
+    ("local: every face is bare", 5),
+    ("take: face 0", 10),
+    ("take: face 1", 10),
+    ("take: face 2", 10),
+    ("take: face 3", 10),
+    ("take: face 4", 10),
+    ("take: face 5", 10),
+    ("take: another face, from the highest number down", 10),
+    ("take: another face, high before low", 10),
+    ("take: another face, z before y before x", 10),
+    ("take: another face, y before x", 10),
+    ("take: another face, all low ones first", 10),
+    ("take: another face, by the place in the block", 10),
+    ("take: one face is bare", 10),
+    ("take: every face is bare", 5),
+    ("take: a lower face covered by a pending voxel", 10),
+    ("take: a lower face covered by a voxel of S", 10),
+    ("take: a lower face covered by a pinned voxel", 10),
+    ("open: face 0", 10),
+    ("open: face 1", 10),
+    ("open: face 2", 10),
+    ("open: face 3", 10),
+    ("open: face 4", 10),
+    ("open: face 5", 10),
+    ("open: another face, from the highest number down", 10),
+    ("open: another face, high before low", 10),
+    ("open: another face, z before y before x", 10),
+    ("open: another face, y before x", 10),
+    ("open: another face, all low ones first", 10),
+    ("open: another face, by the place in the block", 10),
+    ("open: one face is bare", 10),
+    ("open: every face is bare", 5),
+    ("open: a lower face covered by a voxel of S", 10),
+    ("open: a lower face covered by a pinned voxel", 10),
+    ("carve: face 0", 10),
+    ("carve: face 1", 10),
+    ("carve: face 2", 10),
+    ("carve: face 3", 10),
+    ("carve: face 4", 10),
+    ("carve: face 5", 10),
+    ("carve: face 6", 10),
+    ("carve: another face, from the highest number down", 10),
+    ("carve: another face, high before low", 10),
+    ("carve: another face, z before y before x", 10),
+    ("carve: another face, y before x", 10),
+    ("carve: another face, all low ones first", 10),
+    ("carve: another face, by the place in the block", 10),
+    ("carve: one face is bare", 10),
+    ("carve: every face is bare", 5),
+    ("carve: no removal, limit 0", 10),
+    ("carve: no removal, nothing pending", 10),
+    ("carve: no removal, what was examined is pinned", 10),
+    ("carve: no removal, what was examined does not pass", 10),
+    ("carve: no removal, what was examined has a bare face", 10),
+    ("carve: no removal, after one of an earlier call", 10),
+    ("carve: another face of the first removal", 10),
+    ("carve: another face of the removal before", 10),
+    ("carve: a lower face of an earlier removal", 10),
+    ("carve: a higher face of an earlier removal", 10),
+    ("carve: another face of the removal of the greatest index", 10),
+    ("carve: another face of a voxel examined last, which does not pass", 10),
+    ("carve: another face of a voxel examined last, which is pinned", 10),
+    ("carve: two examinations or more after the last removal", 10),
+    ("carve: another face of the last removal when the call began", 10),
+    ("carve: no bare face of the last removal when the call began", 10),
     // the local test
     ("local", 2400),
     ("local: bits from 27 on", 1),
@@ -603,6 +683,8 @@ pub struct Before {
     call: String,
     words: Vec<String>,
     faults: Option<Vec<Fault>>,
+    /// The face that it must answer, where that is found out.
+    face: Option<usize>,
     seen: Vec<String>,
 }
 
@@ -610,20 +692,30 @@ impl Before {
     pub fn of(state: &Replay, command: &str) -> Self {
         let words: Vec<&str> = command.split_ascii_whitespace().collect();
         let call = words.first().unwrap_or(&"").to_string();
-        let mut seen = Vec::new();
+        let faults = faults(state, command);
+        let (mut seen, mut face) = (Vec::new(), None);
         if order(&call).is_some() || call == "local" {
             seen.extend(sights::of(state, &call, &words));
             seen.extend(extremes::of(state, &call, &words));
         }
-        Before { call, words: words.iter().map(|word| word.to_string()).collect(), faults: faults(state, command), seen }
+        if faults.as_ref().is_none_or(Vec::is_empty) {
+            let faced = faced::of(state, &call, &words);
+            face = faced.as_ref().map(|faced| faced.face);
+            seen.extend(faced.into_iter().flat_map(|faced| faced.seen));
+        }
+        Before { call, words: words.iter().map(|word| word.to_string()).collect(), faults, face, seen }
     }
 
-    /// The entries that the call meets by its answer; an error where the answer is not that of the first fault.
+    /// The entries that the call meets by its answer; an error where the answer is not that of the first fault, or has another face.
     pub fn entries(self, answer: &str) -> Result<Vec<String>, String> {
         let said = answer.split(" # ").next().unwrap_or("");
         let words: Vec<&str> = self.words.iter().map(String::as_str).collect();
         let answered = extremes::answered(&self.call, &words, said);
+        let other_face = |face: &usize| faced::answered(said) != Some(*face);
         let Some(faults) = self.faults else {
+            if let Some(face) = self.face.filter(other_face) {
+                return Err(format!("the answer {said:?} has not the lowest bare face, {face}"));
+            }
             return Ok(if self.call == "local" { self.seen.into_iter().chain(answered).collect() } else { Vec::new() });
         };
         let refused = said.trim_start_matches(&self.call).trim_start().strip_prefix("refused ");
@@ -633,6 +725,9 @@ impl Before {
             return Err(format!("the answer {said:?} is not what the order of checks gives: {by_faults}"));
         }
         let Some(first) = faults.first() else {
+            if let Some(face) = self.face.filter(other_face) {
+                return Err(format!("the answer {said:?} has not the face of the last removal, {face}"));
+            }
             let seen = self.seen.into_iter().chain(sights::answered(&self.call, said)).chain(answered);
             return Ok(seen.chain([format!("{} done", self.call)]).collect());
         };
@@ -665,6 +760,7 @@ pub fn worked_case(case: &str, line: &str) -> String {
 }
 
 pub mod extremes;
+mod faced;
 mod gaps;
 mod marked;
 mod ordered;

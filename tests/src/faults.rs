@@ -2,6 +2,7 @@
 //! `write`, for patch records, for the order of layers, for values of 32 bits and for marks, and docs/RULES.md for `points`, which is ours, with the order of
 //! checks beside them, and not from the reference's code: so the kit can be asked for every pair of faults, and the reference is held to the order.
 
+use crate::faces::ACROSS;
 use crate::marks::{pinned, wrong_mark};
 use crate::records::{contents, is_measured, negative, parts, patch_index, second_byte, written_length, written_width, LayerRecord};
 use crate::records::{GREATEST, LEAST, LONGEST_INPUT, MISSING, NARROW, PATCH_LENGTH, WIDE};
@@ -142,8 +143,7 @@ fn passes(sides: &Sides, status: &[u8], i: usize) -> bool {
 }
 
 fn bare(sides: &Sides, status: &[u8], i: usize) -> bool {
-    let steps = [[-1, 0, 0], [1, 0, 0], [0, -1, 0], [0, 1, 0], [0, 0, -1], [0, 0, 1]];
-    steps.into_iter().any(|step| !kept(sides, status, i, step))
+    ACROSS.into_iter().any(|step| !kept(sides, status, i, step))
 }
 
 /// Which clause of 28 a value fails, if any: the range has two ends, the missing mark lies beside it, and 32 bits end.

@@ -3,6 +3,7 @@
 pub mod compare;
 pub mod conformance;
 pub mod demands;
+pub mod faces;
 pub mod faults;
 pub mod files;
 pub mod gaps;

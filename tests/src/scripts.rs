@@ -7,6 +7,7 @@ pub mod cases;
 mod crafted;
 mod damage;
 mod extremes;
+mod faces;
 mod filling;
 mod greatest;
 pub mod language;
@@ -47,9 +48,9 @@ pub const SEEDED: [&str; 14] = [
 ];
 
 /// The kinds of scripts that are written out. What takes longest stands last.
-pub const WRITTEN: [&str; 15] = [
-    "cases", "language", "refusals", "damage", "ordering", "patching", "writing", "widening", "filling", "marking", "extremes", "long",
-    "points", "shapes", "greatest",
+pub const WRITTEN: [&str; 16] = [
+    "cases", "language", "refusals", "damage", "ordering", "patching", "writing", "widening", "filling", "marking", "faces", "extremes",
+    "long", "points", "shapes", "greatest",
 ];
 
 /// How many scripts of each seeded kind a second supplier is given.
@@ -72,6 +73,7 @@ pub fn conformance(kind: &str) -> Vec<String> {
         "widening" => widening::scripts(),
         "filling" => filling::scripts(),
         "marking" => marking::scripts(),
+        "faces" => faces::scripts(),
         "patching" => patching::scripts(),
         "long" => long::scripts(),
         "points" => points::scripts(),

@@ -37,9 +37,12 @@ pub const MARKS: [u8; 9] = [4, 5, 6, 7, 127, 128, 129, 130, 131];
 const OUT: &[(&str, &str, &[i64])] = &[
     ("carve", "examined", &[255, 65_535, 131_071]),
     ("carve", "removed", &[255, 65_535]),
+    ("carve", "face", &[5]),
+    ("take", "face", &[4]),
     ("open", "opened", &[255, 65_535, 131_071]),
     ("open", "k", &[7]),
     ("open", "m", &[5]),
+    ("open", "face", &[4]),
     ("points", "count", &[255, 65_535]),
     ("points", "next", &[255, 65_535, 524_287]),
     ("readlayer", "z", &[62]),
@@ -57,6 +60,7 @@ const OUT: &[(&str, &str, &[i64])] = &[
     ("local", "corners", &[7]),
     ("local", "edges", &[11]),
     ("local", "faces", &[5]),
+    ("local", "face", &[5]),
 ];
 
 /// The numbers of a record, in and out.

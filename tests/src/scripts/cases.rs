@@ -1,4 +1,4 @@
-//! Document 01's worked cases, each with the lines that the paper gives for it.
+//! Document 01's worked cases, each with the lines that the paper gives for it; the faces in them are by document 02, CR 8.
 
 /// The worked cases: name, script.
 pub const SCRIPTS: &[(&str, &str)] = &[
@@ -35,14 +35,14 @@ pub const LINES: &[(&str, &[&str])] = &[
         &[
             "[8, 7, 8, 7, 5, 7, 8, 7, 8, 7, 5, 7, 5, -5, 5, 7, 5, 7, 8, 7, 8, 7, 5, 7, 8, 7, 8]",
             "[0, 0, 0, 0, 0, 0, 0, 0, 0, 0, 0, 0, 0, 1, 0, 0, 0, 0, 0, 0, 0, 0, 0, 0, 0, 0, 0]",
-            "carve ok examined 0 removed 0 pending 0 | rec 3 3 3 T 0 openings 0 removals 0 examinations 0 euler 1 finished 0",
+            "carve ok examined 0 removed 0 pending 0 face 6 | rec 3 3 3 T 0 openings 0 removals 0 examinations 0 euler 1 finished 0",
             "crossing ok point 3ff8000000000000 3ff0000000000000 3ff0000000000000",
         ],
     ),
     (
         "C, T = 0",
         &[
-            "carve ok examined 1 removed 0 pending 0 | rec 5 5 3 T 0 openings 0 removals 0 examinations 1 euler 1 finished 0",
+            "carve ok examined 1 removed 0 pending 0 face 6 | rec 5 5 3 T 0 openings 0 removals 0 examinations 1 euler 1 finished 0",
             "open refused 14",
             // the middle is -4, so that no surface lies between it and the ring, and p is 4 against the 6 of the voxel above it
             "crossing ok none",
@@ -51,11 +51,14 @@ pub const LINES: &[(&str, &[&str])] = &[
     ),
     (
         "C, T = 1",
-        &["take refused 12", "open ok opened 37 k 1 m 2 | rec 5 5 3 T 1 openings 1 removals 1 examinations 1 euler 0 finished 0"],
+        &["take refused 12", "open ok opened 37 k 1 m 2 face 4 | rec 5 5 3 T 1 openings 1 removals 1 examinations 1 euler 0 finished 0"],
     ),
     (
         "D",
         &[
+            // 22 has 21 at its low x, and the border at its high x; 25 has the border at its low x
+            "carve ok examined 1 removed 1 pending 1 face 1 | rec 4 4 3 T 0 openings 0 removals 1 examinations 1 euler 1 finished 0",
+            "carve ok examined 1 removed 1 pending 0 face 0 | rec 4 4 3 T 0 openings 0 removals 2 examinations 2 euler 1 finished 0",
             "[0, 0, 0, 0, 0, 0, 0, 0, 0, 0, 0, 0, 0, 0, 0, 0, 0, 0, 0, 0, 0, 1, 0, 0, 0, 3, 1, 0, 0, 0, 0, 0, 0, 0, 0, 0, 0, 0, 0, 0, 0, 0, 0, 0, 0, 0, 0, 0]",
             "[0, 0, 0, 0, 0, 0, 0, 0, 0, 0, 0, 0, 0, 0, 0, 0, 0, 0, 0, 0, 0, 1, 0, 0, 0, 0, 1, 0, 0, 0, 0, 0, 0, 0, 0, 0, 0, 0, 0, 0, 0, 0, 0, 0, 0, 0, 0, 0]",
         ],
@@ -64,15 +67,15 @@ pub const LINES: &[(&str, &[&str])] = &[
     (
         "local tests",
         &[
-            "local ok k 0 m 1 corners 0 edges 0 faces 0",
-            "local ok k 1 m 0 corners 8 edges 12 faces 6",
-            "local ok k 1 m 1 corners 4 edges 4 faces 1",
-            "local ok k 1 m 1 corners 1 edges 0 faces 0",
-            "local ok k 2 m 1 corners 8 edges 8 faces 2",
-            "local ok k 1 m 2 corners 8 edges 12 faces 4",
-            "local ok k 1 m 1 corners 8 edges 12 faces 5",
-            "local ok k 8 m 1 corners 8 edges 0 faces 0",
-            "local ok k 1 m 6 corners 8 edges 12 faces 0",
+            "local ok k 0 m 1 corners 0 edges 0 faces 0 face 0",
+            "local ok k 1 m 0 corners 8 edges 12 faces 6 face 6",
+            "local ok k 1 m 1 corners 4 edges 4 faces 1 face 0",
+            "local ok k 1 m 1 corners 1 edges 0 faces 0 face 0",
+            "local ok k 2 m 1 corners 8 edges 8 faces 2 face 0",
+            "local ok k 1 m 2 corners 8 edges 12 faces 4 face 4",
+            "local ok k 1 m 1 corners 8 edges 12 faces 5 face 5",
+            "local ok k 8 m 1 corners 8 edges 0 faces 0 face 0",
+            "local ok k 1 m 6 corners 8 edges 12 faces 0 face 0",
         ],
     ),
 ];

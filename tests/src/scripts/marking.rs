@@ -10,15 +10,15 @@ use reference::grid::{begin, Sides};
 
 const MARKS: [u8; 4] = [UNMARKED, PINNED, HURRIED, BOTH];
 
-fn index([a, b, _]: [usize; 3], [x, y, z]: [usize; 3]) -> usize {
+pub(super) fn index([a, b, _]: [usize; 3], [x, y, z]: [usize; 3]) -> usize {
     x + a * (y + b * z)
 }
 
-fn set(buffer: &str, i: usize, value: impl std::fmt::Display) -> String {
+pub(super) fn set(buffer: &str, i: usize, value: impl std::fmt::Display) -> String {
     format!("{buffer} set {i} {value}\n")
 }
 
-fn listed<T: std::fmt::Display>(buffer: &str, items: &[T]) -> String {
+pub(super) fn listed<T: std::fmt::Display>(buffer: &str, items: &[T]) -> String {
     format!("{buffer} list {}\n", items.iter().map(T::to_string).collect::<Vec<_>>().join(" "))
 }
 
