@@ -225,8 +225,9 @@ the same, 1 where they differ, 2 where a file cannot be read as a grid.
 
 One HTML page that opens in any browser without a network: what `wattle explain` says, layers to scroll through, and the surface's
 points to turn, with a key of their own; the openings, in the picture and as a list that leads to each. Where openings allowed freely make
-another body, a switch shows that one. Hand and keyboard reach everything; it is dark where the reader's screen is, has letters in the
-squares for grey print, and without scripts the layers as a picture.
+another body, a switch shows that one. A grid of up to 32,768 voxels, such as 32 x 32 x 32, can be watched being carved, one removal after
+the other: each voxel slides out by its first bare side. Hand and keyboard reach everything; it is dark where the reader's screen is, keeps
+still where the reader wants no motion, has letters in the squares for grey print, and without scripts the layers as a picture.
 
 ",
             place!(),

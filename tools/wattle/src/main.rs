@@ -30,6 +30,7 @@ mod picture;
 mod png;
 mod points;
 mod progress;
+mod removals;
 mod rewrite;
 mod volume;
 mod words;

@@ -10,6 +10,7 @@ use crate::marks::marks;
 use crate::meaning::meaning;
 use crate::picture::{png, web};
 use crate::points::{surface, SurfacePoint};
+use crate::removals::{removals, Removal};
 use crate::{Answer, Failure};
 use wattlerugby::{Opened, Refusal, Sides};
 
@@ -45,6 +46,7 @@ struct Shown<'a> {
     sentences: Vec<String>,
     points: Vec<SurfacePoint>,
     openings: Vec<Opened>,
+    removals: Vec<Removal>,
 }
 
 /// The body, and the one with openings allowed freely where that is another.
@@ -57,13 +59,13 @@ fn carved<'a>(body: &Body<'a>, frame: &Frame) -> Vec<Shown<'a>> {
 impl<'a> Shown<'a> {
     fn of(body: &Body<'a>, free: &Body, frame: &Frame) -> Shown<'a> {
         let (view, sentences) = (View::of(body), meaning(body, free, frame));
-        Shown { view, sentences, points: surface(body), openings: body.openings.clone() }
+        Shown { view, sentences, points: surface(body), openings: body.openings.clone(), removals: removals(body) }
     }
 
     fn refused(scan: &'a Scan, records: &Records, refused: Refusal) -> Shown<'a> {
         let (place, advice) = unfit(scan, records, refused);
         let sentences = vec![format!("Where: {place}"), format!("What to do: {advice}")];
-        Shown { view: View::refused(scan, refused), sentences, points: Vec::new(), openings: Vec::new() }
+        Shown { view: View::refused(scan, refused), sentences, points: Vec::new(), openings: Vec::new(), removals: Vec::new() }
     }
 
     /// The line, what it means, and the key of the voxels.
@@ -99,12 +101,14 @@ impl<'a> Shown<'a> {
 
     fn data(&self) -> String {
         let coordinates = self.points.iter().flat_map(|p| [p.at.x, p.at.y, p.at.z]).flat_map(|c| (c as f32).to_le_bytes());
+        let removals = self.removals.iter().flat_map(|removal| (8 * removal.index as u32 + removal.face.number()).to_le_bytes());
         format!(
-            "{{\"voxels\": \"{}\",\n\"points\": \"{}\",\n\"restsOn\": \"{}\",\n\"openings\": {:?}}}",
+            "{{\"voxels\": \"{}\",\n\"points\": \"{}\",\n\"restsOn\": \"{}\",\n\"openings\": {:?},\n\"removals\": \"{}\"}}",
             base64(self.view.kinds.iter().map(|&k| k as u8)),
             base64(coordinates),
             base64(self.points.iter().map(|p| p.rests_on as u8)),
-            self.openings.iter().map(|o| o.index).collect::<Vec<_>>()
+            self.openings.iter().map(|o| o.index).collect::<Vec<_>>(),
+            base64(removals)
         )
     }
 }

@@ -5,7 +5,7 @@ mod common;
 use common::{carved, path, samples, status, text, wattle, Carved, COLOURS};
 use std::path::Path;
 use std::process::Command;
-use wattlerugby::MISSING;
+use wattlerugby::{Face, Grid, GONE, MISSING};
 
 fn page(grid: &Path) -> String {
     text(&wattle(&["page", path(grid)]).stdout)
@@ -106,6 +106,70 @@ fn option(number: usize, row: &str) -> String {
     let cells: Vec<&str> = row.split(',').collect();
     let [x, y, z, i, _, _, k, m] = cells[..] else { panic!("{row}") };
     format!("<option value=\"{i}\">{}: ({x}, {y}, {z}), index {i}, k = {k}, m = {m}</option>", number + 1)
+}
+
+// ---- removals
+
+/// A voxel that was removed, and the first of its faces across which no voxel was kept just before.
+type Removal = (usize, Face);
+
+/// Every removal of a file's body, in its order: one examination at a time, with an opening where nothing is pending.
+fn removals(file: &[u8]) -> Vec<Removal> {
+    let mut grid = Grid::from_file(file).expect("the file is taken");
+    let (sides, mut made) = (grid.record().sides, Vec::new());
+    loop {
+        let before = grid.status().to_vec();
+        if !grid.carve(1).expect("a begun grid is carved").pending && grid.status() == before && grid.open().is_err() {
+            return made;
+        }
+        for i in (0..before.len()).filter(|&i| before[i] != GONE && grid.status()[i] == GONE) {
+            let across = |face: &Face| {
+                let [x, y, z] = face.step().map(isize::from);
+                (i as isize + x + sides.a as isize * (y + sides.b as isize * z)) as usize
+            };
+            made.push((i, Face::ALL.into_iter().find(|face| before[across(face)] == GONE).expect("a bare face")));
+        }
+    }
+}
+
+/// The removals of each body of a page.
+fn listed(page: &str) -> Vec<Vec<Removal>> {
+    let texts = page.split("\"removals\": \"").skip(1).map(|rest| rest.split_once('"').expect("an end").0);
+    let number = |bytes: &[u8]| u32::from_le_bytes(bytes.try_into().expect("four bytes"));
+    let removal = |n: u32| (n as usize >> 3, Face::of(n & 7).expect("a face"));
+    texts.map(|text| decoded(text).chunks(4).map(|four| removal(number(four))).collect()).collect()
+}
+
+#[test]
+fn it_has_every_removal_with_its_side() {
+    let mut faces = std::collections::BTreeSet::new();
+    for grid in samples() {
+        let (file, page) = (std::fs::read(&grid).unwrap(), page(&grid));
+        let Ok(body) = carved(&file) else {
+            assert_eq!(listed(&page), [[]], "a refused grid has none");
+            continue;
+        };
+        let due: Vec<Vec<Removal>> =
+            [file, freed(&grid)].iter().take(1 + page.matches("id=\"body\"").count()).map(|f| removals(f)).collect();
+        assert_eq!(due[0].len() as u64, body.grid.record().removals);
+        assert!(listed(&page) == due, "{}", grid.display());
+        faces.extend(due.concat().iter().map(|(_, face)| *face));
+    }
+    assert_eq!(faces.len(), 6, "the samples have removals by every side");
+}
+
+/// Of a grid with pins, and of one that is too large to be carved so slowly.
+#[test]
+fn its_removals_hold_to_pins_and_are_left_out_of_large_grids() {
+    let pins = format!("@{}", path(&common::sample("torus-1.pins")));
+    let torus = text(&wattle(&["page", path(&common::sample("torus-1.grid")), "--pin", &pins]).stdout);
+    let line = text(&wattle(&["carve", path(&common::sample("torus-1.grid")), "--pin", &pins]).stdout);
+    assert!(line.contains(&format!(" removed {} ", listed(&torus)[0].len())), "{line}");
+    for (side, some) in [(32, true), (33, false)] {
+        let sides = [side, 32, 32];
+        let page = text(&common::wattle_on(&["page", "-"], &common::grid_file(sides, 0, common::sphere(sides, 9.0))).stdout);
+        assert_eq!(listed(&page).iter().map(|all| !all.is_empty()).collect::<Vec<_>>(), [some], "{side}");
+    }
 }
 
 /// Without scripts there are the layers as `wattle look --png` draws them.
@@ -230,14 +294,16 @@ fn a_browser_shows_every_layer_and_turns_the_points() {
         let report = used(browser, &format!("page-{name}"), &page(&grid), &["--window-size=1200,900"]);
         assert_eq!((report["faults"].as_str(), report["dark"].as_str()), ("", "false"), "{name}");
         layers(&report, "", &body, &name);
-        voxels(&report, &body);
+        let removals = removals(&std::fs::read(&grid).unwrap());
+        voxels(&report, &body, &removals);
+        steps(&report, &body, &removals);
         assert_eq!((report["scrolled"].as_str(), report["hand"].as_str(), report["surface"].as_str()), ("1", "1", "true"));
         assert_eq!((report["letters"].as_str(), report["zoomed"].as_str()), ("true true", "1.25 1.56 1.25 1.00"), "{name}");
-        assert_eq!(report["openings"], openings_due(&body), "{name}");
+        assert_eq!(report["openings"], openings_due(&body, &removals), "{name}");
         if let Some(line) = report.get("free line") {
-            let free = carved(&freed(&grid)).unwrap();
+            let (free, removals) = (carved(&freed(&grid)).unwrap(), self::removals(&freed(&grid)));
             layers(&report, "free ", &free, &name);
-            assert_eq!(report["free openings"], openings_due(&free), "{name}");
+            assert_eq!(report["free openings"], openings_due(&free, &removals), "{name}");
             assert!(line.starts_with("kept ") && !line.contains(','), "one line is shown: {line}");
         }
         cloud(&report, &name);
@@ -254,15 +320,47 @@ fn layers(report: &Report, which: &str, body: &Carved, name: &str) {
 }
 
 /// How the page tells a voxel.
-fn told(body: &Carved, [x, y, z]: [usize; 3]) -> String {
+fn told(body: &Carved, removals: &[Removal], [x, y, z]: [usize; 3]) -> String {
     let i = x + body.sides.a * (y + body.sides.b * z);
     let value = if body.values[i] == MISSING { "missing".to_string() } else { format!("value {}", body.values[i]) };
     let name = common::NAMES.iter().find(|(kind, ..)| *kind == body.kinds[i]).unwrap().2;
-    format!("({x}, {y}, {z}), index {i}: {value}, {name}")
+    let turn = removals.iter().position(|(index, _)| *index == i);
+    let removal = turn.map_or(String::new(), |turn| format!(", removal {}, out by {}", turn + 1, removals[turn].1));
+    format!("({x}, {y}, {z}), index {i}: {value}, {name}{removal}")
+}
+
+fn place_of(body: &Carved, i: usize) -> [usize; 3] {
+    let (a, b) = (body.sides.a, body.sides.b);
+    [i % a, i / a % b, i / (a * b)]
+}
+
+/// Before the first removal all voxels of the box are there, those to go in grey. Each of the first twelve is told in its layer, and slides before it
+/// is gone.
+fn steps(report: &Report, body: &Carved, removals: &[Removal]) {
+    let count = |made: usize| format!("{made} of {} removals", removals.len());
+    let last = |made: usize| format!("{}, the last out by {}", count(made), removals[made - 1].1);
+    assert_eq!((&report["removals"], &report["no removal"]), (&last(removals.len()), &count(0)));
+    let z: usize = report["still to go in"].trim_start_matches("z = ").parse().unwrap();
+    let mut layer: Vec<String> = layer_due(body, 2, z).split(' ').map(str::to_string).collect();
+    for [x, y, _] in removals.iter().map(|(i, _)| place_of(body, *i)).filter(|place| place[2] == z) {
+        layer[x + body.sides.a * y] = "#5d656f".to_string();
+    }
+    assert_eq!(report["still to go"], layer.join(" "));
+    let place = |turn: usize| place_of(body, removals[turn].0);
+    let line = |turn: usize| format!("{} in z = {}; {}", told(body, removals, place(turn)), place(turn)[2], last(turn + 1));
+    let steps = 0..12.min(removals.len());
+    assert!(report["each removal"].starts_with(&steps.clone().map(line).collect::<Vec<_>>().join(" | ")), "{}", report["each removal"]);
+    assert_eq!((report["slides"].as_str(), report["jumps"].as_str()), (["true"; 12].join(" ").as_str(), "true"));
+    let gone = |turn: usize| {
+        let [r, g, b] = COLOURS[body.kinds[removals[turn].0] as usize];
+        format!("#{r:02x}{g:02x}{b:02x}")
+    };
+    assert!(report["gone after"].starts_with(&steps.map(gone).collect::<Vec<_>>().join(" ")), "{}", report["gone after"]);
 }
 
 /// The voxel's line goes with the pointer, the layer and the keys, and is never that of a voxel which is not shown.
-fn voxels(report: &Report, body: &Carved) {
+fn voxels(report: &Report, body: &Carved, removals: &[Removal]) {
+    let told = |body, place| told(body, removals, place);
     let none = "Point at a voxel to read it.";
     assert_eq!((report["no voxel"].as_str(), report["voxel left"].as_str()), (none, none));
     assert_eq!((&report["voxel"], &report["voxel below"]), (&told(body, [7, 2, 4]), &told(body, [7, 2, 5])));
@@ -273,10 +371,9 @@ fn voxels(report: &Report, body: &Carved) {
 }
 
 /// What choosing each opening tells, one after the other.
-fn openings_due(body: &Carved) -> String {
-    let (a, b) = (body.sides.a, body.sides.b);
-    let places = body.opened.iter().map(|i| [i % a, i / a % b, i / (a * b)]);
-    places.map(|place| format!("{} in z = {}", told(body, place), place[2])).collect::<Vec<_>>().join("; ")
+fn openings_due(body: &Carved, removals: &[Removal]) -> String {
+    let places = body.opened.iter().map(|&i| place_of(body, i));
+    places.map(|place| format!("{} in z = {}", told(body, removals, place), place[2])).collect::<Vec<_>>().join("; ")
 }
 
 /// Each movement changes the picture of the points, a finger that was lifted does not, and a double click brings the first one back.
@@ -300,6 +397,14 @@ fn a_browser_shows_it_in_a_narrow_window_and_a_refused_grid() {
     assert_eq!((refused["faults"].as_str(), refused["surface"].as_str()), ("", "false"));
     let edge = refused["layer 2 5"].split(' ').filter(|c| *c == "#d55e00").count();
     assert_eq!(edge, 4, "four voxels of the layer lie on the edge");
+}
+
+/// A reader who wants things to stand still sees each removal at once.
+#[test]
+fn a_browser_slides_nothing_for_those_who_want_no_motion() {
+    let Some(browser) = browser() else { return };
+    let still = used(browser, "page-still", &page(&common::sample("torus-1.grid")), &["--force-prefers-reduced-motion"]);
+    assert_eq!((still["faults"].as_str(), still["slides"].as_str()), ("", ["false"; 12].join(" ").as_str()));
 }
 
 /// What is pinned and what is discarded; in the dark what is gone is dark, and what is pinned white.

@@ -84,6 +84,38 @@ function freely() {
   openings("free openings");
 }
 
+// One removal at a time from the beginning: what is told of each, whether the voxel slides, and whether it ends where it is gone. Then the layer as
+// it was before the first, and the end again.
+function removals() {
+  const seen = () => layer.toDataURL(), click = () => element("next").dispatchEvent(new Event("click"));
+  const told = [], moved = [], ends = [];
+  say("removals", element("removals").hidden ? "none" : element("last").textContent);
+  if (element("removals").hidden) return;
+  click();
+  say("no removal", element("last").textContent);
+  say("still to go in", element("which").textContent);
+  say("still to go", seenLayer(sides[0], sides[1]));
+  for (let i = 0; i < 12; i++) {
+    click();
+    told.push(voxelLine() + " in " + element("which").textContent + "; " + element("last").textContent);
+    // half way, unless it does not move at all
+    if (since > 0) since = performance.now() - 200;
+    drawLayer();
+    const moving = seen();
+    since = -Infinity;
+    drawLayer();
+    moved.push(moving !== seen());
+    const { cell, left, top } = layout(), [x, y] = held, pen = layer.getContext("2d");
+    ends.push(hex(pen.getImageData(left + x * cell + (cell >> 1), top + y * cell + (cell >> 1), 1, 1).data, 0));
+  }
+  say("each removal", told.join(" | "));
+  say("slides", moved.join(" "));
+  say("gone after", ends.join(" "));
+  moment.value = moment.max;
+  moment.dispatchEvent(new Event("input"));
+  say("jumps", slid() === 1);
+}
+
 function lettered() {
   const seen = () => layer.toDataURL(), before = seen();
   letters.checked = true;
@@ -136,6 +168,7 @@ const steps = [
   zoomed,
   () => { say("wide", document.documentElement.scrollWidth <= innerWidth); say("surface", !element("surface").hidden); },
   () => say("dark", matchMedia("(prefers-color-scheme: dark)").matches),
+  removals,
   () => allLayers(""),
   freely,
 ];
