@@ -1,6 +1,7 @@
 //! The archive of another commit, where WATTLERUGBY_BEFORE names its folder: a copy with every name prefixed, so that one program holds both
 //! and times them in the same rounds. WATTLERUGBY_BEFORE_BITS says how many bits a value has in its interface, which plain names do not tell: 32, or
-//! 16 before document 02's CR 5. Whether its calls are lent marks, as from CR 7 on, their symbols tell. WATTLERUGBY_SHIFT is for main.rs.
+//! 16 before document 02's CR 5. Whether its calls are lent marks, as from CR 7 on, and tell faces, as from CR 8 on, their symbols say. WATTLERUGBY_SHIFT
+//! is for main.rs.
 
 use std::path::{Path, PathBuf};
 use std::process::Command;
@@ -10,7 +11,7 @@ fn main() {
     println!("cargo:rustc-env=SHIFT={}", std::env::var("WATTLERUGBY_SHIFT").unwrap_or_else(|_| "0".into()));
     println!("cargo:rerun-if-env-changed=WATTLERUGBY_BEFORE");
     println!("cargo:rerun-if-env-changed=WATTLERUGBY_BEFORE_BITS");
-    println!("cargo:rustc-check-cfg=cfg(before, before_16, before_marks, before_points, before_write)");
+    println!("cargo:rustc-check-cfg=cfg(before, before_16, before_faces, before_marks, before_points, before_write)");
     let Ok(folder) = std::env::var("WATTLERUGBY_BEFORE") else { return };
     let archive = Path::new(&folder).join("libcapi.a");
     println!("cargo:rerun-if-changed={}", archive.display());
@@ -28,7 +29,11 @@ fn main() {
         Ok("32") | Err(_) => {}
         Ok(other) => panic!("WATTLERUGBY_BEFORE_BITS is 16 or 32, not {other}"),
     }
-    if names.iter().any(|name| name == "wattlerugby_carve_8") {
+    let has = |name: &str| names.iter().any(|other| other == name);
+    if has("wattlerugby_carve_9") {
+        println!("cargo:rustc-cfg=before_faces");
+    }
+    if has("wattlerugby_carve_8") || has("wattlerugby_carve_9") {
         println!("cargo:rustc-cfg=before_marks");
     }
     // the calls that an older archive has not
@@ -39,10 +44,10 @@ fn main() {
     }
 }
 
-/// The call that a symbol is of, where archive.rs declares its form: the plain ones, those of 0.6 and those of 0.8. A symbol of another form keeps
-/// its number, and is not linked.
+/// The call that a symbol is of, where archive.rs declares its form: the plain ones, those of 0.6, 0.8 and 0.9. A symbol of another form keeps its
+/// number, and is not linked.
 fn call(symbol: &str) -> &str {
-    symbol.strip_suffix("_6").or(symbol.strip_suffix("_8")).unwrap_or(symbol)
+    ["_6", "_8", "_9"].iter().find_map(|form| symbol.strip_suffix(form)).unwrap_or(symbol)
 }
 
 fn exported(archive: &Path) -> Vec<String> {

@@ -2,12 +2,37 @@
 //! given one.
 
 use crate::types::{Carved, Local, Machine, Opened, Record, Refused, Sides, Taken, Value, Values};
-use wattlerugby::raw::{CrossingAnswer, PointsAnswer, ReadAnswer, ReadLayerAnswer, WriteAnswer};
+use wattlerugby::raw::{CarveAnswer, CrossingAnswer, OpenAnswer, PointsAnswer, ReadAnswer, ReadLayerAnswer, TakeAnswer, WriteAnswer};
 
 fn answered<T>(refusal: u8, answer: T) -> Result<T, Refused> {
     match refusal {
         0 => Ok(answer),
         number => Err(number),
+    }
+}
+
+/// An answer's face, where it has one.
+trait Sided {
+    fn face(&self) -> Option<u32> {
+        None
+    }
+}
+
+impl Sided for CarveAnswer {
+    fn face(&self) -> Option<u32> {
+        Some(self.face)
+    }
+}
+
+impl Sided for TakeAnswer {
+    fn face(&self) -> Option<u32> {
+        Some(self.face)
+    }
+}
+
+impl Sided for OpenAnswer {
+    fn face(&self) -> Option<u32> {
+        Some(self.face)
     }
 }
 
@@ -73,19 +98,20 @@ macro_rules! archive {
                 fn carve(given: Record, dist: &[i32], marks: &[u8], status: &mut [u8], limit: u32) -> Result<Carved, Refused> {
                     let (d, m, s) = (dist.as_ptr(), marks.as_ptr(), status.as_mut_ptr());
                     let r = unsafe { raw::wattlerugby_carve(given.into(), d, dist.len(), m, marks.len(), s, status.len(), limit) };
-                    answered(r.refusal, Carved { examined: r.examined, removed: r.removed, pending: r.pending, next: r.next.into() })
+                    let (face, next) = (r.face(), r.next.into());
+                    answered(r.refusal, Carved { examined: r.examined, removed: r.removed, pending: r.pending, face, next })
                 }
 
                 fn take(given: Record, dist: &[i32], marks: &[u8], status: &mut [u8], index: usize) -> Result<Taken, Refused> {
                     let (d, m, s) = (dist.as_ptr(), marks.as_ptr(), status.as_mut_ptr());
                     let r = unsafe { raw::wattlerugby_take(given.into(), d, dist.len(), m, marks.len(), s, status.len(), index) };
-                    answered(r.refusal, Taken { k: r.k, m: r.m, next: r.next.into() })
+                    answered(r.refusal, Taken { k: r.k, m: r.m, face: r.face(), next: r.next.into() })
                 }
 
                 fn open(given: Record, dist: &[i32], marks: &[u8], status: &mut [u8]) -> Result<Opened, Refused> {
                     let (d, m, s) = (dist.as_ptr(), marks.as_ptr(), status.as_mut_ptr());
                     let r = unsafe { raw::wattlerugby_open(given.into(), d, dist.len(), m, marks.len(), s, status.len()) };
-                    answered(r.refusal, Opened { index: r.index, k: r.k, m: r.m, next: r.next.into() })
+                    answered(r.refusal, Opened { index: r.index, k: r.k, m: r.m, face: r.face(), next: r.next.into() })
                 }
 
                 fn finish(given: Record, dist: &mut [i32], status: &[u8]) -> Result<Record, Refused> {
@@ -122,7 +148,68 @@ archive!(now, Ours, "ours", i32, Some(points_now), Some(write_now), wattlerugby:
 #[allow(clashing_extern_declarations)]
 mod prefixed {
     use crate::types::{Local, Sides};
-    use wattlerugby::raw::{BeginAnswer, CarveAnswer, CrossingAnswer, FinishAnswer, OpenAnswer, ReadAnswer, Record, TakeAnswer};
+    use wattlerugby::raw::{BeginAnswer, CrossingAnswer, FinishAnswer, ReadAnswer, Record};
+    #[cfg(before_faces)]
+    use wattlerugby::raw::{CarveAnswer, OpenAnswer, TakeAnswer};
+
+    /// The answers of an archive from before document 02's CR 8, which have no face. The local test's is then 0.
+    #[cfg(not(before_faces))]
+    mod faceless {
+        use super::super::Sided;
+        use super::*;
+
+        #[repr(C)]
+        pub struct CarveAnswer {
+            pub refusal: u8,
+            pub examined: u32,
+            pub removed: u32,
+            pub pending: bool,
+            pub next: Record,
+        }
+
+        #[repr(C)]
+        pub struct TakeAnswer {
+            pub refusal: u8,
+            pub k: u32,
+            pub m: u32,
+            pub next: Record,
+        }
+
+        #[repr(C)]
+        pub struct OpenAnswer {
+            pub refusal: u8,
+            pub index: usize,
+            pub k: u32,
+            pub m: u32,
+            pub next: Record,
+        }
+
+        #[repr(C)]
+        struct LocalAnswer {
+            k: u32,
+            m: u32,
+            corners: u32,
+            edges: u32,
+            faces: u32,
+        }
+
+        impl Sided for CarveAnswer {}
+        impl Sided for TakeAnswer {}
+        impl Sided for OpenAnswer {}
+
+        extern "C" {
+            fn before_wattlerugby_local_test(kept: u32) -> LocalAnswer;
+        }
+
+        #[inline(always)]
+        pub unsafe fn wattlerugby_local_test(kept: u32) -> Local {
+            let LocalAnswer { k, m, corners, edges, faces } = before_wattlerugby_local_test(kept);
+            Local { k, m, corners, edges, faces, face: 0 }
+        }
+    }
+
+    #[cfg(not(before_faces))]
+    pub use faceless::{wattlerugby_local_test, CarveAnswer, OpenAnswer, TakeAnswer};
 
     /// A value in its interface, as build.rs was told.
     #[cfg(before_16)]
@@ -311,6 +398,7 @@ mod prefixed {
             file: *mut u8,
             fl: usize,
         ) -> wattlerugby::raw::WriteAnswer;
+        #[cfg(before_faces)]
         #[link_name = "before_wattlerugby_local_test"]
         pub fn wattlerugby_local_test(kept: u32) -> Local;
     }
@@ -342,8 +430,9 @@ const WRITE_BEFORE: Option<Write> = None;
 #[cfg(before)]
 archive!(before, Before, "before", super::prefixed::Value, POINTS_BEFORE, WRITE_BEFORE, super::prefixed);
 
-/// Whether the other archive's calls are lent marks, as their symbols tell.
+/// Whether the other archive's calls are lent marks, and whether they tell faces, as their symbols say.
 pub const BEFORE_HAS_MARKS: bool = cfg!(before_marks);
+pub const BEFORE_HAS_FACES: bool = cfg!(before_faces);
 
 /// Stops where the other archive's values have other bits than build.rs was told, before a call is lent too little.
 #[cfg(before)]

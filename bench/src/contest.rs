@@ -87,6 +87,8 @@ pub struct Log {
     pub taken: Vec<Taken>,
     pub opened: Vec<Opened>,
     pub refused: Option<Refused>,
+    /// The faces, taken out of the answers: none where an archive does not tell them.
+    pub faces: Vec<u32>,
 }
 
 impl Log {
@@ -101,8 +103,9 @@ pub fn begin(calls: &Calls, case: &Case, state: &mut State, _: &mut Log) {
 }
 
 fn carve_up_to(limit: u32, calls: &Calls, case: &Case, state: &mut State, log: &mut Log) {
-    let carved = (calls.carve)(state.record, &state.dist, &case.marks, &mut state.status, limit).expect("carve takes the state");
+    let mut carved = (calls.carve)(state.record, &state.dist, &case.marks, &mut state.status, limit).expect("carve takes the state");
     state.record = carved.next;
+    log.faces.extend(carved.face.take());
     log.carved.push(carved);
 }
 
@@ -115,16 +118,18 @@ pub fn carve_one(calls: &Calls, case: &Case, state: &mut State, log: &mut Log) {
 }
 
 pub fn take(calls: &Calls, case: &Case, state: &mut State, log: &mut Log) {
-    let taken = (calls.take)(state.record, &state.dist, &case.marks, &mut state.status, case.taken).expect("the voxel can be taken");
+    let mut taken = (calls.take)(state.record, &state.dist, &case.marks, &mut state.status, case.taken).expect("the voxel can be taken");
     state.record = taken.next;
+    log.faces.extend(taken.face.take());
     log.taken.push(taken);
 }
 
 /// Opens, or is refused.
 pub fn open(calls: &Calls, case: &Case, state: &mut State, log: &mut Log) {
     match (calls.open)(state.record, &state.dist, &case.marks, &mut state.status) {
-        Ok(opened) => {
+        Ok(mut opened) => {
             state.record = opened.next;
+            log.faces.extend(opened.face.take());
             log.opened.push(opened);
         }
         Err(number) => log.refused = Some(number),
@@ -154,10 +159,16 @@ pub type Run = fn(&Calls, &Case, &mut State, &mut Log);
 /// What a run answered, and what it left.
 type Outcome = Option<(Log, State)>;
 
-/// The first run says what is wanted, and every later one must come to the same.
+/// The first run says what is wanted, and every later one must come to the same. Faces are wanted of those that tell them, as the first of these does.
 fn compare(wanted: &mut Outcome, log: &Log, state: &State, name: &str) {
     let (answers, after) = wanted.get_or_insert_with(|| (log.clone(), state.clone()));
-    assert!(answers == log, "{name}: other answers");
+    if answers.faces.is_empty() || log.faces.is_empty() {
+        answers.faces.extend(&log.faces);
+    } else {
+        assert!(answers.faces == log.faces, "{name}: other faces");
+    }
+    let told = |log: &Log| (log.carved.clone(), log.taken.clone(), log.opened.clone(), log.refused);
+    assert!(told(answers) == told(log), "{name}: other answers");
     assert!(after == state, "{name}: other buffers");
 }
 
@@ -188,7 +199,8 @@ pub struct Race<'a> {
 
 impl<'a> Race<'a> {
     pub fn new(entrants: usize, case: &'a Case, start: &'a State, run: Run, apart: Option<&'a Apart>) -> Self {
-        let log = Log { carved: Vec::with_capacity(1 << 12), opened: Vec::with_capacity(1 << 12), ..Log::default() };
+        let (carved, opened, faces) = (Vec::with_capacity(1 << 12), Vec::with_capacity(1 << 12), Vec::with_capacity(1 << 13));
+        let log = Log { carved, opened, faces, ..Log::default() };
         let (times, order) = (vec![f64::INFINITY; entrants], Order::of(entrants));
         Race { case, start, run, apart, times, order, state: start.clone(), log, outcome: None, outcome_apart: None }
     }
@@ -214,6 +226,7 @@ impl<'a> Race<'a> {
         self.log.carved.clear();
         self.log.taken.clear();
         self.log.opened.clear();
+        self.log.faces.clear();
         self.log.refused = None;
         case.values.warm();
         std::hint::black_box(case.marks.iter().fold(0, |all, mark| all ^ mark));

@@ -33,10 +33,18 @@ fn corners_of(t: u32) -> u32 {
     (t & CORNERS).count_ones()
 }
 
-/// The answer, from the touched cells and how many groups they have; no bare cell is looked at.
+/// The lowest numbered bare face, or 6, of the touched cells; of the kept voxels it is the same. The touched faces are moved to their numbers, and
+/// one more than they are has its lowest 1 where their lowest 0 was.
+#[inline(always)]
+pub fn bare_face(t: u32) -> u32 {
+    let faces = t >> 12 & 1 | t >> 13 & 10 | t >> 8 & 4 | t & 16 | t >> 17 & 32;
+    (faces + 1).trailing_zeros()
+}
+
+/// The answer, from the touched cells and how many groups they have; of the bare cells none but the first face is looked for.
 fn local(t: u32, k: u32) -> Local {
     let (corners, edges, faces) = (corners_of(t), (t & EDGES).count_ones(), (t & FACES).count_ones());
-    Local { k, m: k + 1 + edges - corners - faces, corners, edges, faces }
+    Local { k, m: k + 1 + edges - corners - faces, corners, edges, faces, face: bare_face(t) }
 }
 
 /// Whether the voxel may go, by the whole answer.

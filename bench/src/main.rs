@@ -1,6 +1,6 @@
 //! The benchmark: the product against idiomatic and tuned Rust, and against an earlier archive of its own where one is given, as Markdown tables.
-//! Words given name the parts to run; none: all. `once PART SHAPE SIDE [before]` makes a part's calls a single time on a cube, and prints by
-//! what to divide a count of instructions.
+//! Words given name the parts to run; none: all. `once PART SHAPE SIDE [before]` makes a part's calls a single time on a cube, `once block KEPT
+//! COUNT [before]` the local test on so many blocks; either prints by what to divide a count of instructions.
 
 mod files;
 mod gaps;
@@ -250,6 +250,9 @@ fn against_plain(found: &[Found], word: &'static str, shapes: &[Shape], most: f6
 /// A change makes no call slower, beyond what a run tells.
 const NOT_SLOWER: f64 = 1.15;
 
+/// What document 02's CR 8 may cost carve.
+const FACE_HANDED_ON: f64 = 1.05;
+
 /// What CR 6 may cost begin where no point is missing.
 const GAPS_LOOKED_FOR: f64 = 1.3;
 
@@ -279,6 +282,9 @@ fn against_before(found: &[Found], took: &[Took], word: &str, shapes: &[Shape], 
 
 /// A part's calls a single time: ours, or those of the other archive.
 fn once(word: &str, shape: &str, side: &str, before: bool) {
+    if word == "block" {
+        return locals::once(shape, side, before);
+    }
     let side = side.parse().expect("a side");
     let sides = Sides { a: side, b: side, c: side };
     let calls = &ALL[if before { BEFORE } else { 0 }];
@@ -348,7 +354,8 @@ fn main() {
         demands.extend(marks::measure());
     }
     if wanted("carve") {
-        demands.extend(against_before(&found, &took, "carve", &Shape::ALL, NOT_SLOWER));
+        let most = if archive::BEFORE_HAS_FACES { NOT_SLOWER } else { FACE_HANDED_ON };
+        demands.extend(against_before(&found, &took, "carve", &Shape::ALL, most));
         demands.extend(against_plain(&found, "carve", &Shape::ALL, 0.8));
         demands.push(Demand("carve, growth".into(), growth(), 1.3));
     }

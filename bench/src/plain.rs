@@ -1,8 +1,8 @@
 //! (a) The rules in idiomatic Rust: iterators, vectors, a breadth-first search, a BinaryHeap of tuples. The local test has the product's own body.
 
-use crate::local::joined;
+use crate::local::{bare_face, joined};
 use crate::types::{
-    any_stray_mark, begun, counts_fit, hurried, pinned, Carved, Local, Machine, Opened, Record, Refused, Sides, Taken, MISSING,
+    any_stray_mark, begun, counts_fit, hurried, pinned, Carved, Local, Machine, Opened, Record, Refused, Sides, Taken, MISSING, NO_FACE,
 };
 use std::cmp::Reverse;
 use std::collections::{BinaryHeap, VecDeque};
@@ -272,19 +272,21 @@ impl Machine for Plain {
         ready(&given, dist, Some(marks), status)?;
         let key = |i: usize| (hurried(marks[i]), dist[i], Reverse(i));
         let mut pending: BinaryHeap<(bool, i32, Reverse<usize>)> = (0..status.len()).filter(|&i| status[i] == 3).map(key).collect();
-        let (mut examined, mut removed) = (0, 0);
+        let (mut examined, mut removed, mut face) = (0, 0, NO_FACE);
         while examined < limit {
             let Some((_, _, Reverse(i))) = pending.pop() else { break };
             status[i] = 1;
             examined += 1;
-            if !pinned(marks[i]) && joined::passes(block_around(given.sides, status, i)) {
+            let block = block_around(given.sides, status, i);
+            if !pinned(marks[i]) && joined::passes(block) {
                 removed += 1;
+                face = bare_face(block);
                 remove(given.sides, dist, marks, status, i, |j| pending.push(key(j)));
             }
         }
         let next =
             Record { removals: given.removals + u64::from(removed), examinations: given.examinations + u64::from(examined), ..given };
-        Ok(Carved { examined, removed, pending: !pending.is_empty(), next })
+        Ok(Carved { examined, removed, pending: !pending.is_empty(), face: Some(face), next })
     }
 
     fn take(given: Record, dist: &[i32], marks: &[u8], status: &mut [u8], index: usize) -> Result<Taken, Refused> {
@@ -301,12 +303,12 @@ impl Machine for Plain {
         if pinned(marks[index]) {
             return Err(30);
         }
-        let Local { k, m, .. } = test_at(given.sides, status, index);
+        let Local { k, m, face, .. } = test_at(given.sides, status, index);
         if (k, m) != (1, 1) {
             return Err(12);
         }
         remove(given.sides, dist, marks, status, index, |_| ());
-        Ok(Taken { k, m, next: Record { removals: given.removals + 1, ..given } })
+        Ok(Taken { k, m, face: Some(face), next: Record { removals: given.removals + 1, ..given } })
     }
 
     fn open(given: Record, dist: &[i32], marks: &[u8], status: &mut [u8]) -> Result<Opened, Refused> {
@@ -322,10 +324,10 @@ impl Machine for Plain {
         let Some(index) = (0..status.len()).filter(may_open).max_by_key(|&i| (dist[i], Reverse(i))) else {
             return Err(15);
         };
-        let Local { k, m, .. } = test_at(given.sides, status, index);
+        let Local { k, m, face, .. } = test_at(given.sides, status, index);
         remove(given.sides, dist, marks, status, index, |_| ());
         let next = Record { openings: given.openings + 1, removals: given.removals + 1, euler: given.euler + k as i32 - m as i32, ..given };
-        Ok(Opened { index, k, m, next })
+        Ok(Opened { index, k, m, face: Some(face), next })
     }
 
     fn finish(given: Record, dist: &mut [i32], status: &[u8]) -> Result<Record, Refused> {

@@ -1,17 +1,17 @@
 //! The two Rust implementations against the reference, on small grids and on random calls; the local tests, and the race.
 
-use crate::contest::{begin, contest, Apart, Calls, Case, State};
+use crate::contest::{begin, carve, contest, Apart, Calls, Case, Log, State};
 use crate::file::{read, write, Chunked, Indexed, Way};
 use crate::grids;
 use crate::grids::{blocks, inner, lengthened, patches, statuses, values, Marks, Random, Shape};
 use crate::local::searched::{both, by_cells, by_frontiers, touched};
-use crate::local::{joined, passes, ranked, Whole};
+use crate::local::{bare_face, joined, passes, ranked, Whole};
 use crate::neighbourhood::{gather, kept_bits};
 use crate::plain::{filled, Plain};
 use crate::race::{median, race, Contestant};
 use crate::tuned::Tuned;
 use crate::types::{
-    begun, size, Carved, Machine, Opened, Record, Refused, Sides, Taken, Value, Values, HURRIED, MISSING, PINNED, UNMARKED,
+    begun, size, Carved, Local, Machine, Opened, Record, Refused, Sides, Taken, Value, Values, HURRIED, MISSING, NO_FACE, PINNED, UNMARKED,
 };
 use reference::{grid, local, machine};
 use std::cell::RefCell;
@@ -94,6 +94,11 @@ fn random_marks(random: &mut Random, n: usize) -> Vec<u8> {
     marks
 }
 
+/// The number of a face; both Rust implementations tell it.
+fn told(face: Option<u32>) -> u64 {
+    face.expect("a face is told").into()
+}
+
 fn play(calls: &Calls, seed: u64) {
     let mut random = Random(seed);
     let mut side = || 3 + random.below(7) as usize;
@@ -123,20 +128,21 @@ fn play(calls: &Calls, seed: u64) {
                 let index = random.below(n as u64 + 1) as usize;
                 let r = (calls.take)(record, &dist, &marks, &mut status, index);
                 let t = machine::take(&mut their, &their_dist, &marks, &mut their_status, index as u64);
-                (r.map(|r| (r.next, vec![r.k as u64, r.m as u64])), t.map(|l| vec![l.k as u64, l.m as u64]))
+                let ours = r.map(|r| (r.next, vec![r.k as u64, r.m as u64, told(r.face)]));
+                (ours, t.map(|l| vec![l.k as u64, l.m as u64, l.face as u64]))
             }
             2..5 => {
                 let limit = if random.below(2) == 0 { random.below(20) as u32 } else { u32::MAX };
                 let r = (calls.carve)(record, &dist, &marks, &mut status, limit);
                 let t = machine::carve(&mut their, &their_dist, &marks, &mut their_status, u64::from(limit));
-                let ours = r.map(|r| (r.next, vec![r.examined as u64, r.removed as u64, r.pending as u64]));
-                (ours, t.map(|c| vec![c.examined, c.removed, c.pending as u64]))
+                let ours = r.map(|r| (r.next, vec![r.examined as u64, r.removed as u64, r.pending as u64, told(r.face)]));
+                (ours, t.map(|c| vec![c.examined, c.removed, c.pending as u64, c.face as u64]))
             }
             5..7 => {
                 let r = (calls.open)(record, &dist, &marks, &mut status);
                 let t = machine::open(&mut their, &their_dist, &marks, &mut their_status);
-                let ours = r.map(|r| (r.next, vec![r.index as u64, r.k as u64, r.m as u64]));
-                (ours, t.map(|o| vec![o.index as u64, o.local.k as u64, o.local.m as u64]))
+                let ours = r.map(|r| (r.next, vec![r.index as u64, r.k as u64, r.m as u64, told(r.face)]));
+                (ours, t.map(|o| vec![o.index as u64, o.local.k as u64, o.local.m as u64, o.local.face as u64]))
             }
             _ if random.below(4) == 0 => {
                 let r = (calls.finish)(record, &mut dist, &status);
@@ -493,6 +499,58 @@ fn set_apart_with_a_gap_left() {
     race_apart(Some(Drawn::given));
 }
 
+/// By the rules but for the faces of carve: these are left out, or wrong.
+struct Faces<const TOLD: bool>;
+
+impl<const TOLD: bool> Machine for Faces<TOLD> {
+    const NAME: &'static str = "other faces";
+    type Value = i32;
+
+    fn begin(sides: Sides, allowed: u16, values: &[i32], marks: &[u8], dist: &mut [i32], status: &mut [u8]) -> Result<Record, Refused> {
+        Plain::begin(sides, allowed, values, marks, dist, status)
+    }
+
+    fn carve(given: Record, dist: &[i32], marks: &[u8], status: &mut [u8], limit: u32) -> Result<Carved, Refused> {
+        let carved = Plain::carve(given, dist, marks, status, limit)?;
+        Ok(Carved { face: TOLD.then_some(NO_FACE), ..carved })
+    }
+
+    fn take(given: Record, dist: &[i32], marks: &[u8], status: &mut [u8], index: usize) -> Result<Taken, Refused> {
+        Plain::take(given, dist, marks, status, index)
+    }
+
+    fn open(given: Record, dist: &[i32], marks: &[u8], status: &mut [u8]) -> Result<Opened, Refused> {
+        Plain::open(given, dist, marks, status)
+    }
+
+    fn finish(given: Record, dist: &mut [i32], status: &[u8]) -> Result<Record, Refused> {
+        Plain::finish(given, dist, status)
+    }
+}
+
+/// A race of a carve that removes voxels, between these and one that tells no face, whichever of them is first.
+fn race_faces(others: [Calls; 2]) {
+    let [first, last] = others;
+    let sides = Sides { a: 16, b: 16, c: 16 };
+    let case = Case::unmarked(sides, 0, values(sides, Shape::Sphere).into());
+    let mut start = State::blank(&case);
+    begin(&first, &case, &mut start, &mut Log::default());
+    let race = contest(&[first, Calls::of::<Faces<false>>(), last], &case, &start, carve, None);
+    assert!(race.times.iter().all(|time| time.is_finite()) && race.log().carved[0].removed > 0);
+}
+
+#[test]
+fn faces_that_are_not_told() {
+    race_faces([Calls::of::<Plain>(), Calls::of::<Tuned>()]);
+    race_faces([Calls::of::<Faces<false>>(), Calls::of::<Tuned>()]);
+}
+
+#[test]
+#[should_panic = "other faces"]
+fn faces_that_are_wrong() {
+    race_faces([Calls::of::<Plain>(), Calls::of::<Faces<true>>()]);
+}
+
 /// The marks that are measured are what their names say.
 #[test]
 fn measured_marks() {
@@ -671,11 +729,13 @@ fn local_tests_as_the_reference() {
             ];
             for found in all {
                 assert_eq!(passes(found), expected.passes());
-                let found = local::Local { k: found.k, m: found.m, corners: found.corners, edges: found.edges, faces: found.faces };
-                assert_eq!(found, expected);
+                let Local { k, m, corners, edges, faces, face } = found;
+                assert_eq!(local::Local { k, m, corners, edges, faces, face }, expected);
             }
             let passing = [joined::passes(bits), ranked::passes(bits), whole.passes(bits)];
             assert_eq!(passing, [expected.passes(); 3]);
+            // the faces of the kept voxels are those of the touched cells, which carve has not at hand
+            assert_eq!(bare_face(bits), expected.face);
         }
     }
 }

@@ -1,9 +1,10 @@
 //! (b) The rules in tuned Rust: offsets in place of coordinates, scans without branches, sweeps for the distances, a BinaryHeap of packed words,
 //! and the local test with a rank table.
 
-use crate::local::ranked;
+use crate::local::{bare_face, ranked};
 use crate::types::{
-    any_stray_mark, begun, counts_fit, pinned, Carved, Local, Machine, Opened, Record, Refused, Sides, Taken, HURRIED, MISSING, PINNED,
+    any_stray_mark, begun, counts_fit, pinned, Carved, Local, Machine, Opened, Record, Refused, Sides, Taken, HURRIED, MISSING, NO_FACE,
+    PINNED,
 };
 use std::collections::BinaryHeap;
 
@@ -305,7 +306,7 @@ impl Machine for Tuned {
         let near = touching(sides);
         let words: Vec<u64> = (0..status.len()).filter(|&i| status[i] == 3).map(|i| marked_word(dist[i], marks[i], i)).collect();
         let mut pending = BinaryHeap::from(words);
-        let (mut examined, mut removed) = (0, 0);
+        let (mut examined, mut removed, mut last) = (0, 0, None);
         while examined < limit {
             let Some(w) = pending.pop() else { break };
             let i = (0x3FFFF - (w & 0x3FFFF)) as usize;
@@ -313,12 +314,15 @@ impl Machine for Tuned {
             examined += 1;
             if !pinned(marks[i]) && ranked::passes(bits_around(sides, status, i)) {
                 removed += 1;
+                last = Some(i);
                 remove(&near, dist, marks, status, i, |j| pending.push(marked_word(dist[j], marks[j], j)));
             }
         }
+        // around the last one removed nothing has gone since
+        let face = last.map_or(NO_FACE, |i| bare_face(bits_around(sides, status, i)));
         let next =
             Record { removals: given.removals + u64::from(removed), examinations: given.examinations + u64::from(examined), ..given };
-        Ok(Carved { examined, removed, pending: !pending.is_empty(), next })
+        Ok(Carved { examined, removed, pending: !pending.is_empty(), face: Some(face), next })
     }
 
     fn take(given: Record, dist: &[i32], marks: &[u8], status: &mut [u8], index: usize) -> Result<Taken, Refused> {
@@ -335,12 +339,12 @@ impl Machine for Tuned {
         if pinned(marks[index]) {
             return Err(30);
         }
-        let Local { k, m, .. } = ranked::test(bits_around(given.sides, status, index));
+        let Local { k, m, face, .. } = ranked::test(bits_around(given.sides, status, index));
         if k != 1 || m != 1 {
             return Err(12);
         }
         remove(&touching(given.sides), dist, marks, status, index, |_| ());
-        Ok(Taken { k, m, next: Record { removals: given.removals + 1, ..given } })
+        Ok(Taken { k, m, face: Some(face), next: Record { removals: given.removals + 1, ..given } })
     }
 
     fn open(given: Record, dist: &[i32], marks: &[u8], status: &mut [u8]) -> Result<Opened, Refused> {
@@ -356,10 +360,10 @@ impl Machine for Tuned {
             return Err(15);
         }
         let index = (0x3FFFF - (best & 0x3FFFF)) as usize;
-        let Local { k, m, .. } = ranked::test(bits_around(given.sides, status, index));
+        let Local { k, m, face, .. } = ranked::test(bits_around(given.sides, status, index));
         remove(&touching(given.sides), dist, marks, status, index, |_| ());
         let next = Record { openings: given.openings + 1, removals: given.removals + 1, euler: given.euler + k as i32 - m as i32, ..given };
-        Ok(Opened { index, k, m, next })
+        Ok(Opened { index, k, m, face: Some(face), next })
     }
 
     fn finish(given: Record, dist: &mut [i32], status: &[u8]) -> Result<Record, Refused> {

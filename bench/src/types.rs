@@ -1,8 +1,39 @@
-//! What crosses between the harness and an implementation of the rules: the wrapper's own types, so that the C interface is declared once.
+//! What crosses between the harness and an implementation of the rules: the wrapper's own types, so that the C interface is declared once, and
+//! answers without a face where an archive has none.
 
 use std::hint::black_box;
+pub use wattlerugby::raw::{LocalAnswer as Local, NO_FACE};
 use wattlerugby::{widened, NARROW_MISSING};
-pub use wattlerugby::{Carved, LocalTest as Local, Opened, Record, Sides, Taken, HURRIED, MISSING, PINNED, UNMARKED};
+pub use wattlerugby::{Record, Sides, HURRIED, MISSING, PINNED, UNMARKED};
+
+/// What carve answers. A face is told by its number, and not at all by an archive from before document 02's CR 8.
+#[derive(Clone, Copy, Debug, PartialEq, Eq)]
+pub struct Carved {
+    pub examined: u32,
+    pub removed: u32,
+    pub pending: bool,
+    pub face: Option<u32>,
+    pub next: Record,
+}
+
+/// What take answers.
+#[derive(Clone, Copy, Debug, PartialEq, Eq)]
+pub struct Taken {
+    pub k: u32,
+    pub m: u32,
+    pub face: Option<u32>,
+    pub next: Record,
+}
+
+/// What open answers.
+#[derive(Clone, Copy, Debug, PartialEq, Eq)]
+pub struct Opened {
+    pub index: usize,
+    pub k: u32,
+    pub m: u32,
+    pub face: Option<u32>,
+    pub next: Record,
+}
 
 /// n, also where a side is not fit.
 pub fn size(sides: Sides) -> usize {
