@@ -163,7 +163,8 @@ module _ (s : Sides) (mk : Marked) (dist : List ℤ) (limit : ℕ) (before offse
           record {
             rule =
                 ap (λ (v : ℕ). onward (examined + 1) (removed + one) (faceAfter s after (removed + one) v) (rest m after)) y
-                ∙ ap₂ (λ (c : ℕ) (l : List ℕ). onward (examined + 1) (removed + c) (faceAfter s l (removed + c) (latest last c i)) (rest m l)) (x .count) (x .status)
+                ∙ ap₂ (λ (c : ℕ) (l : List ℕ). onward (examined + 1) (removed + c) (faceAfter s l (removed + c) (latest last c i)) (rest m l))
+                (x .count) (x .status)
                 ∙ ap (λ (f : ℕ). onward (examined + 1) (removed + cond u 1 0) f (rest m (examine s free status i)))
                 (face-examined s status (k .work) i running-below waits free removed last)
                 ∙ one-more examined removed face u (testAt s status i .face) (rest m (examine s free status i))

@@ -57,10 +57,11 @@ module _ (s : Sides) (status : List ℕ) (w : Workable s status) where
               statuses = length-without s free status lent i;
               border = λ j h e. (λ n. kept n j) ∙ ap (λ (t : Bool). t && not (eqb j i)) (w .body .border j h e);
             };
-        pending = λ j e. (λ n. kept n j) ∙ elim (or-true (omit (isPending status) i j) (omit (isKept status) i j && (free j && touch s i j)) ((λ n. sym waiting n j) ∙ e)) [
-          | inl t ↦ (let p = and-true (isPending status j) (not (eqb j i)) t in true-and (isKept status j) (not (eqb j i)) (w .pending j (p .0)) (p .1))
-          | inr t ↦ and-true (omit (isKept status) i j) (free j && touch s i j) t .0
-        ];
+        pending = λ j e. (λ n. kept n j)
+            ∙ elim (or-true (omit (isPending status) i j) (omit (isKept status) i j && (free j && touch s i j)) ((λ n. sym waiting n j) ∙ e)) [
+              | inl t ↦ (let p = and-true (isPending status j) (not (eqb j i)) t in true-and (isKept status j) (not (eqb j i)) (w .pending j (p .0)) (p .1))
+              | inr t ↦ and-true (omit (isKept status) i j) (free j && touch s i j) t .0
+            ];
       }
 
   module _ (i : ℕ) (h : i < size s) (p : isPending status i ≡ true) where

@@ -58,8 +58,12 @@ unfoldable case-calls : Unit {0}
 unfolding startWith carvedWith start carvedTo plainCarve plainTake plainOpen ended
 case-calls = tt
 
+unfoldable mark-cases : Unit {0}
+unfolding markAt markD begunD deep rod barOf markBar
+mark-cases = tt
+
 unfoldable worked-cases : Unit {0}
-unfolding case-calls caseA plate valuesC caseC layerD valuesD caseD valuesArc arc bar cube wall walled hollow markAt markD begunD deep rod barOf markBar block carvedFace
+unfolding case-calls caseA plate valuesC caseC layerD valuesD caseD valuesArc arc bar cube wall walled hollow mark-cases block carvedFace
 worked-cases = tt
 
 unfoldable pub all-rules : Unit {0}

@@ -19,7 +19,8 @@ use Rattle.rules.specs.Grid.{neighbourhood}
 use Rattle.rules.specs.Begin.{exposed}
 use Rattle.rules.specs.Checks.{Check, unless, AllHold}
 use Rattle.rules.specs.Answer.{Reply, refused, done, Outcome, untouched, Buffers, Carving, Removal, Opening}
-use Rattle.rules.specs.Status.{isKept, isPending, testAt, firstOf, goes, examine, latest, counted, Progress, examining, carving, removable, openable as may-open}
+use Rattle.rules.specs.Status.{Progress, isKept, isPending, testAt, firstOf, goes, examine, latest, counted, examining, carving, removable}
+use Rattle.rules.specs.Status.{openable as may-open}
 use Rattle.rules.specs.Marks.{marked}
 use Rattle.rules.specs.Machine.{State, lentTo, mayGo, farther, sooner, markedChecks, carved, carve, takeChecks, taken, take, toOpen, isNone}
 use Rattle.rules.specs.Machine.{theVoxel, openChecks, opened, openNext}
@@ -76,7 +77,8 @@ open-has-face marks g a e =
     let s = g .rec .sides in
     let free = mayGo (marked marks) (g .dist) in
     not-refused (opened free (theVoxel (toOpen free g)) g) (lentTo g) a (ComesOut s (g .status) (a .index) (a .face)) (openChecks marks g)
-    (λ h f. subst (λ (r : Opening). ComesOut s (g .status) (r .index) (r .face)) (ap (answered a) f) (chosen free (toOpen free g) refl (openable g marks h .found)))
+    (λ h f. subst (λ (r : Opening). ComesOut s (g .status) (r .index) (r .face)) (ap (answered a) f)
+    (chosen free (toOpen free g) refl (openable g marks h .found)))
     e
   where
     chosen : (free : ℕ → Bool) (o : Option ℕ) → toOpen free g ≡ o → isNone o ≡ false

@@ -124,7 +124,8 @@ module _ (s : Sides) (dist : List ℤ) where
           let first = first-foremost s (farther dist) (farther-order dist) (isPending status) i e in
           let goes-on : goes s free status i ≡ passed i =
           ap (λ (u : Bool). passed i && u) (pending-outside s dist status fit i (first .chosen)) ∙ and-one (passed i) in
-          ap (counted (goes s free status i) (testAt s status i .face)) (rest i (fit-examined s dist status fit i (first .below) (first .chosen) free inside-stays))
+          ap (counted (goes s free status i) (testAt s status i .face))
+          (rest i (fit-examined s dist status fit i (first .below) (first .chosen) free inside-stays))
           ∙ ap (by i) goes-on
 
 -- ---- the calls

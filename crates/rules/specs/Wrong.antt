@@ -1,5 +1,6 @@
 -- Document 01, "What the second supplier may hold us to" and "Shortcuts that break it": machines that must be rejected, as definitions, and
--- which clause of demand 3 rejects each on a small grid; wrong fills of gaps; marks read by another rule; another face of carve. proofs/Wrong.antt shows it by computation.
+-- which clause of demand 3 rejects each on a small grid; wrong fills of gaps; marks read by another rule; another face of carve. proofs/Wrong.antt
+-- shows it by computation.
 use mathlib.Core.Path.{_≡_}
 use mathlib.Core.Logic.{_↔_}
 use mathlib.Core.Bool.{Bool, true, false, not, cond, _&&_, _||_}
