@@ -1,6 +1,6 @@
 -- Document 02's CR 8, "Which side it came out by": what the lowest numbered bare face is, and other faces that it is not. proofs/Faces.antt proves it.
 use mathlib.Core.Path.{_≡_}
-use mathlib.Core.Bool.{Bool, true, false, not, cond}
+use mathlib.Core.Bool.{Bool, true, false, not}
 use mathlib.Core.List.{List, [], _∷_}
 use Prim.Native.Nat.{ℕ, _≤_, _<_}
 use lib.ListN.{getD}
@@ -32,7 +32,7 @@ OtherFaces order = ((kept : ℕ → Bool) → test kept .face ≡ before (λ c. 
 pub record WrongFaces : Type 0 where
   pub high-before-low : OtherFaces (14 ∷ 12 ∷ 16 ∷ 10 ∷ 22 ∷ 4 ∷ [])
   pub z-before-x : OtherFaces (4 ∷ 22 ∷ 10 ∷ 16 ∷ 12 ∷ 14 ∷ [])
-  -- by the place in the block, rows before columns
+  -- by the place in the block
   pub by-place : OtherFaces (4 ∷ 10 ∷ 12 ∷ 14 ∷ 16 ∷ 22 ∷ [])
   -- touched for bare
   pub touched-faces : ((kept : ℕ → Bool) → test kept .face ≡ before (touched kept) numberedFaces) → ⊥

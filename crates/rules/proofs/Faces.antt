@@ -1,6 +1,6 @@
 -- What the faces say that take, open and carve answer.
 use mathlib.Core.Path.{_≡_, refl, sym, ap, _∙_, subst}
-use mathlib.Core.Bool.{Bool, true, false, _&&_, _||_}
+use mathlib.Core.Bool.{Bool, true, false, _||_}
 use mathlib.Core.List.{List, [], _∷_}
 use mathlib.Core.Option.{Option, none, some}
 use Prim.Native.Nat.{ℕ, zero, suc, _≤_, _<_}
@@ -10,7 +10,6 @@ use lib.ListN.{length}
 use borrow.Author.Tests.{lt-leb, leb-false}
 use Rattle.cells.specs.Groups.{any, consIf}
 use Rattle.cells.specs.Cells.{test, passes}
-use Rattle.cells.specs.Faces.{faceAt}
 use Rattle.cells.proofs.Faces.{face-is-lowest, face-is-across}
 use Rattle.closed_sets.proofs.EveryBlock.{has-face}
 use Rattle.prelude.proofs.Bools.{and-true, or-false, not-both}
@@ -18,11 +17,11 @@ use Rattle.rules.specs.declared.Sides.{Sides}
 use Rattle.rules.specs.Grid.{neighbourhood}
 use Rattle.rules.specs.Begin.{exposed}
 use Rattle.rules.specs.Checks.{Check, unless, AllHold}
-use Rattle.rules.specs.Answer.{Reply, refused, done, Outcome, untouched, Buffers, Carving, Removal, Opening}
+use Rattle.rules.specs.Answer.{Reply, refused, done, Outcome, untouched, Buffers, Removal, Opening}
 use Rattle.rules.specs.Status.{Progress, isKept, isPending, testAt, firstOf, goes, examine, latest, counted, examining, carving, removable}
 use Rattle.rules.specs.Status.{openable as may-open}
 use Rattle.rules.specs.Marks.{marked}
-use Rattle.rules.specs.Machine.{State, lentTo, mayGo, farther, sooner, markedChecks, carved, carve, takeChecks, taken, take, toOpen, isNone}
+use Rattle.rules.specs.Machine.{lentTo, mayGo, farther, sooner, markedChecks, carved, carve, takeChecks, taken, take, toOpen, isNone}
 use Rattle.rules.specs.Machine.{theVoxel, openChecks, opened, openNext}
 use Rattle.rules.specs.Faces.{ComesOut, TakeHasFace, OpenHasFace, facesOf, lastOr, CarveFaces, CarveHasFace}
 use Rattle.rules.proofs.Checks.{by-checks}

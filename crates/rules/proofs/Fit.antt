@@ -7,8 +7,8 @@ use Prim.Native.Nat.{ℕ, _*_, _≤_, _<_}
 use native.Mathlib.Omega.{arith}
 use native.Mathlib.Decide.{decLt}
 use borrow.Author.Tests.{ltb-true, ltb-false, lt-ltb, le-ltb, leb-false, eqb-true, eqb-false, eq-eqb}
-use lib.Dec.{eqb, ltb, leb}
-use lib.IntN.{ℤ, pos, natAbs}
+use lib.Dec.{eqb, ltb}
+use lib.IntN.{ℤ, pos}
 use lib.ListN.{length, List·getD-eq-default}
 use Rattle.cells.specs.Groups.{any}
 use Rattle.cells.specs.Cells.{passes}
@@ -17,11 +17,11 @@ use Rattle.prelude.proofs.Lists.{none-at}
 use Rattle.rules.specs.declared.Sides.{Sides}
 use Rattle.rules.specs.declared.Record.{Record}
 use Rattle.rules.specs.Value.{missing, isMissing, beyond, stray}
-use Rattle.rules.specs.Grid.{fitSides, size, range, voxels, onBorder, isNegative, measuredNegative, valueAt, distanceAt}
+use Rattle.rules.specs.Grid.{fitSides, size, range, voxels, onBorder, isNegative, measuredNegative, valueAt}
 use Rattle.rules.specs.Checks.{_when_, AllHold}
 use Rattle.rules.specs.Meaning.{negative}
 use Rattle.rules.specs.Begin.{beginChecks}
-use Rattle.rules.specs.Status.{statusOf, isKept, anyPending, testAt}
+use Rattle.rules.specs.Status.{statusOf}
 use Rattle.rules.specs.Marks.{marked, wrongMarks}
 use Rattle.rules.specs.Machine.{State, isInside, mayGo, unfitCounts, unfitVoxel, unfit, wrongLength, stateChecks, workingChecks, markedChecks}
 use Rattle.rules.specs.Machine.{finishedChecks, voxelChecks, takeChecks, quietChecks, openingChecks, openChecks, finishChecks}

@@ -7,7 +7,7 @@ use mathlib.Core.Option.{Option, none, some}
 use Prim.Native.Nat.{ℕ, zero, suc, _≤_, _<_}
 use native.Mathlib.Omega.{arith}
 use native.Mathlib.Decide.{decLt, ℕ-discrete}
-use borrow.Author.Tests.{eqb-true, ne-eqb}
+use borrow.Author.Tests.{eqb-true}
 use lib.Dec.{eqb}
 use lib.IntN.{ℤ, pos}
 use lib.ListN.{length, set, length-set, List·getD-eq-default}
@@ -22,7 +22,7 @@ use Rattle.rules.specs.Status.{firstOf, goes, examinedAs, examine, exami
 use Rattle.rules.specs.Marks.{Marked}
 use Rattle.rules.specs.Machine.{isInside, outside, mayGo}
 use Rattle.rules.specs.Choice.{Order}
-use Rattle.rules.specs.Fit.{Lent, Known, FitVoxels}
+use Rattle.rules.specs.Fit.{Known, FitVoxels}
 use Rattle.rules.proofs.Foremost.{first-foremost}
 
 -- ---- bytes that are 0, 1 or 3

@@ -1,7 +1,7 @@
 -- Document 01, "What the second supplier may hold us to": the worked cases of begin and the machine, and small ones that notice what those
 -- leave open. proofs/Cases.antt proves each by computation, the crate cases case C, the arc and the hollow; it gathers all of document 01's into one list.
 use mathlib.Core.Path.{_≡_}
-use mathlib.Core.Bool.{Bool, true, false, cond}
+use mathlib.Core.Bool.{true, false, cond}
 use mathlib.Core.List.{List, [], _∷_, _++_, map}
 use Prim.Native.Nat.{ℕ, _+_, max}
 use lib.ListN.{length, getD, set, replicate}
