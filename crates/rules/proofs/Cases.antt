@@ -9,6 +9,7 @@ use Rattle.rules.specs.Checks.{unless}
 use Rattle.rules.specs.Fill.{gaps, around, enclosed, enclosedGaps, inSome, filledIn, filled}
 use Rattle.rules.specs.Begin.{least, greatest, isIn, negatives, larger, largest, inside, facing, greatestFacing, distance, workedAt, worked, inBox}
 use Rattle.rules.specs.Begin.{exposed, waitsFirst, statusAt, startStatus, begunOn, begun, begin}
+use Rattle.rules.specs.PinFirst.{markedBefore, beginBy}
 use Rattle.rules.specs.Marks.{pinnedMark, hurriedMark, marked, strayMark, wrongMarks, noMarks}
 use Rattle.rules.specs.Status.{keptByte, pendingByte, woken, rested, isKept, isPending, anyPending, testAt, prefer, foremost, firstOf, removable}
 use Rattle.rules.specs.Status.{statusWithout, without, goes, examine, carving, openable}
@@ -16,9 +17,9 @@ use Rattle.rules.specs.Machine.{isInside, outside, mayGo, farther, soone
 use Rattle.rules.specs.Machine.{toOpen, opened, openNext, closed, closedAt, finishedOf, finish}
 use Rattle.rules.specs.Cases.{startWith, carvedWith, start, carvedTo, plainCarve, plainTake, plainOpen, ended}
 use Rattle.rules.specs.Cases.{caseA, plate, valuesC, caseC, layerD, valuesD, caseD, valuesArc, arc, bar, cube}
-use Rattle.rules.specs.Cases.{wall, walled, hollow, markAt, markD, begunD, deep, rod, barOf, markBar, block, carvedFace}
+use Rattle.rules.specs.Cases.{wall, walled, hollow, markAt, markD, begunD, threesD, deep, rod, barOf, markBar, block, carvedFace}
 use Rattle.rules.specs.Cases.{CaseA, CaseD, Bar, Numbers, LongTunnels, BehindTheFace, Pinned, Hurried, PinnedAndHurried}
-use Rattle.rules.specs.Cases.{HurriedDeep, MarksLater, MarkNumbers, WhichSide}
+use Rattle.rules.specs.Cases.{ThreesTakenOff, HurriedDeep, MarksLater, MarkNumbers, WhichSide}
 
 -- ---- all that a case computes with: to unfold `all-rules` is to unfold the rules
 
@@ -59,7 +60,7 @@ unfolding startWith carvedWith start carvedTo plainCarve plainTake plainOpen end
 case-calls = tt
 
 unfoldable mark-cases : Unit {0}
-unfolding markAt markD begunD deep rod barOf markBar
+unfolding markAt markD begunD threesD deep rod barOf markBar
 mark-cases = tt
 
 unfoldable worked-cases : Unit {0}
@@ -146,11 +147,19 @@ unfolding all-rules
 both-case =
     record {
       begun = refl;
+      begun-deep = refl;
       first = refl;
       examined = refl;
       removed = refl;
       taken-beside = refl;
+      not-taken = refl;
+      farther-first = refl;
+      stays = refl;
     }
+
+pub threes-taken-off : ThreesTakenOff
+unfolding all-rules markedBefore beginBy
+threes-taken-off = record { now = refl; before = refl }
 
 pub hurried-deep : HurriedDeep
 unfolding all-rules

@@ -84,7 +84,7 @@ module _ (s : Sides) (T : ℕ) (values : List ℤ) (marks : List ℕ) (start : �
   abbrev started : State
   started = state (newRecord s T) dist status
 
-  pub good-start : (held : ℕ → Bool) → ((j : ℕ) → marked marks .pinned j ≡ true → held j ≡ true) → Good S held (found s start) started
+  good-start : (held : ℕ → Bool) → ((j : ℕ) → marked marks .pinned j ≡ true → held j ≡ true) → Good S held (found s start) started
   good-start held within = record { sound = sound held within; signs = λ f. signs }
 
   -- what holds after the calls, of the held voxels too
@@ -155,12 +155,9 @@ module _ (s : Sides) (values : List ℤ) (accepted : Beginnable s values) where
       (startStatus s m (inside s values) (inBox s (inside s values))) (tally 0 0 0 (pos 1))
   begun-sound = box-sound s values (fit s (accepted .sides)) (accepted .border) (accepted .some) (accepted .some-negative)
 
-  pub begun-good : (T : ℕ) (marks : List ℕ)
-      → Good (isIn (inside s values)) all-held (found s (inBox s (inside s values))) (handed s T values (marked marks))
-  begun-good T marks =
-      let S = inside s values in
-      good-start s T values marks (inBox s S) (worked s values S) (startStatus s (marked marks) S (inBox s S)) (begun-sound (marked marks))
-      (worked-signs s values) all-held (λ j e. refl)
+  -- whatever is pinned and hurried
+  pub begun-good : (T : ℕ) (m : Marked) → Good (isIn (inside s values)) all-held (found s (inBox s (inside s values))) (handed s T values m)
+  begun-good T m = record { sound = begun-sound m all-held (λ j e. refl); signs = λ f. worked-signs s values }
 
   -- what holds after any list of calls, whatever marks each gets
   pub begun-keeps : (T : ℕ) (marks : List ℕ) (calls : List Call)
@@ -171,7 +168,7 @@ module _ (s : Sides) (values : List ℤ) (accepted : Beginnable s values) where
       let S = isIn (inside s values) in
       let total = found s (inBox s (inside s values)) in
       let begun = handed s T values (marked marks) in
-      run-keeps S all-held total calls begun (held-all S total calls begun) (begun-good T marks)
+      run-keeps S all-held total calls begun (held-all S total calls begun) (begun-good T (marked marks))
 
   from-begin : (T : ℕ) (marks : List ℕ) (calls : List Call)
       → let begun = handed s T values (marked marks) in

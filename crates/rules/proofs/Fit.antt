@@ -22,7 +22,7 @@ use Rattle.rules.specs.Checks.{_when_, AllHold}
 use Rattle.rules.specs.Meaning.{negative}
 use Rattle.rules.specs.Begin.{beginChecks}
 use Rattle.rules.specs.Status.{statusOf}
-use Rattle.rules.specs.Marks.{marked, wrongMarks}
+use Rattle.rules.specs.Marks.{marked, strayMark, wrongMarks}
 use Rattle.rules.specs.Machine.{State, isInside, mayGo, unfitCounts, unfitVoxel, unfit, wrongLength, stateChecks, workingChecks, markedChecks}
 use Rattle.rules.specs.Machine.{finishedChecks, voxelChecks, takeChecks, quietChecks, openingChecks, openChecks, finishChecks}
 use Rattle.rules.specs.Fit.{Lent, Known, FitVoxels, FitState, Working, Marking, Ended, Takeable, Quiet, Openable}
@@ -55,6 +55,16 @@ beginnable s values marks dist status h =
       some = v .0;
       some-negative = true-and (ltb (v .0) (size s)) (measuredNegative (valueAt values (v .0))) (lt-ltb (v .0) (size s) (v .1)) (v .2);
     }
+
+-- and its marks: n of them, none over 3
+pub begun-marks : (s : Sides) (values : List ℤ) (marks : List ℕ) (dist : List ℤ) (status : List ℕ) → AllHold (beginChecks s values marks dist status)
+    → (length marks ≡ size s) × (strayMark marks ≡ false)
+unfolding wrongMarks
+begun-marks s values marks dist status h =
+    let lent = h .1 in
+    let ranged = lent .1 in
+    let buffers = not (eqb (length values) (size s) && (eqb (length dist) (size s) && eqb (length status) (size s))) in
+    (eqb-true _ _ (not-false _ (or-false buffers (wrongMarks s marks) (lent .0) .1)), ranged .1 .0)
 
 -- past the end of the buffer the value is missing
 pub none-stray : (values : List ℤ) → any stray values ≡ false → (i : ℕ) → stray (valueAt values i) ≡ false

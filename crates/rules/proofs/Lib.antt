@@ -19,6 +19,7 @@ pub mod NeverUnfit
 pub mod LongRange
 pub mod Latest
 pub mod Slices
+pub mod PinFirst
 pub mod Faces
 pub mod Border
 pub mod Fifteen

@@ -249,76 +249,83 @@ is-carved marks limit g w =
     let m = marked marks in
     unless-held (untouched (lentTo g)) (carved (mayGo m (g .dist)) (sooner m (g .dist)) limit g) (markedChecks marks g) (marking-holds marks g w)
 
-module _ (s : Sides) (T : ℕ) (values : List ℤ) (marks : List ℕ) (accepted : Beginnable s values) (calls : List Call) where
+module _ (s : Sides) (T : ℕ) (values : List ℤ) (accepted : Beginnable s values) where
   abbrev S : List ℕ
   S = inside s values
 
   abbrev total : ℕ
   total = found s (inBox s S)
 
-  abbrev first-state : State
-  first-state = handed s T values (marked marks)
-
-  abbrev start-end : State
-  start-end = run calls first-state .end
-
-  good-begun : Good (isIn S) all-held total first-state
-  good-begun = begun-good s values accepted T marks
-
   length-worked : length (worked s values S) ≡ size s
   unfolding worked voxels
   length-worked = length-map-range (workedAt s values S (greatestFacing s values S)) (size s)
 
-  fit-begun : FitVoxels s (worked s values S) (first-state .status)
-  fit-begun =
-      fit-sound s (isIn S) all-held total (worked s values S) (first-state .status) (tallyOf (newRecord s T)) (good-begun .sound)
-      (record { sides = accepted .sides; distances = length-worked; statuses = good-begun .sound .lent })
-      (start-known s (marked marks) S (inBox s S))
-      (λ i e. sym (good-begun .signs refl i (omega (arith, inside-below (worked s values S) i e, length-worked))) ∙ e)
+  -- what begin hands out, whatever is pinned and hurried
+  both-begun : (m : Marked) → Both (isIn S) all-held total (handed s T values m)
+  both-begun m =
+      let good = begun-good s values accepted T m in
+      let first = handed s T values m in
+      let lent : Lent s (first .dist) (first .status) =
+      record { sides = accepted .sides; distances = length-worked; statuses = good .sound .lent } in
+      let voxels : FitVoxels s (first .dist) (first .status) =
+      fit-sound s (isIn S) all-held total (first .dist) (first .status) (tallyOf (newRecord s T)) (good .sound) lent (start-known s m S (inBox s S))
+      (λ i e. sym (good .signs refl i (omega (arith, inside-below (first .dist) i e, length-worked))) ∙ e) in
+      record { good = good; fair = record { voxels = voxels; openings = omega arith; removals = omega arith; euler = omega arith } }
 
-  both-end : Both (isIn S) all-held total start-end
-  both-end =
-      run-both (isIn S) all-held total calls first-state (held-all (isIn S) total calls first-state)
-      (record { good = good-begun; fair = record { voxels = fit-begun; openings = omega arith; removals = omega arith; euler = omega arith } })
-
-  same-sides : start-end .rec .sides ≡ s
-  same-sides = begun-keeps s values accepted T marks calls .adds .sides
-
-  end-fit : FitState start-end
-  end-fit =
+  both-fits : (g : State) → Both (isIn S) all-held total g → g .rec .sides ≡ s → FitState g
+  both-fits g b e =
       let first = begun-inside s values accepted in
-      both-fit (isIn S) all-held total start-end both-end
-      (subst (λ (t : Sides). total ≤ size t) (sym same-sides) (found-all s (inBox s S))) (first .0) (first .1)
+      both-fit (isIn S) all-held total g b (subst (λ (t : Sides). total ≤ size t) (sym e) (found-all s (inBox s S))) (first .0) (first .1)
 
-  end-holds : AllHold (stateChecks start-end)
-  end-holds = state-fits start-end end-fit
+  pub begun-fit : (m : Marked) → FitState (handed s T values m)
+  begun-fit m = both-fits (handed s T values m) (both-begun m) refl
 
-  -- a carve then, with marks that 2 and 29 let through
-  module _ (lent : List ℕ) (limit : ℕ) (f : start-end .rec .finished ≡ false) where
-    abbrev free : ℕ → Bool
-    free = mayGo (marked lent) (start-end .dist)
+  module _ (marks : List ℕ) (calls : List Call) where
+    abbrev first-state : State
+    first-state = handed s T values (marked marks)
 
-    abbrev ahead : ℕ → ℕ → Bool
-    ahead = sooner (marked lent) (start-end .dist)
+    abbrev start-end : State
+    start-end = run calls first-state .end
 
-    end-quiet : 27 * size s ≤ limit → anyPending s (carved free ahead limit start-end .lent .status) ≡ false
-    unfolding carved
-    end-quiet h =
-        let g = start-end in
-        let m = marked lent in
-        subst (λ (t : Sides). anyPending t (carving (g .rec .sides) free ahead limit (g .status) .status) ≡ false) same-sides
-        (carving-ends (g .rec .sides) (isIn S) (m .pinned) all-held free ahead (sooner-order m (g .dist)) total
-        (λ j e. refl) (may-go-is (isIn S) all-held total g (both-end .good) m f) limit (g .status) (tallyOf (g .rec)) (both-end .good .sound)
-        (omega (arith, found-all s (inBox s S))))
+    both-end : Both (isIn S) all-held total start-end
+    both-end =
+        run-both (isIn S) all-held total calls first-state (held-all (isIn S) total calls first-state) (both-begun (marked marks))
 
-    end-carved : length lent ≡ size s → strayMark lent ≡ false → carve lent limit start-end ≡ carved free ahead limit start-end
-    end-carved n k =
-        is-carved lent limit start-end (record { working = record { fit = end-fit; unfinished = f }; lent = n ∙ ap size (sym same-sides); known = k })
+    same-sides : start-end .rec .sides ≡ s
+    same-sides = begun-keeps s values accepted T marks calls .adds .sides
+
+    end-fit : FitState start-end
+    end-fit = both-fits start-end both-end same-sides
+
+    end-holds : AllHold (stateChecks start-end)
+    end-holds = state-fits start-end end-fit
+
+    -- a carve then, with marks that 2 and 29 let through
+    module _ (lent : List ℕ) (limit : ℕ) (f : start-end .rec .finished ≡ false) where
+      abbrev free : ℕ → Bool
+      free = mayGo (marked lent) (start-end .dist)
+
+      abbrev ahead : ℕ → ℕ → Bool
+      ahead = sooner (marked lent) (start-end .dist)
+
+      end-quiet : 27 * size s ≤ limit → anyPending s (carved free ahead limit start-end .lent .status) ≡ false
+      unfolding carved
+      end-quiet h =
+          let g = start-end in
+          let m = marked lent in
+          subst (λ (t : Sides). anyPending t (carving (g .rec .sides) free ahead limit (g .status) .status) ≡ false) same-sides
+          (carving-ends (g .rec .sides) (isIn S) (m .pinned) all-held free ahead (sooner-order m (g .dist)) total
+          (λ j e. refl) (may-go-is (isIn S) all-held total g (both-end .good) m f) limit (g .status) (tallyOf (g .rec)) (both-end .good .sound)
+          (omega (arith, found-all s (inBox s S))))
+
+      end-carved : length lent ≡ size s → strayMark lent ≡ false → carve lent limit start-end ≡ carved free ahead limit start-end
+      end-carved n k =
+          is-carved lent limit start-end (record { working = record { fit = end-fit; unfinished = f }; lent = n ∙ ap size (sym same-sides); known = k })
 
 pub never-unfit : NeverUnfit
 never-unfit s T values marks dist status r e calls =
     by-begin (λ g. AllHold (stateChecks (run calls g .end))) s T values marks dist status
-    (λ accepted. end-holds s T (filled s values) marks accepted calls) r e
+    (λ accepted. end-holds s T (filled s values) accepted marks calls) r e
 
 pub carve-ends : CarveEnds
 carve-ends s T values marks dist status r e calls lent n k limit h =
@@ -329,5 +336,5 @@ carve-ends s T values marks dist status r e calls lent n k limit h =
     s T values marks dist status
     (λ accepted f.
     let used = filled s values in
-    let c = end-carved s T used marks accepted calls lent limit f n k in
-    (c, ap (λ (o : Outcome Buffers Carving). anyPending s (o .lent .status)) c ∙ end-quiet s T used marks accepted calls lent limit f h)) r e
+    let c = end-carved s T used accepted marks calls lent limit f n k in
+    (c, ap (λ (o : Outcome Buffers Carving). anyPending s (o .lent .status)) c ∙ end-quiet s T used accepted marks calls lent limit f h)) r e

@@ -29,7 +29,7 @@ use Rattle.rules.proofs.NeverUnfit.{is-carved, never-unfit}
 
 module _ (s : Sides) (free : ℕ → Bool) (ahead : ℕ → ℕ → Bool) where
   -- what follows the choice of a voxel
-  next : ℕ → List ℕ → Option ℕ → Progress
+  abbrev pub next : ℕ → List ℕ → Option ℕ → Progress
   next limit status o = examining s free status (λ i. carving s free ahead limit (examine s free status i)) o
 
   after-none : (p : Progress) (status : List ℕ) → latest 6 (p .removed) (p .face) ≡ p .face → p ≡ inTwo (progress 0 0 6 status) p
@@ -48,14 +48,14 @@ module _ (s : Sides) (free : ℕ → Bool) (ahead : ℕ → ℕ → Bool) where
       removed true = omega arith
       removed false = refl
 
-  quiet : (n : ℕ) (status : List ℕ) → firstOf s ahead (isPending status) ≡ none → carving s free ahead n status ≡ progress 0 0 6 status
-  unfolding carving next
+  pub quiet : (n : ℕ) (status : List ℕ) → firstOf s ahead (isPending status) ≡ none → carving s free ahead n status ≡ progress 0 0 6 status
+  unfolding carving
   quiet zero status e = refl
   quiet (suc n) status e = ap (next n status) e
 
   add : (m n : ℕ) (status : List ℕ)
       → let first = carving s free ahead m status in carving s free ahead (m + n) status ≡ inTwo first (carving s free ahead n (first .status))
-  unfolding carving next
+  unfolding carving
   add zero n status =
       let e : 0 + n ≡ n = omega arith in
       ap (λ (k : ℕ). carving s free ahead k status) e ∙ after-none (carving s free ahead n status) status (carving-face s free ahead n status)
@@ -67,9 +67,8 @@ module _ (s : Sides) (free : ℕ → Bool) (ahead : ℕ → ℕ → Bool) where
           → ((i : ℕ) → let first = carving s free ahead m (examine s free status i) in
           carving s free ahead (m + n) (examine s free status i) ≡ inTwo first (carving s free ahead n (first .status)))
           → next (m + n) status o ≡ inTwo (next m status o) (carving s free ahead n (next m status o .status))
-      go none e ih = unfold next in after-none (progress 0 0 6 status) status refl ∙ ap (inTwo (progress 0 0 6 status)) (sym (quiet n status e))
+      go none e ih = after-none (progress 0 0 6 status) status refl ∙ ap (inTwo (progress 0 0 6 status)) (sym (quiet n status e))
       go (some i) e ih =
-          unfold next in
           let u = goes s free status i in
           let face = testAt s status i .face in
           let first = carving s free ahead m (examine s free status i) in

@@ -12,14 +12,15 @@ use Rattle.rules.specs.declared.Record.{Record}
 use Rattle.rules.specs.Answer.{Reply, refused, done, Outcome, Buffers, Carving}
 use Rattle.rules.specs.Status.{statusOf}
 use Rattle.rules.specs.Marks.{marked, unmarked, noMarks}
+use Rattle.rules.specs.PinFirst.{markedBefore, beginBy, carveBy}
 use Rattle.rules.specs.Machine.{State, theVoxel}
 use Rattle.rules.specs.Body as body
 use Rattle.rules.specs.Body.{bodyOf, covered, sum, sum3, corners, edges, faces, cubes, eulerOf}
 use Rattle.rules.specs.Grid.{missing}
 use Rattle.rules.specs.Faces.{facesOf}
-use Rattle.rules.specs.Cases.{sides, carvedTo, caseD, bar, cube, wall, markAt, markD, begunD, barOf, markBar}
+use Rattle.rules.specs.Cases.{sides, carvedTo, valuesD, caseD, bar, cube, wall, markAt, markD, begunD, barOf, markBar}
 use Rattle.rules.specs.Wrong.{carvingBy, onlyClears, byKAlone, dropsFailed, byFaceGroups, invents, WrongMachines}
-use Rattle.rules.specs.Wrong.{fillsBy, walledIn, offBorder, WrongFills, carveBy, WrongMarks, WrongLast}
+use Rattle.rules.specs.Wrong.{fillsBy, walledIn, offBorder, WrongFills, carveOtherwise, WrongMarks, WrongThrees, WrongLast}
 use Rattle.rules.proofs.Fill.{filled-is-enclosed}
 use Rattle.rules.proofs.Cases.{all-rules}
 
@@ -68,9 +69,9 @@ wrong-fills =
 
 -- ---- marks read by another rule
 
--- a voxel's status after a carve by another rule is another
-differs : (i : ℕ) (o p : Outcome Buffers Carving) → (statusOf (o .lent .status) i ≡ statusOf (p .lent .status) i → ⊥) → o ≡ p → ⊥
-differs i o p f e = f (ap (λ (o : Outcome Buffers Carving). statusOf (o .lent .status) i) e)
+-- a voxel's status after a call by another rule is another
+differs : {A : Type 0} (i : ℕ) (o p : Outcome Buffers A) → (statusOf (o .lent .status) i ≡ statusOf (p .lent .status) i → ⊥) → o ≡ p → ⊥
+differs {A} i o p f e = f (ap (λ (o : Outcome Buffers A). statusOf (o .lent .status) i) e)
 
 -- another voxel is opened
 opens-another : (i j : ℕ) → (i ≡ j → ⊥) → some i ≡ some j → ⊥
@@ -86,7 +87,7 @@ alone : ℕ → Bool
 alone j = eqb j 22
 
 pub wrong-marks : WrongMarks
-unfolding all-rules carveBy resting alone
+unfolding all-rules carveOtherwise resting alone
 wrong-marks =
     record {
       pins-hold-nothing = λ h. differs 22 _ _ (λ e. let z : _≡_ {A = ℕ} 1 0 = e in omega arith) (h (markD 22 1) 9 (begunD 22 1));
@@ -98,6 +99,24 @@ wrong-marks =
       only-hurried-pending = λ h. let z : _≡_ {A = ℕ} 3 1 = h (sides 5 3 3) unmarked [] alone 22 in omega arith;
       hurried-at-the-surface = λ h. let z : _≡_ {A = ℕ} 3 1 = h (sides 5 3 3) (marked (replicate 45 2)) [] (λ j. true) 22 in omega arith;
       pinned-pending = λ h. let z : _≡_ {A = ℕ} 1 3 = h (sides 5 3 3) (marked (replicate 45 1)) [] alone 22 in omega arith;
+    }
+
+-- ---- a mark of 3 read by another rule
+
+pub wrong-threes : WrongThrees
+unfolding all-rules markedBefore beginBy carveBy resting
+wrong-threes =
+    record {
+      begins-hurried = λ h.
+          differs 22 _ _ (λ e. let z : _≡_ {A = ℕ} 1 3 = e in omega arith) (h (sides 4 4 3) 0 valuesD (markD 22 3) (caseD .dist) (caseD .status));
+      carves-hurried = λ h. differs 21 _ _ (λ e. let z : _≡_ {A = ℕ} 3 1 = e in omega arith) (h (markBar 3 0) 1 (barOf (pos 1) (pos 2)));
+      begins-unpinned = λ h.
+          differs 22 _ _ (λ e. let z : _≡_ {A = ℕ} 1 3 = e in omega arith) (h (sides 4 4 3) 0 valuesD (markD 22 3) (caseD .dist) (caseD .status));
+      carves-unpinned = λ h. differs 22 _ _ (λ e. let z : _≡_ {A = ℕ} 1 0 = e in omega arith) (h (markD 22 3) 9 caseD);
+      begin-accepts = λ n e. apart _ n _ refl (sym e);
+      carve-accepts = λ n e. apart _ n _ refl (sym e);
+      take-accepts = λ n e. apart _ n _ refl (sym e);
+      open-accepts = λ n e. apart _ n _ refl (sym e);
     }
 
 -- ---- the face of another removal

@@ -77,7 +77,8 @@ inBox s S i =
 unfoldable pub exposed : Sides → (ℕ → Bool) → ℕ → Bool
 exposed s kept i = any (λ p. not (neighbourhood s kept i p)) facePositions
 
--- of the voxels outside S the hurried ones are pending, pinned or not, and those with a face neighbour not kept that are not pinned
+-- of the voxels outside S the hurried ones are pending, pinned or not (by CR 9 no mark asks for both), and those with a face neighbour not kept that
+-- are not pinned
 unfoldable pub waitsFirst : Sides → Marked → (ℕ → Bool) → ℕ → Bool
 waitsFirst s m kept i = m .hurried i || (not (m .pinned i) && exposed s kept i)
 

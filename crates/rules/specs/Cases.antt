@@ -15,6 +15,7 @@ use Rattle.rules.specs.Answer.{Reply, refused, done, Outcome, Buffers, C
 use Rattle.rules.specs.Begin.{isIn, inside, begin, newRecord}
 use Rattle.rules.specs.Status.{statusOf, anyPending}
 use Rattle.rules.specs.Machine.{State, state, after, count, carve, take, openNext, finish}
+use Rattle.rules.specs.PinFirst.{markedBefore, beginBy}
 
 abbrev pub sides : ℕ → ℕ → ℕ → Sides
 sides a b c = record { a = a; b = b; c = c }
@@ -252,7 +253,7 @@ begunD i mark = startWith (markD i mark) (sides 4 4 3) 0 valuesD
 unfoldable pub deep : ℕ → State
 deep mark = startWith (markAt (sides 5 5 5) 62 mark) (sides 5 5 5) 0 (set (wall (negsuc 3) (pos 4)) 62 (pos 4))
 
--- 5, 3, 3, all 5, but 21 is -5 and all that the box has; 22 beside it is pinned and hurried
+-- 5, 3, 3, all 5, but 21 is -5 and all that the box has; 22 beside it has the mark 3
 unfoldable pub rod : State
 rod = startWith (markAt (sides 5 3 3) 22 3) (sides 5 3 3) 0 (set (replicate 45 (pos 5)) 21 (negsuc 4))
 
@@ -291,14 +292,32 @@ pub record Hurried : Type 0 where
   pub farther-of-two : barIs (carvedWith (markBar 2 2) 1 (barOf (pos 1) (pos 2)) .status) ≡ 3 ∷ 3 ∷ 0 ∷ []
   pub earlier-of-equals : barIs (carvedWith (markBar 2 2) 1 (barOf (pos 1) (pos 1)) .status) ≡ 0 ∷ 3 ∷ 3 ∷ []
 
+-- CR 9: mark 3 means mark 1
 pub record PinnedAndHurried : Type 0 where
-  -- pending from begin, examined first, counted, and it stays
-  pub begun : boxD (begunD 22 3) ≡ 1 ∷ 3 ∷ 3 ∷ 1 ∷ []
-  pub first : boxD (carvedWith (markD 22 3) 1 (begunD 22 3)) ≡ 1 ∷ 1 ∷ 3 ∷ 1 ∷ []
-  pub examined : carvedWith (markD 22 3) 1 (begunD 22 3) .rec .examinations ≡ 1
-  pub removed : carvedWith (markD 22 3) 1 (begunD 22 3) .rec .removals ≡ 0
-  -- a removal beside it leaves it pending
-  pub taken-beside : map (statusOf (take (markD 22 3) 25 (begunD 22 3) .lent .status)) (21 ∷ 22 ∷ 25 ∷ 26 ∷ []) ≡ 1 ∷ 3 ∷ 0 ∷ 1 ∷ []
+  -- not pending from begin, deep inside neither, and not examined: carve takes the voxel beside it
+  pub begun : boxD (begunD 22 3) ≡ 1 ∷ 1 ∷ 3 ∷ 1 ∷ []
+  pub begun-deep : statusOf (deep 3 .status) 62 ≡ 1
+  pub first : boxD (carvedWith (markD 22 3) 1 (begunD 22 3)) ≡ 1 ∷ 1 ∷ 0 ∷ 1 ∷ []
+  pub examined : carvedWith (markD 22 3) 9 (begunD 22 3) .rec .examinations ≡ 1
+  pub removed : carvedWith (markD 22 3) 9 (begunD 22 3) .rec .removals ≡ 1
+  -- a removal beside it does not make it pending, and it is not taken
+  pub taken-beside : map (statusOf (take (markD 22 3) 25 (begunD 22 3) .lent .status)) (21 ∷ 22 ∷ 25 ∷ 26 ∷ []) ≡ 1 ∷ 1 ∷ 0 ∷ 1 ∷ []
+  pub not-taken : take (markD 22 3) 22 caseD .answer ≡ refused 30
+  -- marked by a later call a pending voxel is examined when its distance is the greatest, and stays
+  pub farther-first : barIs (carvedWith (markBar 3 0) 1 (barOf (pos 1) (pos 2)) .status) ≡ 3 ∷ 3 ∷ 0 ∷ []
+  pub stays : barIs (carvedWith (markBar 3 0) 1 (barOf (pos 2) (pos 1)) .status) ≡ 1 ∷ 3 ∷ 3 ∷ []
+
+-- two voxels of mark 3 at begin that carve is not lent as marks: what is kept differs from the rule before (docs/DECISIONS.md)
+unfoldable pub threesD : List ℕ
+threesD = set (markD 22 3) 25 3
+
+pub record ThreesTakenOff : Type 0 where
+  -- neither is pending from begin, and both stay
+  pub now : boxD (carvedTo 9 (startWith threesD (sides 4 4 3) 0 valuesD)) ≡ 1 ∷ 1 ∷ 1 ∷ 1 ∷ []
+  -- both were pending, and went
+  pub before :
+      boxD (carvedTo 9 (after (λ r. r) caseD (beginBy (markedBefore threesD) (sides 4 4 3) 0 valuesD threesD (caseD .dist) (caseD .status))))
+      ≡ 1 ∷ 0 ∷ 0 ∷ 1 ∷ []
 
 -- hurried: pending from begin, deep inside too
 pub record HurriedDeep : Type 0 where

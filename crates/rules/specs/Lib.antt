@@ -17,6 +17,7 @@ pub mod Unmarked
 pub mod Gaps
 pub mod LongRange
 pub mod Slices
+pub mod PinFirst
 pub mod Faces
 pub mod Fifteen
 pub mod Corollaries

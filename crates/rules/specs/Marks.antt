@@ -1,4 +1,5 @@
--- Document 02's CR 7, "Pins and hurries": what the lent mark bytes ask for. Begin and the machine work on the two sets; the bytes are read here alone.
+-- Document 02's CR 7, "Pins and hurries", and CR 9, "Pinned and hurried together": what the lent mark bytes ask for. Begin and the machine work on
+-- the two sets; the bytes are read here alone.
 use mathlib.Core.Bool.{Bool, false, not, _||_}
 use mathlib.Core.List.{List}
 use Prim.Native.Nat.{ℕ}
@@ -16,12 +17,12 @@ pub record Marked : Type 0 where
 abbrev pub markOf : List ℕ → ℕ → ℕ
 markOf marks i = getD marks i 0
 
--- a mark byte is 0, 1 pinned, 2 hurried, or 3 both
+-- a mark byte is 0, 1 pinned, 2 hurried, or 3, which means 1
 unfoldable pub pinnedMark : ℕ → Bool
 pinnedMark x = eqb x 1 || eqb x 3
 
 unfoldable pub hurriedMark : ℕ → Bool
-hurriedMark x = eqb x 2 || eqb x 3
+hurriedMark x = eqb x 2
 
 unfoldable pub marked : List ℕ → Marked
 marked marks = record { pinned = λ i. pinnedMark (markOf marks i); hurried = λ i. hurriedMark (markOf marks i) }

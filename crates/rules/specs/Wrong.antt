@@ -1,6 +1,6 @@
 -- Document 01, "What the second supplier may hold us to" and "Shortcuts that break it": machines that must be rejected, as definitions, and
--- which clause of demand 3 rejects each on a small grid; wrong fills of gaps; marks read by another rule; another face of carve. proofs/Wrong.antt
--- shows it by computation.
+-- which clause of demand 3 rejects each on a small grid; wrong fills of gaps; marks read by another rule, a mark of 3 among them; another face of
+-- carve. proofs/Wrong.antt shows it by computation.
 use mathlib.Core.Path.{_≡_}
 use mathlib.Core.Logic.{_↔_}
 use mathlib.Core.Bool.{Bool, true, false, not, cond, _&&_, _||_}
@@ -9,7 +9,7 @@ use mathlib.Core.Option.{none, some}
 use Prim.Native.Nat.{ℕ, zero, suc}
 use lib.Dec.{eqb}
 use lib.IntN.{ℤ, pos}
-use lib.ListN.{length, set}
+use lib.ListN.{length, set, replicate}
 use Rattle.cells.specs.Groups.{any, filter, groups}
 use Rattle.cells.specs.Cells.{positions, passes}
 use Rattle.rules.specs.declared.Sides.{Sides}
@@ -20,12 +20,15 @@ use Rattle.rules.specs.Gaps.{Enclosed}
 use Rattle.rules.specs.Checks.{unless}
 use Rattle.rules.specs.Answer.{Reply, refused, done, Outcome, untouched, Buffers, Carving}
 use Rattle.rules.specs.Status.{isKept, isPending, firstOf, testAt, without, statusOf, rested, openable}
-use Rattle.rules.specs.Marks.{Marked, marked, noMarks}
-use Rattle.rules.specs.Machine.{State, state, lentTo, outside, mayGo, farther, sooner, count, markedChecks, carved, carve, toOpen, finish}
+use Rattle.rules.specs.Marks.{Marked, markOf, marked, noMarks}
+use Rattle.rules.specs.PinFirst.{markedBefore, beginBy, carveBy}
+use Rattle.rules.specs.Machine.{State, state, lentTo, outside, mayGo, farther, sooner, count, markedChecks, carved, carve, take, toOpen, openNext}
+use Rattle.rules.specs.Machine.{finish}
 use Rattle.rules.specs.Begin.{isIn, exposed, statusAt, begin}
 use Rattle.rules.specs.Demand.{Call, Unchanged, Sums, Demand}
 use Rattle.rules.specs.Faces.{facesOf, lastOr}
-use Rattle.rules.specs.Cases.{sides, plainCarve, plainTake, plainOpen, carvedTo, carvedFace, valuesC, caseC, caseD, valuesD, valuesArc, arc}
+use Rattle.rules.specs.Cases.{sides, plainCarve, plainTake, plainOpen, carvedTo, carvedFace, valuesC, caseC, caseD, valuesD, valuesArc, arc, bar}
+use Rattle.rules.specs.Cases.{markAt, markD}
 
 -- ---- a carve by another rule: whether the voxel goes, and the status bytes after it went
 
@@ -127,13 +130,13 @@ pub record WrongFills : Type 0 where
 -- ---- document 02's CR 7: marks read by another rule
 
 -- carve by other voxels that may go, or in another order
-unfoldable pub carveBy : (Marked → List ℤ → ℕ → Bool) → (Marked → List ℤ → ℕ → ℕ → Bool) → List ℕ → ℕ → State → Outcome Buffers Carving
-carveBy free ahead marks limit g =
+unfoldable pub carveOtherwise : (Marked → List ℤ → ℕ → Bool) → (Marked → List ℤ → ℕ → ℕ → Bool) → List ℕ → ℕ → State → Outcome Buffers Carving
+carveOtherwise free ahead marks limit g =
     let m = marked marks in
     unless (markedChecks marks g) (untouched (lentTo g)) (carved (free m (g .dist)) (ahead m (g .dist)) limit g)
 
 abbrev pub OtherCarve : (Marked → List ℤ → ℕ → Bool) → (Marked → List ℤ → ℕ → ℕ → Bool) → Type 0
-OtherCarve free ahead = ((marks : List ℕ) (limit : ℕ) (g : State) → carve marks limit g ≡ carveBy free ahead marks limit g) → ⊥
+OtherCarve free ahead = ((marks : List ℕ) (limit : ℕ) (g : State) → carve marks limit g ≡ carveOtherwise free ahead marks limit g) → ⊥
 
 -- begin with other voxels pending at first
 abbrev pub OtherStart : (Sides → Marked → (ℕ → Bool) → ℕ → Bool) → Type 0
@@ -171,6 +174,34 @@ pub record WrongMarks : Type 0 where
   pub only-hurried-pending : OtherStart (λ s m kept i. m .hurried i)
   pub hurried-at-the-surface : OtherStart (λ s m kept i. (m .hurried i || not (m .pinned i)) && exposed s kept i)
   pub pinned-pending : OtherStart (λ s m kept i. m .hurried i || exposed s kept i)
+
+-- ---- document 02's CR 9: a mark of 3 read by another rule
+
+-- begin, or carve, where marks ask for other sets
+abbrev pub OtherBegin : (List ℕ → Marked) → Type 0
+OtherBegin read =
+    ((s : Sides) (T : ℕ) (values : List ℤ) (marks : List ℕ) (dist : List ℤ) (status : List ℕ)
+    → begin s T values marks dist status ≡ beginBy (read marks) s T values marks dist status) → ⊥
+
+abbrev pub OtherReading : (List ℕ → Marked) → Type 0
+OtherReading read = ((marks : List ℕ) (limit : ℕ) (g : State) → carve marks limit g ≡ carveBy (read marks) marks limit g) → ⊥
+
+-- a mark of 3 asks for nothing
+abbrev pub threesUnread : List ℕ → Marked
+threesUnread marks = record { pinned = λ i. eqb (markOf marks i) 1; hurried = λ i. eqb (markOf marks i) 2 }
+
+pub record WrongThrees : Type 0 where
+  -- hurried besides: pending from begin; examined first
+  pub begins-hurried : OtherBegin markedBefore
+  pub carves-hurried : OtherReading markedBefore
+  -- not pinned: pending from begin; gone
+  pub begins-unpinned : OtherBegin threesUnread
+  pub carves-unpinned : OtherReading threesUnread
+  -- refused
+  pub begin-accepts : (n : ℕ) → begin (sides 4 4 3) 0 valuesD (markD 22 3) (caseD .dist) (caseD .status) .answer ≡ refused n → ⊥
+  pub carve-accepts : (n : ℕ) → carve (markD 22 3) 1 caseD .answer ≡ refused n → ⊥
+  pub take-accepts : (n : ℕ) → take (markD 22 3) 25 caseD .answer ≡ refused n → ⊥
+  pub open-accepts : (n : ℕ) → openNext (markAt (sides 5 3 3) 21 3) (carvedTo 9 (bar (replicate 45 (pos 1)))) .answer ≡ refused n → ⊥
 
 -- ---- document 02's CR 8: the face of another removal
 

@@ -139,7 +139,7 @@ module _ (s : Sides) (m : Marked) (S : List ℕ) (K : ℕ → Bool) where
   unfolding inGrid
   body-beyond j h = ap (λ (t : Bool). t && K j) (le-ltb j (size s) h)
 
-  status-lent : length started ≡ size s
+  pub status-lent : length started ≡ size s
   unfolding startStatus voxels
   status-lent = length-map-range (statusAt s m S K) (size s)
 
@@ -159,7 +159,7 @@ module _ (s : Sides) (m : Marked) (S : List ℕ) (K : ℕ → Bool) where
   pub kept-at-first : (j : ℕ) → j < size s → isKept started j ≡ K j
   kept-at-first j h = kept-in j h ∙ body-in-grid j h
 
-  kept-start : (j : ℕ) → isKept started j ≡ inGrid s K j
+  pub kept-start : (j : ℕ) → isKept started j ≡ inGrid s K j
   kept-start j =
       elim (decLt j (size s)) [
         | yes h ↦ kept-in j h
@@ -170,7 +170,7 @@ module _ (s : Sides) (m : Marked) (S : List ℕ) (K : ℕ → Bool) where
   unfolding isPending statusAt
   pending-in j h = ap pendingByte (status-start j h) ∙ pending-byte (K j) (waits j) ∙ ap (λ (t : Bool). t && waits j) (sym (body-in-grid j h))
 
-  pending-start : (j : ℕ) → isPending started j ≡ (inGrid s K j && waits j)
+  pub pending-start : (j : ℕ) → isPending started j ≡ (inGrid s K j && waits j)
   pending-start j =
       elim (decLt j (size s)) [
         | yes h ↦ pending-in j h
