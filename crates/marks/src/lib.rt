@@ -19,7 +19,7 @@ pub fn pins(mark: u8) -> bool
 pub fn hurries(mark: u8) -> bool
     ensures { λ r. ⌜ r ≡ hurriedMark mark ⌝ }
 {
-    (mark == 2) | (mark == 3)
+    mark == 2
 }
 
 // The mark of voxel j.
