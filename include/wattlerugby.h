@@ -76,8 +76,8 @@
  * MARKS
  *
  * An operator may hold a voxel, or want it gone early. So begin, carve, take and open are lent a mark byte for each voxel: 0, or
- * WATTLERUGBY_PINNED, WATTLERUGBY_HURRIED, or both. With n zeros they do what they did before version 0.8, when there were no marks. The
- * marks that count are those of the call itself: neither record nor status remembers any.
+ * WATTLERUGBY_PINNED, WATTLERUGBY_HURRIED, or both, where the pin alone counts. With n zeros they do what they did before version 0.8, when
+ * there were no marks. The marks that count are those of the call itself: neither record nor status remembers any.
  *
  * A pin holds a voxel. No call that is lent it removes the voxel, open passes it over, and no removal beside it makes it pending. So a kept
  * voxel that every call pins is kept at the end, whatever the calls are; those that refuse do nothing, and need not pin it. More is not
@@ -88,12 +88,15 @@
  * A hurry changes the order. A hurried voxel is pending from begin on if it is kept and not inside, however deep it lies, and carve examines
  * hurried pending voxels before all others. It goes if it passes the local test, as any other, and otherwise stays. Open takes no notice.
  *
- * A voxel that is both is pending from begin on and examined first. That counts as an examination, and the voxel stays.
+ * Where a voxel is both, the pin comes first and alone: WATTLERUGBY_PINNED_AND_HURRIED, 3, means what WATTLERUGBY_PINNED means, in every
+ * call. So a voxel is pinned where its mark is 1 or 3, and hurried where it is 2. Before version 0.10 one with mark 3 was hurried too, so that
+ * where a mark is 3, and only there, status bytes after begin, counts of examinations, what a limited carve reaches and answers about pending,
+ * 13 among them, may be others now; with no mark changed from begin on, a carve run straight from begin to its end keeps the same voxels.
  *
- * Marks may change between calls. A voxel that is pending when you pin it stays pending until carve examines it: that counts, and it stays. A
- * hurry that is new, or a pin that is taken off, makes no voxel pending; only a removal beside it does. So after such a change voxels that
- * could go may be kept and not pending, and open may take one of them, with k and m both 1. Marks of voxels that are inside, gone or on the
- * border have no effect; but each byte of the buffer must be 3 or less, or the call refuses with 29.
+ * Marks may change between calls. A voxel that is pending when you pin it, with 1 or 3, stays pending until carve examines it in its turn:
+ * that counts, and it stays. A hurry that is new, or a pin that is taken off, makes no voxel pending; only a removal beside it does. So after
+ * such a change voxels that could go may be kept and not pending, and open may take one of them, with k and m both 1. Marks of voxels that
+ * are inside, gone or on the border have no effect; but each byte of the buffer must be 3 or less, or the call refuses with 29.
  *
  * FACES
  *
@@ -144,11 +147,11 @@
 /* ---- version */
 
 #define WATTLERUGBY_VERSION_MAJOR 0
-#define WATTLERUGBY_VERSION_MINOR 9
+#define WATTLERUGBY_VERSION_MINOR 10
 #define WATTLERUGBY_VERSION_PATCH 0
-#define WATTLERUGBY_VERSION "0.9.0"
+#define WATTLERUGBY_VERSION "0.10.0"
 
-/* The version as one number, 9000 for 0.9.0: the later of two versions has the greater one. It may stand in an #if, where it is 0 with
+/* The version as one number, 10000 for 0.10.0: the later of two versions has the greater one. It may stand in an #if, where it is 0 with
  * a header that does not have it yet. */
 #define WATTLERUGBY_VERSION_NUMBER \
     (WATTLERUGBY_VERSION_MAJOR * 1000000u + WATTLERUGBY_VERSION_MINOR * 1000u + WATTLERUGBY_VERSION_PATCH)
@@ -178,8 +181,8 @@ static inline const char *wattlerugby_version(void)
 }
 
 /* The version of the archive that is linked, where WATTLERUGBY_VERSION_NUMBER is the header's. The two may differ where every call that the
- * program makes has the same form in both. Such a call may still decide otherwise, as begin does since 0.7: a program that relies on that
- * asks for 7000 or more. Never refused. */
+ * program makes has the same form in both. Such a call may still decide otherwise, as begin does on gaps since 0.7, and begin and carve on a
+ * mark of 3 since 0.10: a program that relies on the one asks for 7000 or more, on the other for 10000 or more. Never refused. */
 uint32_t wattlerugby_version_number(void);
 
 /* ---- numbers */
@@ -270,7 +273,7 @@ enum {
     WATTLERUGBY_UNMARKED = 0,
     WATTLERUGBY_PINNED = 1,              /* no call removes it */
     WATTLERUGBY_HURRIED = 2,             /* pending from begin on, and examined before all others */
-    WATTLERUGBY_PINNED_AND_HURRIED = 3   /* examined first, and kept */
+    WATTLERUGBY_PINNED_AND_HURRIED = 3   /* what WATTLERUGBY_PINNED means: the pin alone counts */
 };
 
 /* What `face` is in an answer: see FACES above. The axis is face / 2, and face % 2 is 1 on the side where that coordinate is higher. */
@@ -366,8 +369,8 @@ typedef struct wattlerugby_begin_answer {
  *
  * The inside is the largest group of negative voxels that touch, gaps behind the face included; other negative voxels are discarded as
  * noise, and with them the gaps that they close in. `dist` gets each voxel's worked distance, negative exactly inside. `status` gets the
- * smallest box that holds the inside as kept, and all else as gone. Of the box those voxels that are not inside are pending which lie bare,
- * unless they are only pinned, and those that are hurried. Marks change nothing else: neither the box nor a distance.
+ * smallest box that holds the inside as kept, and all else as gone. Of the box those voxels that are neither inside nor pinned are pending
+ * which lie bare or are hurried. Marks change nothing else: neither the box nor a distance.
  *
  * So a missing point that counts as inside has the worked distance -1, and as all of the inside it is never lost, whatever calls follow. It
  * is told by its value: before finish, the voxels of negative distance whose value is WATTLERUGBY_MISSING are these.

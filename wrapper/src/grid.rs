@@ -48,7 +48,8 @@ impl Grid {
         Grid::start(sides, allowed, values, vec![UNMARKED; sides.voxels().unwrap_or(0)])
     }
 
-    /// Starts a grid from n measured values with n marks of its own, so that hurried voxels are pending at once. See [`crate::begin`].
+    /// Starts a grid from n measured values with n marks of its own, so that hurried voxels are pending at once, and pinned ones are not. See
+    /// [`crate::begin`].
     ///
     /// ```
     /// use wattlerugby::{Grid, Refusal, Sides, GONE, HURRIED, KEPT, NO_LIMIT, PENDING, PINNED, UNMARKED};
@@ -166,7 +167,7 @@ impl Grid {
     }
 
     /// The marks that each call is lent, by index: [`crate::UNMARKED`], [`crate::PINNED`], [`crate::HURRIED`] or
-    /// [`crate::PINNED_AND_HURRIED`].
+    /// [`crate::PINNED_AND_HURRIED`], which counts as a pin alone.
     pub fn marks(&self) -> &[u8] {
         &self.marks
     }
@@ -191,12 +192,35 @@ impl Grid {
 
     /// Pins a voxel for the calls from now on, which do not remove it: see Marks on the crate's page. [`Grid::marks_mut`] takes a pin off.
     /// Refused with 5 where there is no such voxel.
+    ///
+    /// Where the voxel is hurried too, in whichever order, its mark byte holds both and the pin alone counts. The hurry is not lost: it counts
+    /// from the call on for which the pin is taken off.
+    ///
+    /// ```
+    /// use wattlerugby::{Grid, Sides, PENDING, PINNED, PINNED_AND_HURRIED};
+    ///
+    /// let mut values = [6; 48];
+    /// (values[21], values[26]) = (-6, -6); // two voxels that touch in an edge: 22 and 25 fill the box around them, and are pending
+    /// let mut grid = Grid::begin(Sides { a: 4, b: 4, c: 3 }, 0, &values)?;
+    /// grid.hurry(25)?;
+    /// grid.pin(25)?;
+    /// assert_eq!(grid.marks()[25], PINNED_AND_HURRIED);
+    /// let mut freed = grid.clone();
+    /// grid.carve(1)?;
+    /// assert_eq!(grid.status()[25], PENDING); // 22 came first, as it does where no voxel is hurried
+    ///
+    /// freed.marks_mut()[25] &= !PINNED;
+    /// freed.carve(1)?;
+    /// assert_eq!(freed.status()[22], PENDING); // 25 came first
+    /// # Ok::<(), wattlerugby::Refusal>(())
+    /// ```
     pub fn pin(&mut self, index: usize) -> Result<(), Refusal> {
         self.mark(index, PINNED)
     }
 
     /// Hurries a voxel for the calls from now on: where it is pending, carve examines it before all that are not hurried. It wakes nothing,
-    /// so a voxel that is to be pending from the start is hurried by [`Grid::begin_marked`]. Refused with 5 where there is no such voxel.
+    /// so a voxel that is to be pending from the start is hurried by [`Grid::begin_marked`]. Of a voxel that is pinned the pin alone counts: see
+    /// [`Grid::pin`]. Refused with 5 where there is no such voxel.
     pub fn hurry(&mut self, index: usize) -> Result<(), Refusal> {
         self.mark(index, HURRIED)
     }

@@ -36,17 +36,22 @@
 //! # Marks
 //!
 //! An operator may hold a voxel, or want it gone early. So [`begin`], [`carve`], [`take`] and [`open`] are lent a mark byte for each voxel:
-//! [`UNMARKED`], [`PINNED`], [`HURRIED`] or both. A [`Grid`] has its own, all [`UNMARKED`] unless you set them, and lends them to each call.
+//! [`UNMARKED`], [`PINNED`], [`HURRIED`], or both, where the pin alone counts. A [`Grid`] has its own, all [`UNMARKED`] unless you set them, and
+//! lends them to each call.
 //!
 //! A pinned voxel is removed by no call, passed over by [`open`], and made pending by no removal. So a kept voxel that every call pins is kept
 //! at the end. A pin brings nothing back: what is gone, or lies outside the box that begin keeps, is not held; and it holds that voxel alone, so
 //! that after openings it may hang free, as a piece of its own. The inside is kept anyway.
 //!
 //! A hurried voxel is pending from [`begin`] on if it is kept and outside, and [`carve`] examines hurried pending voxels before all others. It
-//! goes if it passes, as any other. One that is both is examined first, which counts, and stays.
+//! goes if it passes, as any other.
 //!
-//! The marks that count are those of the call itself. A pending voxel that is pinned later stays pending until it is examined, counts and
-//! stays; a hurry that is new, or a pin that is taken off, makes no voxel pending. On inside, gone and border voxels marks have no effect.
+//! Where a voxel is both, the pin comes first and alone: [`PINNED_AND_HURRIED`] means what [`PINNED`] means, in every call. Before version 0.10
+//! such a voxel was hurried too: pending from [`begin`] on, and examined first, though it stayed.
+//!
+//! The marks that count are those of the call itself. A pending voxel that is pinned later stays pending until it is examined in its turn,
+//! counts and stays; a hurry that is new, or a pin that is taken off, makes no voxel pending. On inside, gone and border voxels marks have no
+//! effect.
 //!
 //! ```
 //! use wattlerugby::{Grid, Refusal, Sides, GONE};
@@ -113,6 +118,7 @@ const fn number(digits: &str) -> u32 {
 ///
 /// assert_eq!(archive_version(), VERSION);
 /// assert!(archive_version() >= (0, 7, 0)); // since then gaps behind the face count as inside
+/// assert!(archive_version() >= (0, 10, 0)); // since then a voxel that is pinned and hurried is pinned alone
 /// ```
 pub fn archive_version() -> (u32, u32, u32) {
     // SAFETY: a number alone crosses.
@@ -150,7 +156,7 @@ pub const UNMARKED: u8 = 0;
 pub const PINNED: u8 = 1;
 /// A mark byte of a voxel that is examined before all others, and from [`begin`] on.
 pub const HURRIED: u8 = 2;
-/// A mark byte of a voxel that is both: it is examined first, and stays.
+/// A mark byte of a voxel that is both, of which the pin alone counts: it means what [`PINNED`] means.
 pub const PINNED_AND_HURRIED: u8 = 3;
 
 /// The grid's sides, 3 to 64 voxels each, along x, y and z. Voxel (x, y, z) has index x + a (y + b z).
@@ -355,7 +361,7 @@ fn bare_face(number: u32) -> Face {
 }
 
 /// Starts a grid from n measured values and n marks, and fills both other buffers with worked distances and status bytes. Of the kept voxels
-/// outside those are pending which lie bare, unless they are only pinned, and those that are hurried. Marks change nothing else.
+/// outside that are not pinned those are pending which lie bare or are hurried. Marks change nothing else.
 ///
 /// No shot reaches the middle of a thick wall, so missing points are looked at first. A gap is a group of them joined by faces, with all that
 /// are joined to it. Where none of it lies on the grid's border, and every other voxel that shares a face with it is measured negative, it is
@@ -409,7 +415,7 @@ pub fn begin(sides: Sides, allowed: u16, values: &[i32], marks: &[u8], dist: &mu
 /// Checks: 1, 2, 7, 29, 8.
 ///
 /// ```
-/// use wattlerugby::{begin, carve, Face, Sides, NO_LIMIT, PINNED_AND_HURRIED, UNMARKED};
+/// use wattlerugby::{begin, carve, Face, Sides, NO_LIMIT, PINNED, UNMARKED};
 ///
 /// let mut values = [6; 48];
 /// (values[21], values[26]) = (-6, -6); // two voxels that touch in an edge: 22 and 25 fill the box around them
@@ -419,10 +425,10 @@ pub fn begin(sides: Sides, allowed: u16, values: &[i32], marks: &[u8], dist: &mu
 /// assert_eq!((done.examined, done.removed, done.pending), (2, 2, false));
 /// assert_eq!(done.face, Some(Face::LowX)); // of 25, the last
 ///
-/// marks[25] = PINNED_AND_HURRIED;
+/// marks[25] = PINNED; // it is pending already
 /// let done = carve(record, &dist, &marks, &mut status, NO_LIMIT)?;
 /// assert_eq!((done.examined, done.removed, done.pending), (2, 1, false));
-/// assert_eq!(done.face, Some(Face::HighX)); // of 22: 25 was examined before it, and stayed
+/// assert_eq!(done.face, Some(Face::HighX)); // of 22: 25 was examined after it, and stayed
 /// # Ok::<(), wattlerugby::Refusal>(())
 /// ```
 pub fn carve(given: impl Into<raw::Record>, dist: &[i32], marks: &[u8], status: &mut [u8], limit: u32) -> Result<Carved, Refusal> {

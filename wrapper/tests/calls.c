@@ -230,7 +230,7 @@ static int marks_are_read(void)
     memset(g.marks + 1, WATTLERUGBY_PINNED_AND_HURRIED, OF_D);
     other = g;
     wrong += begin_d(&other, OF_D) != 0 || carve_d(&other, OF_D, 9) != 0 || take_d(&other, OF_D, 22) != WATTLERUGBY_PINNED_VOXEL;
-    wrong += open_d(&other, OF_D) != WATTLERUGBY_NOTHING_TO_OPEN || other.record.examinations != 2 || other.record.removals != 0;
+    wrong += open_d(&other, OF_D) != WATTLERUGBY_NOTHING_TO_OPEN || other.record.examinations != 0 || other.record.removals != 0;
     /* a bad mark beside something else that is wrong */
     g.marks[1] = 4;
     other = g;
@@ -276,8 +276,16 @@ static int marks(void)
     wrong += take_d(&g, OF_D, 22) != 0;
     print_d("the pin taken off, 22 taken", &g);
     g = begun_d(WATTLERUGBY_PINNED_AND_HURRIED, 0);
+    print_d("22 pinned and hurried, begun", &g);
+    wrong += carve_d(&g, OF_D, WATTLERUGBY_NO_LIMIT) != 0 || take_d(&g, OF_D, 22) != WATTLERUGBY_PINNED_VOXEL;
+    wrong += open_d(&g, OF_D) != WATTLERUGBY_NOTHING_TO_OPEN;
+    print_d("22 pinned and hurried, carved to the end", &g);
+    g = begun_d(0, 0);
+    set_marks(&g, 0, WATTLERUGBY_PINNED_AND_HURRIED);
     wrong += carve_d(&g, OF_D, 1) != 0;
-    print_d("22 pinned and hurried, one examination", &g);
+    print_d("25 pinned and hurried when it is pending, one examination", &g);
+    wrong += carve_d(&g, OF_D, 1) != 0;
+    print_d("and another", &g);
     g = begun_d(0, 0);
     set_marks(&g, WATTLERUGBY_PINNED, WATTLERUGBY_PINNED);
     wrong += carve_d(&g, OF_D, 1) != 0;

@@ -65,21 +65,27 @@ fn hurried() {
     assert_eq!(told(&grid), (PENDING, GONE, 1, 1), "before 22, which is as far and comes first");
     // deep inside it is pending from begin, examined, and stays, since it does not pass
     let begun = |mark| Grid::begin_marked(HOLLOW, 0, &hollow(), &marked::<125>(&[(62, mark)])).unwrap();
-    assert_eq!([UNMARKED, PINNED, HURRIED, PINNED_AND_HURRIED].map(|mark| begun(mark).status()[62]), [KEPT, KEPT, PENDING, PENDING]);
+    assert_eq!([UNMARKED, PINNED, HURRIED, PINNED_AND_HURRIED].map(|mark| begun(mark).status()[62]), [KEPT, KEPT, PENDING, KEPT]);
     let mut grid = begun(HURRIED);
     let done = grid.carve(NO_LIMIT).unwrap();
     assert_eq!((done.examined, done.removed, grid.status()[62]), (1, 0, KEPT));
 }
 
+/// The pin alone counts: each answer is that of `pinned`.
 #[test]
 fn pinned_and_hurried() {
-    let mut grid = d(&[(25, PINNED_AND_HURRIED)]);
-    assert_eq!(told(&grid), (PENDING, PENDING, 0, 0));
-    grid.carve(1).unwrap();
-    assert_eq!(told(&grid), (PENDING, KEPT, 1, 0), "examined first, counted, kept");
-    grid.carve(NO_LIMIT).unwrap();
-    assert_eq!(told(&grid), (GONE, KEPT, 2, 1));
-    assert_eq!(grid.take(25), Err(Refusal::PINNED_VOXEL));
+    let mut grid = d(&[(22, PINNED_AND_HURRIED)]);
+    assert_eq!(told(&grid), (KEPT, PENDING, 0, 0), "not pending from begin");
+    assert_eq!(grid.take(22), Err(Refusal::PINNED_VOXEL));
+    assert_eq!(grid.carve(NO_LIMIT).unwrap().examined, 1);
+    assert_eq!(told(&grid), (KEPT, GONE, 1, 1), "not made pending by the removal beside it");
+    assert_eq!(grid.open(), Err(Refusal::NOTHING_TO_OPEN));
+    grid.finish().unwrap();
+    assert_eq!(grid.distances()[22], -6, "it is part of the body");
+    // where nothing else is pending, open and finish do not refuse with 13
+    let both = || d(&[(22, PINNED_AND_HURRIED), (25, PINNED_AND_HURRIED)]);
+    assert_eq!(told(&both()), (KEPT, KEPT, 0, 0));
+    assert_eq!((both().open(), both().finish()), (Err(Refusal::NOTHING_TO_OPEN), Ok(())));
 }
 
 /// Two holes in a plate, the second one farther: open takes it first, hurried or not, unless it is pinned.
@@ -137,6 +143,38 @@ fn marks_that_change() {
     grid.hurry(25).unwrap();
     grid.carve(1).unwrap();
     assert_eq!(told(&grid), (PENDING, GONE, 1, 1));
+}
+
+#[test]
+fn both_marks_on_a_pending_voxel() {
+    // in whichever order: it is not hurried, so 22 comes first; then it is examined, counts and stays
+    for pin_first in [true, false] {
+        let mut grid = d(&[]);
+        if pin_first {
+            grid.pin(25).unwrap();
+            grid.hurry(25).unwrap();
+        } else {
+            grid.hurry(25).unwrap();
+            grid.pin(25).unwrap();
+        }
+        assert_eq!((grid.marks()[25], told(&grid)), (PINNED_AND_HURRIED, (PENDING, PENDING, 0, 0)));
+        assert_eq!((grid.take(25), grid.open()), (Err(Refusal::PINNED_VOXEL), Err(Refusal::STILL_PENDING)));
+        grid.carve(1).unwrap();
+        assert_eq!(told(&grid), (GONE, PENDING, 1, 1), "examined in its turn");
+        let mut freed = grid.clone();
+        grid.carve(1).unwrap();
+        assert_eq!(told(&grid), (GONE, KEPT, 2, 1), "counted, and kept");
+        // the hurry is not lost: the pin taken off, it counts again
+        freed.marks_mut()[25] &= !PINNED;
+        assert_eq!(freed.marks()[25], HURRIED);
+        freed.carve(1).unwrap();
+        assert_eq!(told(&freed), (GONE, GONE, 2, 2));
+    }
+    // of the farthest pending voxel: it is examined first for its distance, and stays
+    let mut grid = d(&[]);
+    grid.marks_mut()[22] = PINNED_AND_HURRIED;
+    grid.carve(1).unwrap();
+    assert_eq!(told(&grid), (KEPT, PENDING, 1, 0));
 }
 
 /// On inside, gone and border voxels, those outside the box among them.
@@ -238,28 +276,39 @@ fn place(i: usize) -> [usize; 3] {
     [i % SIDE, i / SIDE % SIDE, i / (SIDE * SIDE)]
 }
 
-/// A grid full of noise, with many an opening allowed, and marks on so many voxels in a hundred.
-fn noise(seed: &mut Seed, marks: usize) -> Grid {
+/// A grid's values, full of noise.
+fn noise_values(seed: &mut Seed) -> Vec<i32> {
     let border = |i: usize| place(i).iter().any(|&p| p == 0 || p + 1 == SIDE);
-    let value = |i: usize, seed: &mut Seed| match (border(i), seed.below(100)) {
+    let value = |i: usize| match (border(i), seed.below(100)) {
         (true, _) => 20,
         (_, 0..=39) => -1 - seed.below(20) as i32,
         (_, 40..=44) => MISSING,
         _ => seed.below(20) as i32,
     };
-    let values: Vec<i32> = (0..N).map(|i| value(i, seed)).collect();
-    let marks: Vec<u8> = (0..N).map(|_| if seed.below(100) < marks { 1 + seed.below(3) as u8 } else { UNMARKED }).collect();
+    (0..N).map(value).collect()
+}
+
+/// Marks on so many voxels in a hundred.
+fn noise_marks(seed: &mut Seed, marks: usize) -> Vec<u8> {
+    (0..N).map(|_| if seed.below(100) < marks { 1 + seed.below(3) as u8 } else { UNMARKED }).collect()
+}
+
+/// A grid full of noise, with many an opening allowed, and marks on so many voxels in a hundred.
+fn noise(seed: &mut Seed, marks: usize) -> Grid {
+    let (values, marks) = (noise_values(seed), noise_marks(seed, marks));
     Grid::begin_marked(SIDES, u16::MAX, &values, &marks).expect("some voxel is negative")
 }
 
-/// Whether the voxel passes the local test among those kept.
-fn passes(grid: &Grid, i: usize) -> bool {
+/// The 27 voxels around an inner one, itself among them, in the order of the local test's bits.
+fn around(i: usize) -> impl Iterator<Item = usize> {
     let [x, y, z] = place(i);
-    let bits = (0..27usize).filter(|bit| {
-        let j = x + bit % 3 - 1 + SIDE * (y + bit / 3 % 3 - 1 + SIDE * (z + bit / 9 - 1));
-        grid.status()[j] != GONE
-    });
-    let test = wattlerugby::local_test(bits.fold(0, |kept, bit| kept | 1 << bit));
+    (0..27usize).map(move |bit| x + bit % 3 - 1 + SIDE * (y + bit / 3 % 3 - 1 + SIDE * (z + bit / 9 - 1)))
+}
+
+/// Whether the voxel passes the local test among those kept.
+fn passes(status: &[u8], i: usize) -> bool {
+    let kept = around(i).enumerate().filter(|&(_, j)| status[j] != GONE);
+    let test = wattlerugby::local_test(kept.fold(0, |kept, (bit, _)| kept | 1 << bit));
     (test.k, test.m) == (1, 1)
 }
 
@@ -297,31 +346,116 @@ fn pins_hold_whatever_the_calls_are() {
 }
 
 /// One examination at a time: of the pending voxels it is a hurried one if there is any, then the farthest, then the first. It goes if it
-/// passes and is not pinned; what becomes pending is neither inside nor pinned.
+/// passes and is not pinned; what becomes pending is neither inside nor pinned. Marks are set anew after begin, so that pinned voxels are
+/// pending too.
 #[test]
 fn hurried_ones_come_first() {
     let mut seed = Seed(5);
-    let (mut hurried, mut others, mut stayed) = (0, 0, 0);
+    let (mut hurried, mut others, mut stayed, mut both) = (0, 0, 0, 0);
     for _ in 0..60 {
         let mut grid = noise(&mut seed, 30);
+        grid.marks_mut().copy_from_slice(&noise_marks(&mut seed, 30));
         loop {
             let before = grid.clone();
             let pending = (0..N).filter(|&i| before.status()[i] == PENDING);
-            let order = |&i: &usize| (before.marks()[i] & HURRIED, before.distances()[i], std::cmp::Reverse(i));
+            let order = |&i: &usize| (before.marks()[i] == HURRIED, before.distances()[i], std::cmp::Reverse(i));
             let Some(first) = pending.max_by_key(order) else { break };
             grid.carve(1).expect("a begun grid is carved");
-            let goes = passes(&before, first) && before.marks()[first] & PINNED == 0;
+            let goes = passes(before.status(), first) && before.marks()[first] & PINNED == 0;
             assert_eq!(grid.status()[first], if goes { GONE } else { KEPT });
             for i in (0..N).filter(|&i| i != first && grid.status()[i] != before.status()[i]) {
                 assert!(goes && (before.status()[i], grid.status()[i]) == (KEPT, PENDING));
                 assert!(grid.distances()[i] >= 0 && grid.marks()[i] & PINNED == 0);
             }
-            hurried += usize::from(before.marks()[first] & HURRIED != 0);
-            others += usize::from(before.marks()[first] & HURRIED == 0);
-            stayed += usize::from(!goes && passes(&before, first));
+            hurried += usize::from(before.marks()[first] == HURRIED);
+            others += usize::from(before.marks()[first] != HURRIED);
+            stayed += usize::from(!goes && passes(before.status(), first));
+            both += usize::from(before.marks()[first] == PINNED_AND_HURRIED);
         }
     }
-    assert!(hurried > 500 && others > 500 && stayed > 20, "{hurried} hurried, {others} others, {stayed} held by a pin");
+    let met = format!("{hurried} hurried, {others} others, {stayed} held by a pin, {both} with both marks");
+    assert!(hurried > 500 && others > 500 && stayed > 100 && both > 100, "{met}");
+}
+
+/// The marks with 1 for each 3.
+fn pins_alone(marks: &[u8]) -> Vec<u8> {
+    marks.iter().map(|&mark| if mark == PINNED_AND_HURRIED { PINNED } else { mark }).collect()
+}
+
+/// Whatever the calls are, and whatever the marks become: 3 is answered as 1 is, and leaves the same.
+#[test]
+fn three_is_one() {
+    let mut seed = Seed(13);
+    let (mut both, mut refused) = (0, [0; 31]);
+    for _ in 0..100 {
+        let (values, marks) = (noise_values(&mut seed), noise_marks(&mut seed, 40));
+        let begun = |marks: &[u8]| Grid::begin_marked(SIDES, u16::MAX, &values, marks).expect("some voxel is negative");
+        let (mut grid, mut other) = (begun(&marks), begun(&pins_alone(&marks)));
+        both += outside(&grid).filter(|&i| marks[i] == PINNED_AND_HURRIED).count();
+        for _ in 0..90 {
+            assert_eq!((grid.status(), grid.distances(), grid.record()), (other.status(), other.distances(), other.record()));
+            if seed.below(9) == 0 {
+                let marks = noise_marks(&mut seed, 40);
+                grid.marks_mut().copy_from_slice(&marks);
+                other.marks_mut().copy_from_slice(&pins_alone(&marks));
+            }
+            let kept: Vec<usize> = outside(&grid).chain([0]).collect();
+            let (limit, index) = (seed.below(8) as u32, kept[seed.below(kept.len())]);
+            let number = match seed.below(5) {
+                0 => same(grid.carve(limit), other.carve(limit)),
+                1 => same(grid.carve(NO_LIMIT), other.carve(NO_LIMIT)),
+                2 => same(grid.take(index), other.take(index)),
+                _ => same(grid.open(), other.open()),
+            };
+            refused[usize::from(number)] += 1;
+        }
+        same(grid.finish(), other.finish());
+        assert_eq!((grid.status(), grid.distances(), grid.record()), (other.status(), other.distances(), other.record()));
+    }
+    assert!(both > 500 && [0, 13, 15, 30].iter().all(|&number| refused[number] > 50), "{both} marks of 3, numbers {refused:?}");
+}
+
+/// The number of two answers, 0 where neither is a refusal: both are the same.
+fn same<T: PartialEq + std::fmt::Debug>(one: Result<T, Refusal>, other: Result<T, Refusal>) -> u8 {
+    assert_eq!(one, other);
+    one.err().map_or(0, |refused| refused.0)
+}
+
+/// What a carve to the end left before version 0.10, where a mark of 3 also hurried, and how many voxels it examined.
+fn as_in_0_9(begun: &Grid) -> (Vec<u8>, u64) {
+    let (dist, marks) = (begun.distances(), begun.marks());
+    let mut status = begun.status().to_vec();
+    for i in (0..N).filter(|&i| marks[i] & HURRIED != 0 && dist[i] >= 0 && begun.status()[i] != GONE) {
+        status[i] = PENDING;
+    }
+    for examined in 0.. {
+        let order = |&i: &usize| (marks[i] & HURRIED, dist[i], std::cmp::Reverse(i));
+        let Some(first) = (0..N).filter(|&i| status[i] == PENDING).max_by_key(order) else { return (status, examined) };
+        status[first] = KEPT;
+        if marks[first] & PINNED == 0 && passes(&status, first) {
+            status[first] = GONE;
+            for j in around(first).filter(|&j| dist[j] >= 0 && marks[j] & PINNED == 0) {
+                status[j] = if status[j] == GONE { GONE } else { PENDING };
+            }
+        }
+    }
+    unreachable!("a carve ends")
+}
+
+/// A carve run straight from begin to its end keeps the voxels that it kept before version 0.10, and examines none that both marks are on.
+#[test]
+fn a_carve_keeps_what_it_kept_before() {
+    let mut seed = Seed(17);
+    let mut fewer = 0;
+    for round in 0..60 {
+        let mut grid = noise(&mut seed, 10 * (round % 5));
+        let (kept, examined) = as_in_0_9(&grid);
+        let both = outside(&grid).filter(|&i| grid.marks()[i] == PINNED_AND_HURRIED).count() as u64;
+        let done = grid.carve(NO_LIMIT).expect("a begun grid is carved");
+        assert_eq!((grid.status(), u64::from(done.examined) + both), (&kept[..], examined));
+        fewer += usize::from(both > 0);
+    }
+    assert!(fewer > 30, "both marks stand in {fewer} of 60 grids");
 }
 
 /// With the marks that begin had, carved until nothing is pending: no kept voxel outside passes but pinned ones.
@@ -333,7 +467,7 @@ fn none_but_pinned_ones_pass() {
         let mut grid = noise(&mut seed, 30);
         loop {
             grid.carve(NO_LIMIT).expect("a begun grid is carved");
-            for i in outside(&grid).filter(|&i| passes(&grid, i)) {
+            for i in outside(&grid).filter(|&i| passes(grid.status(), i)) {
                 assert_ne!(grid.marks()[i] & PINNED, 0);
                 pinned += 1;
             }

@@ -54,7 +54,7 @@ macro_rules! marks {
         "  --pin VOXEL     hold that voxel: it is not removed
   --hurry VOXEL   examine that voxel before all others
                   VOXEL is X,Y,Z, an index, or @LIST, a file with one voxel a line, where # begins a remark
-                  Both options may be given many times
+                  Both options may be given many times. Of a voxel that is given to both the pin alone counts
 "
     };
 }
@@ -104,7 +104,8 @@ face with it is measured negative: no shot reaches the middle of a thick wall.
             marks!(),
             "
 A pin holds a voxel of the box around the inside, from which carving starts; elsewhere it does nothing, and a note says so. What is pinned
-may hang free in the end. A hurried voxel goes only if it may, as any other: the body can become another, since the order is.
+may hang free in the end. A hurried voxel goes only if it may, as any other: the body can become another, since the order is. A hurry on a
+voxel that is pinned does nothing either, and a note says so.
 "
         ),
     },
@@ -355,8 +356,8 @@ FILE may be -, the standard input; after --, every word is a file. With -o OUT t
 What takes long shows its progress on a terminal. Several files are shared out among the processor's cores.
 
 All but compare and patch take --openings N in place of the file's T, the number of openings allowed. All but compare, make, patch and
-rewrite take --pin VOXEL, which holds a voxel, and --hurry VOXEL, which has it examined before all others. VOXEL is X,Y,Z, an index, or
-@LIST, a file with one voxel a line.
+rewrite take --pin VOXEL, which holds a voxel, and --hurry VOXEL, which has it examined before all others unless it is pinned. VOXEL is
+X,Y,Z, an index, or @LIST, a file with one voxel a line.
 
 Exit status: 0 done; 1 the grid is refused (compare: the two differ); 2 usage, or a file cannot be read or written.
 ",

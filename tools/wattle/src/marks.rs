@@ -57,13 +57,18 @@ pub fn told(marks: &[u8]) -> String {
     each.iter().filter(|(count, _)| *count > 0).map(|(count, name)| format!(", {count} {name}")).collect()
 }
 
-/// Sentences on marks that do nothing, by a grid that has just begun.
+/// Sentences on marks that do nothing, by a grid that has just begun. Of a voxel with both the pin alone counts.
 pub fn idle(scan: &Scan, grid: &Grid) -> Vec<String> {
     let sentence = |(_, mark, name): (&str, u8, &str)| {
         let marked: Vec<usize> = (0..grid.marks().len()).filter(|&i| grid.marks()[i] & mark != 0).collect();
         let (gone, kept): (Vec<usize>, Vec<usize>) = marked.iter().partition(|&&i| grid.status()[i] == GONE);
-        let inside: Vec<usize> = kept.into_iter().filter(|&i| grid.distances()[i] < 0).collect();
-        let places = [(inside, "inside, where all is kept"), (gone, "outside the box around the inside, where all is gone")];
+        let (inside, outside): (Vec<usize>, Vec<usize>) = kept.into_iter().partition(|&i| grid.distances()[i] < 0);
+        let held: Vec<usize> = outside.into_iter().filter(|&i| mark == HURRIED && grid.marks()[i] & PINNED != 0).collect();
+        let places = [
+            (inside, "inside, where all is kept"),
+            (gone, "outside the box around the inside, where all is gone"),
+            (held, "pinned too, where the pin alone counts"),
+        ];
         let found: Vec<String> = places
             .iter()
             .filter_map(|(voxels, place)| {

@@ -38,11 +38,38 @@ fn a_pin_holds_a_voxel() {
     for pin in ["2,2,1", "37"] {
         assert_eq!(line(&["--pin", pin], &ring(2)), "kept 9 removed 0 opened 0 examined 0 euler 1\n");
     }
-    // hurried too, it is examined
-    assert_eq!(line(&["--pin", "2,2,1", "--hurry", "37"], &ring(2)), "kept 9 removed 0 opened 0 examined 1 euler 1\n");
     // between the bow's ends a voxel that is held hangs free, once what joins it to the rest is opened
     assert_eq!(line(&["--large"], &bow(0)), "kept 11 removed 9 opened 0 examined 9 euler 1\n");
     assert_eq!(line(&["--pin", "3,2,1"], &bow(9)), "kept 12 removed 8 opened 1 examined 8 euler 2\n");
+}
+
+/// Of a voxel that is given to both the pin alone counts, in whichever order: what is printed is what it is with the pin alone, but for the
+/// title, which counts what was asked for, and for a note on the hurry.
+#[test]
+fn a_pin_counts_before_a_hurry() {
+    let note = "1 of 1 hurried voxels is without effect: 1 pinned too, where the pin alone counts, such as (2, 2, 1), index 37.";
+    let (file, pin) = (ring(2), ["--pin", "2,2,1"]);
+    let titled = |text: String| text.replace(", 1 pinned, 1 hurried", ", 1 pinned");
+    for both in [["--pin", "2,2,1", "--hurry", "37"], ["--hurry", "2,2,1", "--pin", "37"]] {
+        for command in ["carve", "list", "points", "volume", "look"] {
+            let [both, alone] = [&both[..], &pin].map(|marks| wattle_on(&[&[command, "-"], marks].concat(), &file));
+            assert_eq!((status(&both), text(&both.stderr)), (0, format!("wattle: note: {note}\n")), "{command}");
+            let same = both.stdout == alone.stdout || command == "look" && titled(text(&both.stdout)) == text(&alone.stdout);
+            assert!(same, "{command}");
+        }
+        let [explained, alone] = [&both[..], &pin].map(|marks| said(&[&["explain", "-"], marks].concat(), &file));
+        assert!(explained.contains(&format!("- {note}\n")), "{explained}");
+        assert_eq!(titled(explained).replace(&format!("- {note}\n"), ""), alone);
+        // of a page the part that is drawn from: the picture in it has the title
+        let [page, alone] = [&both[..], &pin].map(|marks| said(&[&["page", "-"], marks].concat(), &file));
+        assert!(page.contains(&format!("<li>{note}</li>\n")) && page.contains("</code> pinned: 1</li>"));
+        assert!(page.split_once("<script").unwrap().1 == alone.split_once("<script").unwrap().1);
+    }
+    assert_eq!(line(&pin, &file), "kept 9 removed 0 opened 0 examined 0 euler 1\n");
+    for command in ["look", "explain", "list", "points", "volume", "page", "carve"] {
+        let help = said(&["help", command], &[]);
+        assert!(help.contains("Of a voxel that is given to both the pin alone counts"), "{help}");
+    }
 }
 
 /// What the library makes of the same marks: of hurries by chance, on noise.
@@ -94,7 +121,7 @@ fn every_command_shows_it() {
     let look = said(&["look", "-", "--pin", "2,2,1", "--layer", "1"], &file);
     assert!(look.starts_with("the standard input: 5 x 5 x 3, T = 2 openings allowed, 1 pinned\n"), "{look}");
     assert!(look.contains("   * pinned: 1   o filled: 0   ") && look.contains("\n.#*#.\n"), "{look}");
-    let both = said(&["look", "-", "--pin", "37", "--hurry", "37"], &file);
+    let both = text(&wattle_on(&["look", "-", "--pin", "37", "--hurry", "37"], &file).stdout);
     assert!(both.starts_with("the standard input: 5 x 5 x 3, T = 2 openings allowed, 1 pinned, 1 hurried\n"), "{both}");
     let plain = said(&["look", "-"], &file);
     assert!(plain.starts_with("the standard input: 5 x 5 x 3, T = 2 openings allowed\n") && !plain.contains("pinned"), "{plain}");
@@ -148,7 +175,7 @@ fn explain_says_what_pins_change() {
 #[test]
 fn marks_that_do_nothing() {
     let file = ring(2);
-    let cases: [(&[&str], &[&str]); 5] = [
+    let cases: [(&[&str], &[&str]); 6] = [
         (&["--pin", "37"], &[]),
         (&["--pin", "1,1,1"], &["1 of 1 pinned voxels is without effect: 1 inside, where all is kept, such as (1, 1, 1), index 31."]),
         (
@@ -159,6 +186,11 @@ fn marks_that_do_nothing() {
             &["--hurry", "12", "--hurry", "31"],
             &["2 of 2 hurried voxels are without effect: 1 inside, where all is kept, such as (1, 1, 1), index 31; 1 outside the box around the \
                inside, where all is gone, such as (2, 2, 0), index 12."],
+        ),
+        (
+            &["--hurry", "12", "--hurry", "31", "--hurry", "37", "--pin", "37"],
+            &["3 of 3 hurried voxels are without effect: 1 inside, where all is kept, such as (1, 1, 1), index 31; 1 outside the box around the \
+               inside, where all is gone, such as (2, 2, 0), index 12; 1 pinned too, where the pin alone counts, such as (2, 2, 1), index 37."],
         ),
         (
             &["--hurry", "0", "--pin", "0"],
