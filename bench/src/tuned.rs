@@ -170,7 +170,7 @@ fn fill_status(status: &mut [u8], marks: &[u8], sides: Sides) {
         for (x, (s, mark)) in row.iter_mut().zip(&marks[at..at + sides.a]).enumerate() {
             let kept = (low[0] <= x) & (x <= high[0]);
             let bare = outer | (x == low[0]) | (x == high[0]);
-            let pending = (*s != 0) & ((mark & HURRIED != 0) | bare & (mark & PINNED == 0));
+            let pending = (*s != 0) & ((*mark == HURRIED) | bare & (mark & PINNED == 0));
             *s = u8::from(kept) * (1 + 2 * u8::from(pending));
         }
     });
@@ -222,7 +222,7 @@ fn word(dist: i32, i: usize) -> u64 {
 
 /// The same with hurried voxels before all others: a distance here is not negative, so it has 31 bits.
 fn marked_word(dist: i32, mark: u8, i: usize) -> u64 {
-    word(dist, i) | u64::from(mark & HURRIED) << 49
+    word(dist, i) | u64::from(mark == HURRIED) << 50
 }
 
 fn remove(near: &[isize; 26], dist: &[i32], marks: &[u8], status: &mut [u8], i: usize, mut woken: impl FnMut(usize)) {

@@ -145,7 +145,7 @@ pub fn pinned(mark: u8) -> bool {
 }
 
 pub fn hurried(mark: u8) -> bool {
-    mark & HURRIED != 0
+    mark == HURRIED
 }
 
 /// The five calls of the carving machine.
