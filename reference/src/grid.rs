@@ -1,5 +1,5 @@
-//! Sides, voxels, values and begin (document 01, "Grid and worked distances"; document 02, CR 5 for the range of values, CR 6 for gaps and CR 7 for
-//! marks).
+//! Sides, voxels, values and begin (document 01, "Grid and worked distances"; document 02, CR 5 for the range of values, CR 6 for gaps, CR 7 and
+//! CR 9 for marks).
 
 use crate::marks::{hurried, is_mark, pinned};
 

@@ -1,5 +1,5 @@
 //! The carving machine and surface points (document 01, "The carving machine", "Surface points", numbers 5 to 15), with marks and with the face by
-//! which a voxel came out (document 02, CR 7 and CR 8). `points`, every crossing in a row, is a call of this library and not of document 01.
+//! which a voxel came out (document 02, CR 7 to CR 9). `points`, every crossing in a row, is a call of this library and not of document 01.
 
 use crate::grid::{Record, Refused};
 use crate::local::{local_test, Local, NO_FACE};

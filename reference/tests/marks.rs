@@ -1,4 +1,4 @@
-//! Pins and hurries (document 02, CR 7): what is pending from begin, what is examined first, what stays, and the places of 2, 29 and 30.
+//! Pins and hurries (document 02, CR 7 and CR 9): what is pending from begin, what is examined first, what stays, and the places of 2, 29 and 30.
 
 use reference::grid::{begin, Record, Sides};
 use reference::machine::{carve, finish, open, take};
@@ -46,11 +46,15 @@ impl Begun {
     fn open(&mut self, marks: &[(usize, u8)]) -> Result<usize, u8> {
         open(&mut self.record, &self.dist, &marked(marks), &mut self.status).map(|opened| opened.index)
     }
+
+    fn finish(&mut self) -> Result<(), u8> {
+        finish(&mut self.record, &mut self.dist, &self.status)
+    }
 }
 
 #[test]
 fn what_is_pending_from_begin() {
-    for (mark, deep, surface) in [(0, 1, 3), (1, 1, 1), (2, 3, 3), (3, 3, 3)] {
+    for (mark, deep, surface) in [(0, 1, 3), (1, 1, 1), (2, 3, 3), (3, 1, 1)] {
         let all: Vec<(usize, u8)> = (0..N).map(|i| (i, mark)).collect();
         let b = begun(&all);
         assert_eq!((b.status[DEEP], b.status[36]), (deep, surface), "mark {mark}");
@@ -67,6 +71,82 @@ fn hurried_voxels_come_first_by_distance_and_index() {
     for (gone, left) in [(91, 92), (92, 36), (36, 81)] {
         assert_eq!(b.carve(&marks, 1), (1, 1));
         assert_eq!((b.status[gone], b.status[left] != 0), (0, true), "{gone}");
+    }
+}
+
+/// Each voxel in turn is both, and what remains is hurried, unmarked and pinned by turns.
+#[test]
+fn mark_3_means_mark_1_in_every_call() {
+    for voxel in 0..N {
+        let marks = |mark: u8| (0..N).map(|i| (i, if i == voxel { mark } else { [2, 0, 0, 1][i % 4] })).collect::<Vec<_>>();
+        let (one, both) = (marks(1), marks(3));
+        let (mut b, mut c) = (begun(&one), begun(&both));
+        for limit in [1, 2, 0, 1, u64::MAX] {
+            assert_eq!(b.status, c.status, "{voxel}");
+            assert_eq!(b.carve(&one, limit), c.carve(&both, limit), "{voxel}");
+        }
+        assert_eq!([DEEP, 36, 91, voxel].map(|i| b.take(&one, i)), [DEEP, 36, 91, voxel].map(|i| c.take(&both, i)), "{voxel}");
+        assert_eq!(b.open(&one), c.open(&both), "{voxel}");
+        assert_eq!(b.finish(), c.finish(), "{voxel}");
+        assert_eq!((b.record, b.dist, b.status), (c.record, c.dist, c.status), "{voxel}");
+    }
+}
+
+#[test]
+fn a_limited_carve_passes_by_what_is_both_from_begin() {
+    for voxel in [36, DEEP] {
+        let mut b = begun(&[(voxel, 3)]);
+        assert_eq!(b.carve(&[(voxel, 3)], 1), (1, 1), "{voxel}");
+    }
+    let mut b = begun(&[(36, 3), (91, 2)]);
+    assert_eq!((b.carve(&[(36, 3), (91, 2)], 1), b.status[91], b.status[36]), ((1, 1), 0, 1));
+}
+
+#[test]
+fn nothing_is_pending_where_all_is_both() {
+    let all: Vec<(usize, u8)> = (0..N).map(|i| (i, 3)).collect();
+    let mut b = begun(&all);
+    assert_eq!((b.carve(&all, u64::MAX), b.open(&all), b.take(&all, 36), b.finish()), ((0, 0), Err(15), Err(30), Ok(())));
+    let mut b = begun(&all);
+    assert_eq!(b.open(&[&all[..], &[(36, 0)]].concat()), Ok(36));
+}
+
+/// 91 is the farthest, 36 the next.
+#[test]
+fn what_is_both_later_is_examined_in_its_turn() {
+    let mut b = begun(&[]);
+    (b.dist[91], b.dist[36]) = (99, 98);
+    let marks = [(36, 3), (91, 3)];
+    for (examined, left) in [(91, 36), (36, 92)] {
+        assert_eq!(b.carve(&marks, 1), (1, 0));
+        assert_eq!((b.status[examined], b.status[left]), (1, 3));
+    }
+    assert_eq!(b.carve(&[(36, 3), (92, 2), (91, 3)], 1), (1, 1));
+    assert_eq!((b.status[92], b.record.examinations), (0, 3));
+}
+
+/// What is both at begin is not pending, and no other mark makes it so.
+#[test]
+fn what_was_both_at_begin_stays_where_its_mark_changes() {
+    let all: Vec<(usize, u8)> = (0..N).map(|i| (i, 3)).collect();
+    for then in [0, 1, 2] {
+        let marks: Vec<(usize, u8)> = (0..N).map(|i| (i, then)).collect();
+        let mut b = begun(&all);
+        let before = b.status;
+        assert_eq!((b.carve(&marks, u64::MAX), b.status == before), ((0, 0), true), "{then}");
+    }
+}
+
+/// Where what is both is pending from begin too, a carve with the same marks to its end has as many examinations more, and keeps the same voxels.
+#[test]
+fn a_carve_from_begin_to_its_end_keeps_the_same_voxels() {
+    for turns in [&[3, 0][..], &[3], &[0, 2, 3], &[3, 1, 2, 0, 0], &[0, 0, 0, 0, 3]] {
+        let marks: Vec<(usize, u8)> = (0..N).map(|i| (i, turns[i % turns.len()])).collect();
+        let (mut b, mut c) = (begun(&marks), begun(&marks));
+        let both: Vec<usize> = (0..N).filter(|&i| marks[i].1 == 3 && c.status[i] != 0 && c.dist[i] >= 0).collect();
+        both.iter().for_each(|&i| c.status[i] = 3);
+        let ((examined, removed), more) = (b.carve(&marks, u64::MAX), c.carve(&marks, u64::MAX));
+        assert_eq!((more, c.status), ((examined + both.len() as u64, removed), b.status), "{turns:?}");
     }
 }
 
@@ -161,6 +241,6 @@ fn take_tells_30_after_11_and_before_12() {
 fn finish_is_lent_no_marks() {
     let pins: Vec<(usize, u8)> = (0..N).map(|i| (i, 1)).collect();
     let mut b = begun(&pins);
-    assert_eq!(finish(&mut b.record, &mut b.dist, &b.status), Ok(()));
+    assert_eq!(b.finish(), Ok(()));
     assert!((0..N).all(|i| (b.dist[i] < 0) == (b.status[i] != 0)));
 }

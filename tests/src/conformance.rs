@@ -1,7 +1,7 @@
 //! Makes conformance/ from its scripts, and holds it to the list of what it must contain.
 
 use crate::compare::prints;
-use crate::demands::{list, worked_case, Before};
+use crate::demands::{list, marked::Begun, worked_case, Before};
 use crate::scripts::{cases, conformance, language::MISTAKES, SEEDED, WRITTEN};
 use reference::replay::Replay;
 use std::collections::BTreeMap;
@@ -33,13 +33,13 @@ impl Made {
 
     fn kind(&mut self, kind: &str) -> Result<(), String> {
         let scripts = conformance(kind);
-        let mut state = Replay::new();
+        let (mut state, mut begun) = (Replay::new(), Begun::default());
         let mut answers = String::new();
         for (i, script) in scripts.iter().enumerate() {
             let case = cases::SCRIPTS.get(i).filter(|_| kind == "cases").map(|(name, _)| *name);
             for (line, command) in script.lines().enumerate() {
                 let told = |wrong: String| format!("{kind} {}, line {} of it, {command}: {wrong}", i + 1, line + 1);
-                if let Some(answer) = self.line(&mut state, command, case).map_err(told)? {
+                if let Some(answer) = self.line(&mut state, &mut begun, command, case).map_err(told)? {
                     answers += &answer;
                     answers.push('\n');
                 }
@@ -50,18 +50,20 @@ impl Made {
         Ok(())
     }
 
-    fn line(&mut self, state: &mut Replay, command: &str, case: Option<&str>) -> Result<Option<String>, String> {
-        let before = Before::of(state, command);
+    fn line(&mut self, state: &mut Replay, begun: &mut Begun, command: &str, case: Option<&str>) -> Result<Option<String>, String> {
+        let (before, mut changed) = (Before::of(state, command), begun.changed(state, command));
         let answer = state.line(command)?;
         if answer.is_some() != prints(command) {
             return Err("compare::prints is wrong about it".to_string());
         }
         if let Some(said) = &answer {
             let worked = case.map(|case| worked_case(case, said));
-            for entry in before.entries(said)?.into_iter().chain(worked) {
+            changed.retain(|_| said.contains(" ok "));
+            for entry in before.entries(said)?.into_iter().chain(worked).chain(changed) {
                 *self.met.entry(entry).or_default() += 1;
             }
         }
+        begun.note(state, command, answer.as_deref());
         Ok(answer)
     }
 
@@ -203,6 +205,30 @@ mod tests {
                 assert!(entries(&format!("{name} refused {other}")).is_err(), "{met}: {other}");
             }
             assert!(entries(&format!("{name} ok")).is_err(), "{met}");
+        }
+    }
+
+    /// 22 is of mark 3 at begin and free in the carve, which passes it by; other buffers make it another record.
+    #[test]
+    fn a_mark_of_3_that_changed_since_begin_is_told() {
+        let met = |lines: &[&str]| {
+            let (mut made, mut state, mut begun) = (Made { files: Vec::new(), met: BTreeMap::new() }, Replay::new(), Begun::default());
+            for line in ["sides 4 4 3", "values fill 6", "values set 21 -6", "values set 26 -6"].iter().chain(lines) {
+                made.line(&mut state, &mut begun, line, None).expect("a line of the language");
+            }
+            made.met
+        };
+        let stays = "carve: both at begin, free now, not pending although it passes";
+        let told = met(&["marks set 22 3", "begin", "marks set 22 2", "carve 0"]);
+        assert!(["carve: both at begin, hurried now", stays].iter().all(|&entry| told.contains_key(entry)));
+        let others = [
+            &["marks set 22 1", "begin", "marks set 22 2", "carve 0"][..],
+            &["marks set 22 3", "begin", "carve 0"],
+            &["marks set 22 3", "begin", "marks set 22 2", "marks set 0 4", "carve 0"],
+            &["marks set 22 3", "begin", "marks set 22 2", "status set 22 1", "carve 0"],
+        ];
+        for lines in others {
+            assert!(!met(lines).keys().any(|entry| entry.contains("at begin")), "{lines:?}");
         }
     }
 

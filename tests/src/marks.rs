@@ -1,4 +1,4 @@
-//! Mark bytes (document 02, CR 7). Written from the papers, not from the reference.
+//! Mark bytes (document 02, CR 7 and CR 9). Written from the papers, not from the reference.
 
 /// Marks: 0, pinned, hurried, and both.
 pub const UNMARKED: u8 = 0;
@@ -13,8 +13,9 @@ pub fn pinned(mark: u8) -> bool {
     [PINNED, BOTH].contains(&mark)
 }
 
+/// Of both, the pin rule comes first and alone.
 pub fn hurried(mark: u8) -> bool {
-    [HURRIED, BOTH].contains(&mark)
+    mark == HURRIED
 }
 
 /// Which clause of 29 a byte fails, if any.
@@ -78,5 +79,33 @@ mod tests {
             held += always.len();
         }
         assert!(lists > 500 && held > 2000, "{lists} lists, {held} voxels held");
+    }
+
+    /// Over lists of calls from begin with marks that change: with a pin in place of every mark of 3 all is the same.
+    #[test]
+    fn mark_3_means_mark_1() {
+        let mut with_both = 0;
+        for seed in 0..1000 {
+            let mut r = Random::new(seed);
+            let g = if r.chance(50) { walled(&mut r, 7) } else { grid(&mut r, 7) };
+            let [a, b, c] = g.sides.map(|side| side as u64);
+            let sides = Sides { a, b, c };
+            let pins = |marks: &[u8]| marks.iter().map(|&mark| if mark == BOTH { PINNED } else { mark }).collect::<Vec<u8>>();
+            let mut marks = marks_of(&mut r, sides.n());
+            let begun = |marks: &[u8]| {
+                let (mut dist, mut status) = (vec![0; sides.n()], vec![0; sides.n()]);
+                begin(sides, g.allowed, &g.values, marks, &mut dist, &mut status).map(|record| (record, dist, status))
+            };
+            let (Ok(mut one), Ok(mut other)) = (begun(&marks), begun(&pins(&marks))) else { continue };
+            for call_seed in 0..r.between(1, 25) as u64 {
+                assert_eq!(one, other, "seed {seed}");
+                with_both += usize::from((0..sides.n()).any(|i| marks[i] == BOTH && one.2[i] != 0 && one.1[i] >= 0));
+                for ((record, dist, status), marks) in [(&mut one, marks.clone()), (&mut other, pins(&marks))] {
+                    call(&mut Random::new(seed ^ call_seed << 32), record, dist, &marks, status);
+                }
+                marks = if r.chance(30) { marks_of(&mut r, sides.n()) } else { marks };
+            }
+        }
+        assert!(with_both > 2000, "{with_both} calls with a mark of 3 that matters");
     }
 }

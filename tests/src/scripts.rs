@@ -3,6 +3,7 @@
 //! can choose voxels by what they are at that moment. And those written out, in the modules below: every fault, every worked case, and what chance
 //! leaves out.
 
+mod both;
 pub mod cases;
 mod crafted;
 mod damage;

@@ -1,8 +1,9 @@
-//! Marks (document 02, CR 7): the entries of `ALSO` that a call meets by the marks it is lent, or is not.
+//! Marks (document 02, CR 7 and CR 9): the entries of `ALSO` that a call meets by the marks it is lent, or is not.
 
 use super::sights::chosen;
-use crate::marks::{hurried, pinned, wrong_mark, BOTH, HURRIED, PINNED};
+use crate::marks::{hurried, pinned, wrong_mark, BOTH, HURRIED, PINNED, UNMARKED};
 use reference::grid::Sides;
+use reference::machine::test_at;
 use reference::replay::Replay;
 
 /// What is seen of the marks before a call.
@@ -16,6 +17,7 @@ pub fn of(state: &Replay, call: &str, index: u64) -> Vec<String> {
         "finish" | "crossing" | "points" => chosen(&[
             (state.marks.len() != sides.n(), "marks of another length"),
             (state.marks.iter().any(|&mark| wrong_mark(mark).is_some()), "a mark over 3"),
+            (untouched(state) && held_by_both(state), "both, and nothing examined yet"),
         ]),
         _ => Vec::new(),
     };
@@ -52,7 +54,7 @@ fn lent(state: &Replay, sides: &Sides, call: &str, index: u64) -> Vec<String> {
     seen.extend(chosen(&[(*sides == Sides { a: 64, b: 64, c: 64 }, "marks on 64 64 64")]));
     seen.extend(match call {
         "begin" => begin(state, sides),
-        "carve" => carve(state),
+        "carve" => carve(state, index),
         "take" => take(state, index),
         _ => open(state),
     });
@@ -71,6 +73,19 @@ fn wrong_at(state: &Replay, sides: &Sides, call: &str, i: usize) -> Vec<String> 
         (status.is_some_and(|s| s != 0) && distance < 0, "if refused 29: in S alone"),
         (status.is_some_and(|s| s != 0) && distance >= 0, "if refused 29: at a voxel that could go alone"),
     ])
+}
+
+/// Whether no voxel has been examined, taken or opened.
+fn untouched(state: &Replay) -> bool {
+    let r = &state.record;
+    (r.openings, r.removals, r.examinations) == (0, 0, 0)
+}
+
+/// Whether a voxel that could go is of mark 3.
+fn held_by_both(state: &Replay) -> bool {
+    let Replay { dist, marks, status, .. } = state;
+    let n = marks.len();
+    (dist.len(), status.len()) == (n, n) && (0..n).any(|i| marks[i] == BOTH && status[i] != 0 && dist[i] >= 0)
 }
 
 /// What begin leaves is seen by making the call.
@@ -94,10 +109,18 @@ fn begin(state: &Replay, sides: &Sides) -> Vec<String> {
         seen.extend(places.iter().filter(|(_, wanted)| has(mark, wanted)).map(|(place, _)| format!("{name} {place}")));
         seen.extend(chosen(&[(state.marks.iter().all(|&m| m == mark), format!("{name} everywhere"))]));
     }
+    let may_go = |i: usize| status[i] != 0 && dist[i] >= 0;
+    let pending = |i: usize| may_go(i) && (hurried(state.marks[i]) || status[i] == 3 && !pinned(state.marks[i]));
+    let both = has(BOTH, &may_go);
+    seen.extend(chosen(&[
+        (both && !(0..sides.n()).any(pending), "both, and nothing is pending"),
+        (both && has(HURRIED, &may_go), "both and hurried"),
+        (both && has(PINNED, &may_go), "both and pinned"),
+    ]));
     seen
 }
 
-fn carve(state: &Replay) -> Vec<String> {
+fn carve(state: &Replay, limit: u64) -> Vec<String> {
     let Replay { dist, marks, status, .. } = state;
     let pending: Vec<usize> = (0..status.len()).filter(|&i| status[i] == 3).collect();
     let (first, others): (Vec<usize>, Vec<usize>) = pending.iter().partition(|&&i| hurried(marks[i]));
@@ -106,7 +129,8 @@ fn carve(state: &Replay) -> Vec<String> {
     let of_farthest = distances.iter().filter(|&&d| Some(d) == farthest).count();
     let nearest_first = first.first().is_some_and(|&i| Some(dist[i]) < farthest);
     let asleep = |i: usize| status[i] == 1 && dist[i] >= 0 && hurried(marks[i]);
-    chosen(&[
+    let mut seen = carve_both(state, limit, &pending);
+    seen.extend(chosen(&[
         (others.iter().any(|&i| Some(dist[i]) > farthest && farthest.is_some()), "a hurried voxel before one that is farther"),
         (others.first() < first.first() && farthest.is_some() && !others.is_empty(), "a hurried voxel before one of a smaller index"),
         (of_farthest > 1, "hurried voxels of equal distance"),
@@ -115,6 +139,31 @@ fn carve(state: &Replay) -> Vec<String> {
         (pending.iter().any(|&i| marks[i] == PINNED), "pending and pinned alone"),
         (pending.iter().any(|&i| marks[i] == BOTH), "pending and both"),
         ((0..status.len()).any(asleep), "hurried and not pending"),
+    ]));
+    seen
+}
+
+/// When a pending voxel of mark 3 has its turn, beside what is free: by its distance and index, behind all that is hurried.
+fn carve_both(state: &Replay, limit: u64, pending: &[usize]) -> Vec<String> {
+    let Replay { dist, marks, status, .. } = state;
+    let foremost = |ahead: &dyn Fn(u8) -> bool| pending.iter().copied().max_by_key(|&i| (ahead(marks[i]), dist[i], std::cmp::Reverse(i)));
+    let other_first = foremost(&hurried) != foremost(&|mark| mark >= HURRIED);
+    let (both, others): (Vec<usize>, Vec<usize>) = pending.iter().partition(|&&i| marks[i] == BOTH);
+    let beside = |wanted: &dyn Fn(usize, usize) -> bool| both.iter().any(|&i| others.iter().any(|&j| wanted(i, j)));
+    let free = |j: usize| marks[j] == 0;
+    let asleep = |i: usize| marks[i] == BOTH && status[i] == 1 && dist[i] >= 0;
+    chosen(&[
+        (limit == 1 && other_first, "limit 1, another first than where both is hurried"),
+        (limit == 2 && other_first, "limit 2, another first than where both is hurried"),
+        (limit > 2 && other_first, "another first than where both is hurried"),
+        (beside(&|i, j| free(j) && dist[j] > dist[i]), "both, behind one that is farther"),
+        (beside(&|i, j| free(j) && dist[j] < dist[i]), "both, before one that is nearer"),
+        (beside(&|i, j| free(j) && dist[j] == dist[i] && j < i), "both, behind one of equal distance and a smaller index"),
+        (beside(&|i, j| free(j) && dist[j] == dist[i] && j > i), "both, before one of equal distance and a greater index"),
+        (beside(&|i, j| hurried(marks[j]) && dist[j] < dist[i]), "both, behind a hurried one that is nearer"),
+        (!both.is_empty() && others.is_empty(), "both alone are pending"),
+        (!others.is_empty() && (0..status.len()).any(asleep), "both and not pending, where another is"),
+        (pending.is_empty() && untouched(state) && held_by_both(state), "both, nothing pending and nothing examined yet"),
     ])
 }
 
@@ -127,6 +176,10 @@ fn take(state: &Replay, index: u64) -> Vec<String> {
         (marks[i] == HURRIED, "hurried"),
         (beside(&|j| pinned(marks[j]) && status[j] == 1), "beside a pinned voxel"),
         (beside(&|j| pinned(marks[j]) && status[j] == 3), "beside a pinned voxel that is pending"),
+        (beside(&|j| marks[j] == BOTH && status[j] == 1), "beside both"),
+        (beside(&|j| marks[j] == BOTH && status[j] == 3), "beside both that is pending"),
+        (marks[i] == BOTH && status[i] == 3, "if refused 30: both and pending"),
+        (marks[i] == BOTH && status[i] == 1, "if refused 30: both and not pending"),
         (marks[i] == PINNED, "if refused 30: pinned alone"),
         (marks[i] == BOTH, "if refused 30: both"),
         (status[i] == 3, "if refused 30: pending"),
@@ -148,9 +201,53 @@ fn open(state: &Replay) -> Vec<String> {
     chosen(&[
         (over(&|i| !equal(i)), "passed over a pinned voxel that is farther"),
         (over(&equal), "passed over a pinned voxel of equal distance"),
+        (over(&|i| marks[i] == BOTH && !equal(i)), "passed over both that is farther"),
+        (over(&|i| marks[i] == BOTH && equal(i)), "passed over both of equal distance"),
+        (untouched(state) && held_by_both(state), "both, and nothing examined yet"),
+        (untouched(state) && held_by_both(state), "if refused 14: both, and nothing examined yet"),
+        (untouched(state) && held_by_both(state), "if refused 15: both, and nothing examined yet"),
+        (opened.is_some_and(|i| record.sides.touching(i).iter().any(|&j| marks[j] == BOTH && status[j] == 1)), "beside both"),
+        (all.iter().any(|&i| marks[i] == BOTH) && free.is_empty(), "if refused 15: where both could be opened"),
         (opened.is_some_and(|i| !hurried(marks[i])) && !hurried_ones.is_empty(), "no notice of a hurry"),
         (opened.is_some_and(|i| !hurried(marks[i])) && hurried_ones.iter().any(|&i| equal(i)), "no notice of a hurry of equal distance"),
         (!all.is_empty() && free.is_empty(), "if refused 15: where a pinned voxel could be opened"),
         (opened.is_some_and(|i| record.sides.touching(i).iter().any(|&j| pinned(marks[j]) && status[j] != 0)), "beside a pinned voxel"),
     ])
+}
+
+/// The marks of the begin that the record comes from, where nothing but calls and other marks came after it.
+#[derive(Default)]
+pub struct Begun(Option<Vec<u8>>);
+
+impl Begun {
+    /// After a line was done.
+    pub fn note(&mut self, state: &Replay, command: &str, answer: Option<&str>) {
+        let word = command.split_ascii_whitespace().next().unwrap_or("");
+        match word {
+            "begin" if answer.is_some_and(|said| said.starts_with("begin ok")) => self.0 = Some(state.marks.clone()),
+            "sides" | "rawsides" | "rec" | "dist" | "status" => self.0 = None,
+            _ => {}
+        }
+    }
+
+    /// What is seen of marks of 3 that came or went since begin, on voxels that could go, if the call is done.
+    pub fn changed(&self, state: &Replay, command: &str) -> Vec<String> {
+        let call = command.split_ascii_whitespace().next().unwrap_or("");
+        let Replay { record, dist, marks, status, .. } = state;
+        let Some(begun) = self.0.as_ref().filter(|begun| ["carve", "take", "open"].contains(&call) && begun.len() == marks.len()) else {
+            return Vec::new();
+        };
+        let may_go: Vec<usize> = (0..marks.len()).filter(|&i| status[i] != 0 && dist[i] >= 0).collect();
+        let has = |before: u8, now: u8| may_go.iter().any(|&i| (begun[i], marks[i]) == (before, now));
+        let mut seen = Vec::new();
+        for (mark, name) in [(UNMARKED, "unmarked"), (PINNED, "pinned"), (HURRIED, "hurried")] {
+            seen.extend(chosen(&[
+                (has(BOTH, mark), format!("{call}: both at begin, {name} now")),
+                (has(mark, BOTH), format!("{call}: {name} at begin, both now")),
+            ]));
+        }
+        let stays = |&i: &usize| begun[i] == BOTH && !pinned(marks[i]) && status[i] == 1 && test_at(record, status, i).passes();
+        seen.extend(chosen(&[(may_go.iter().any(stays), format!("{call}: both at begin, free now, not pending although it passes"))]));
+        seen
+    }
 }

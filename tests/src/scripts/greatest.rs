@@ -38,10 +38,11 @@ fn peeled() -> String {
     )
 }
 
-/// Pinned and hurried voxels are pending from begin on, and stay.
+/// What is hurried at begin is pending, and stays where it is pinned after that. What is both from begin on is not pending.
 fn pinned() -> String {
     format!(
-        "# carve: over 131,071 examinations, of pinned voxels\n{}marks fill 3\nbegin\ncarve 65536\ncarve 4294967295\nfinish\n",
+        "# carve: over 131,071 examinations, of pinned voxels\n{}marks fill 2\nbegin\nmarks fill 3\ncarve 65536\ncarve 4294967295\nbegin\n\
+         carve 65536\nfinish\n",
         diagonal()
     )
 }

@@ -1,9 +1,10 @@
-//! Pins and hurries (document 02, CR 7): each mark on each kind of voxel, at begin and later; in which order pending voxels are examined; what a removal
-//! wakes; what open passes over; and the numbers 2, 29 and 30 in their places. Those from seeds change marks in the middle of a list of calls.
+//! Pins and hurries (document 02, CR 7, and CR 9 with more in `both`): each mark on each kind of voxel, at begin and later; in which order pending voxels
+//! are examined; what a removal wakes; what open passes over; and the numbers 2, 29 and 30 in their places. Those from seeds change marks in the middle
+//! of a list of calls.
 
 use super::refusals::{at, state, with, Fault, Subject, FINISHED, PENDING, UNFIT_PAIR, UNFIT_RING};
 use super::refusals::{PAIR, RING};
-use super::Maker;
+use super::{both, Maker};
 use crate::grids::{grid, walled};
 use crate::marks::{BOTH, HURRIED, NO_MARKS, PINNED, UNMARKED};
 use reference::grid::{begin, Sides};
@@ -25,17 +26,17 @@ pub(super) fn listed<T: std::fmt::Display>(buffer: &str, items: &[T]) -> String 
 // ---- grids to begin with
 
 /// S goes along the edges of a box of 3 x 3 x 3, whose middle, 62, is neither in S nor at the surface. 36 is at the surface.
-const BOX: &str =
+pub(super) const BOX: &str =
     "sides 5 5 5\nT 9\nvalues fill 4\nvalues set 31 -4\nvalues set 32 -4\nvalues set 33 -4\nvalues set 38 -4\nvalues set 43 -4\n\
                    values set 68 -4\nvalues set 93 -4\n";
-const DEEP: usize = 62;
-const SURFACE: usize = 36;
+pub(super) const DEEP: usize = 62;
+pub(super) const SURFACE: usize = 36;
 /// In S, and on the border.
-const INSIDE: usize = 38;
-const CORNER: usize = 124;
+pub(super) const INSIDE: usize = 38;
+pub(super) const CORNER: usize = 124;
 
 /// A box of 4 x 4 x 4 in 7 x 6 x 6, with S along three of its edges: eight voxels are deep inside, and some within the border are beyond the box.
-fn cage() -> String {
+pub(super) fn cage() -> String {
     format!("sides 7 6 6\nT 9\nvalues fill 30\n{}", edges().map(|v| set("values", in_cage(v), -4)).collect::<String>())
 }
 
@@ -43,12 +44,12 @@ fn edges() -> impl Iterator<Item = [usize; 3]> {
     (1..=4).flat_map(|k| [[k, 1, 1], [4, k, 1], [4, 4, k]])
 }
 
-fn in_cage(v: [usize; 3]) -> usize {
+pub(super) fn in_cage(v: [usize; 3]) -> usize {
     index([7, 6, 6], v)
 }
 
 /// Three holes in a plate, at 65, 67 and 69, which do not pass and have the distances 5, 9 and 7.
-fn plate(allowed: u16) -> String {
+pub(super) fn plate(allowed: u16) -> String {
     let mut values = [4; 135];
     (1..8).flat_map(|x| (1..4).map(move |y| [x, y, 1])).for_each(|v| values[index([9, 5, 3], v)] = -4);
     (values[65], values[67], values[69]) = (5, 9, 7);
@@ -148,9 +149,10 @@ fn of_the_call() -> String {
 // ---- the order of examination
 
 /// A fit record of a solid block of 3 x 3 x 3 in 5 x 5 x 5, with no voxel in S, and buffers for it.
-const SOLID: &str = "sides 5 5 5\nT 9\nrec a 5\nrec b 5\nrec c 5\nrec T 9\nrec openings 0\nrec removals 0\nrec examinations 0\nrec euler 1\nrec finished 0\n";
+pub(super) const SOLID: &str = "sides 5 5 5\nT 9\nrec a 5\nrec b 5\nrec c 5\nrec T 9\nrec openings 0\nrec removals 0\n\
+                                rec examinations 0\nrec euler 1\nrec finished 0\n";
 
-fn solid(status: u8) -> Vec<u8> {
+pub(super) fn solid(status: u8) -> Vec<u8> {
     let within = |i: usize| [i % 5, i / 5 % 5, i / 25].iter().all(|x| (1..4).contains(x));
     (0..125).map(|i| if within(i) { status } else { 0 }).collect()
 }
@@ -170,7 +172,7 @@ fn orders() -> Vec<String> {
         examined("hurried ones first, of whatever distance", &[9, 1, 5, 7], &[0, 2, 0, 0, 2]),
         examined("among hurried ones of equal distance the smallest index", &[5], &[0, 2, 0, 0, 2, 3, 1]),
         examined("among hurried ones the greatest distance", &[1, 2, 3, 4, 5, 6, 7, 8, 9, 10], &[2]),
-        examined("falling distances, all hurried, pinned or not", &[10, 9, 8, 7, 6, 5, 4, 3, 2, 1], &[3, 2]),
+        examined("falling distances, hurried and both by turns", &[10, 9, 8, 7, 6, 5, 4, 3, 2, 1], &[3, 2]),
         examined(
             "one is hurried, of the least distance",
             &[0, 8, 8, 8, 8, 8, 8, 8, 8, 8, 8, 8, 8, 8, 8, 8, 8],
@@ -204,7 +206,7 @@ fn limits() -> String {
 // ---- what a removal wakes
 
 /// 62 passes, as of its face neighbours 87 alone is gone. It has the greatest distance.
-fn bare_middle(around: u8, middle: u8) -> String {
+pub(super) fn bare_middle(around: u8, middle: u8) -> String {
     let mut status = solid(around);
     (status[62], status[87]) = (middle, 0);
     format!("{SOLID}dist fill 5\ndist set 62 9\n{}", listed("status", &status))
@@ -492,6 +494,7 @@ pub fn scripts() -> Vec<String> {
     scripts.extend([opened(), equal_distances(), all_pinned(), open_that_passes(), taken()]);
     scripts.extend(subjects().iter().flat_map(Subject::scripts));
     scripts.extend([before_and_after_30(), no_marks(), with_other_faults(), each_place(), lengths(), without_marks(), set_right()]);
+    scripts.extend(both::scripts());
     scripts
 }
 
