@@ -10,9 +10,9 @@ use Rattle.rules.specs.Cases.{sides, caseA, ended, valuesD}
 use Rattle.rules.proofs.Cases.{all-rules, case-a, case-d}
 use Rattle.surface.specs.Surface.{crossing}
 use Rattle.surface.proofs.Worked.{rule}
-use Rattle.gridfile.specs.File.{read}
-use Rattle.gridfile.specs.Examples.{fileD}
-use Rattle.gridfile.proofs.Examples as files
+use Rattle.format.specs.File.{read}
+use Rattle.format.specs.Examples.File.{fileD}
+use Rattle.format.proofs.Examples.File as files
 use Rattle.text.specs.Line.{decimal, lineText}
 use Rattle.line.specs.Program.{zeros}
 use Rattle.line.proofs.Examples as lines

@@ -10,8 +10,8 @@ use Rattle.cells.specs.Examples.{LocalTests}
 use Rattle.rules.specs.Answer.{done, outcome}
 use Rattle.rules.specs.Cases.{sides, caseA, ended, valuesD, CaseA, CaseC, CaseD}
 use Rattle.surface.specs.Surface.{crossing}
-use Rattle.gridfile.specs.File.{read}
-use Rattle.gridfile.specs.Examples.{fileD}
+use Rattle.format.specs.File.{read}
+use Rattle.format.specs.Examples.File.{fileD}
 use Rattle.text.specs.Line.{carvedLine, lineText}
 use Rattle.line.specs.Program.{zeros, programLine}
 

@@ -1,25 +1,24 @@
 -- The check of all layer records, one after the other, and of the patches behind them: what is left to check decides the number.
 use mathlib.Core.Path.{_≡_, refl, ap, sym, _∙_}
-use mathlib.Core.Bool.{Bool, true, false, not, cond}
+use mathlib.Core.Bool.{Bool, true, false, cond}
 use mathlib.Core.List.{List, _++_, append-assoc}
-use Prim.Native.Nat.{ℕ, zero, suc, _+_, _-_, _≤_, _<_}
+use Prim.Native.Nat.{ℕ, suc, _+_, _-_, _≤_, _<_}
 use native.Mathlib.Omega.{arith}
 use borrow.Author.Tests.{lt-ltb, le-ltb, eq-eqb, ne-eqb}
 use Rattle.prelude.specs.Lists.{any}
 use Rattle.rules.specs.declared.Sides.{Sides}
 use Rattle.rules.specs.Value.{stray}
 use Rattle.rules.specs.Grid.{fitSides, size}
-use Rattle.rules.specs.Checks.{Check, firstFailing, numbered, AllHold}
-use Rattle.rules.proofs.Checks.{hold-append, append-hold, refused-first, held-first}
-use Rattle.layers.specs.Layer.{recordLength, zAt, layerChecks, Readable, layerAt, valuesIn}
+use Rattle.rules.specs.Checks.{Check, firstFailing, AllHold}
+use Rattle.rules.proofs.Checks.{refused-first, held-first}
+use Rattle.format.specs.Layer.{recordLength, zAt, layerAt, valuesIn}
+use Rattle.format.specs.Patch.{patchesChecks}
+use Rattle.format.specs.File.{headerLength, layerStart, orderChecks, rangeChecks, recordChecks, layersChecks, layersEnd, recordsChecks}
+use Rattle.format.proofs.Records.{record-checked, layersChecks-next}
+use Rattle.layers.specs.Readable.{Readable}
 use Rattle.layers.proofs.Reading.{readable}
-use Rattle.patches.specs.Patch.{patchesChecks}
-use Rattle.gridfile.specs.File.{headerLength, layerStart, orderChecks, rangeChecks, recordChecks, layersChecks, layersEnd, recordsChecks}
 
 -- ---- a record's own
-
-pub order-holds : (file : List ℕ) (start next : ℕ) → zAt file start ≡ next → AllHold (orderChecks file start next)
-order-holds file start next e = (le-ltb (zAt file start) next (omega arith), (ap not (eq-eqb (zAt file start) next e), tt))
 
 module _ (s : Sides) (file : List ℕ) (start next : ℕ) where
   -- the number of a record of which z can be read, by its z and its values
@@ -45,41 +44,12 @@ module _ (s : Sides) (file : List ℕ) (start next : ℕ) where
     pub record-taken : t ≡ false → 0 ≡ behind-layer
     record-taken f = ap (λ (t : Bool). cond t 28 0) (sym f) ∙ range-decides
 
-  pub record Checked : Type 0 where
-    pub layer : AllHold (layerChecks s file start)
-    pub order : AllHold (orderChecks file start next)
-    pub range : AllHold (rangeChecks s file start)
-
-  pub record-checked : AllHold (recordChecks s file start next) → Checked
-  record-checked h =
-      let p = hold-append (layerChecks s file start) (orderChecks file start next ++ rangeChecks s file start) h in
-      let q = hold-append (orderChecks file start next) (rangeChecks s file start) (p .1) in
-      record { layer = p .0; order = q .0; range = q .1 }
-
-  pub checked-record : Checked → AllHold (recordChecks s file start next)
-  checked-record c =
-      append-hold (layerChecks s file start) (orderChecks file start next ++ rangeChecks s file start) (c .layer)
-      (append-hold (orderChecks file start next) (rangeChecks s file start) (c .order) (c .range))
-
   pub record-readable : fitSides s ≡ true → AllHold (recordChecks s file start next) → Readable s file start
-  record-readable e h = readable s file start e (record-checked h .layer)
+  record-readable e h = readable s file start e (record-checked s file start next h .layer)
 
 -- ---- the records
 
 module _ (s : Sides) (file : List ℕ) where
-  pub layersChecks-next :
-      (left next : ℕ)
-      → 0 < left
-      → layersChecks s file left next ≡ recordChecks s file (layerStart s file next) next ++ layersChecks s file (left - 1) (suc next)
-  unfolding layersChecks
-  layersChecks-next zero next h = let z : ⊥ = omega arith in absurd z
-  layersChecks-next (suc left) next h = let e : suc left - 1 ≡ left = omega arith in rw e
-
-  pub layers-numbered : (left next : ℕ) → numbered (layersChecks s file left next) ≡ true
-  unfolding layersChecks
-  layers-numbered zero next = refl
-  layers-numbered (suc left) next = layers-numbered left (suc next)
-
   -- the number for the records
   abbrev pub failing : ℕ
   failing = firstFailing (recordsChecks s file)
@@ -112,7 +82,7 @@ module _ (s : Sides) (file : List ℕ) where
       next-decides =
           ap (λ (start : ℕ). firstFailing (recordChecks s file start next ++ rest)) (i .there)
           ∙ ap firstFailing (sym (append-assoc (recordChecks s file (layerStart s file next) next) after behind))
-          ∙ ap (λ (cs : List Check). firstFailing (cs ++ behind)) (sym (layersChecks-next (s .c - next) next (omega arith)))
+          ∙ ap (λ (cs : List Check). firstFailing (cs ++ behind)) (sym (layersChecks-next s file (s .c - next) next (omega arith)))
           ∙ i .same
 
       pub deciding-refused : (n : ℕ) → n ≡ firstFailing own → (n ≡ 0 → ⊥) → n ≡ failing

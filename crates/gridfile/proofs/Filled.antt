@@ -10,11 +10,13 @@ use Rattle.rules.specs.declared.Sides.{Sides}
 use Rattle.rules.specs.Grid.{fitSides, size}
 use Rattle.rules.specs.Checks.{Check, AllHold}
 use Rattle.rules.proofs.Checks.{hold-append}
-use Rattle.layers.specs.Layer.{recordLength, Readable, layerAt, withLayer}
-use Rattle.layers.proofs.Sizes.{length-withLayer}
-use Rattle.patches.specs.Patch.{patchesChecks, patched}
-use Rattle.gridfile.specs.File.{headerLength, layerStart, recordChecks, layersChecks, layersFilled, layersEnd, Accepted, filled}
-use Rattle.gridfile.proofs.Checking.{record-readable, layersChecks-next}
+use Rattle.format.specs.Layer.{recordLength, layerAt, withLayer}
+use Rattle.format.specs.Patch.{patchesChecks, patched}
+use Rattle.format.specs.File.{headerLength, layerStart, recordChecks, layersChecks, layersFilled, layersEnd, Accepted, filled}
+use Rattle.format.proofs.Sizes.{length-withLayer}
+use Rattle.format.proofs.Records.{layersChecks-next}
+use Rattle.layers.specs.Readable.{Readable}
+use Rattle.gridfile.proofs.Checking.{record-readable}
 
 module _ (s : Sides) (file : List ℕ) (lent : List ℤ) where
   -- what is left to fill, of records that were checked, gives what the whole file gives

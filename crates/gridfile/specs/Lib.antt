@@ -1,5 +1,1 @@
-pub mod File
-pub mod WithoutPatches
-pub mod BottomUp
-pub mod Widths
-pub mod Examples
+pub mod Answer

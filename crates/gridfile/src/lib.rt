@@ -6,9 +6,9 @@ ghost use lib.ListN.{length};
 ghost use Rattle.rules.specs.Grid.{fitSides, size};
 ghost use Rattle.rules.specs.Checks.{firstFailing};
 ghost use Rattle.rules.specs.Answer.{outcome};
-ghost use Rattle.gridfile.specs.File as spec;
-ghost use Rattle.gridfile.specs.File.{headerLength, sidesIn, fitUpTo, headerChecks, recordChecks, recordsChecks, filled};
-ghost use Rattle.gridfile.specs.File.{readChecks, Accepted, readAnswer, readUpTo};
+ghost use Rattle.format.specs.File as spec;
+ghost use Rattle.format.specs.File.{headerLength, sidesIn, fitUpTo, headerChecks, recordChecks, recordsChecks, filled, readChecks, Accepted, readUpTo};
+ghost use Rattle.gridfile.specs.Answer.{readAnswer};
 use rules::Sides;
 
 // What reading a file answers.

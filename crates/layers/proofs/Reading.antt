@@ -12,12 +12,13 @@ use Rattle.rules.specs.Grid.{fitSides}
 use Rattle.rules.specs.Checks.{AllHold}
 use Rattle.rules.specs.Answer.{refused, done}
 use Rattle.rules.proofs.Checks.{by-checks}
-use Rattle.words.specs.Words.{Width}
-use Rattle.layers.specs.declared.LayerSpan.{LayerSpan}
-use Rattle.layers.specs.Layer.{area, recordLength, layerChecks, readLayerChecks, Readable, layerAt, readLayer, stretch}
+use Rattle.format.specs.declared.LayerSpan.{LayerSpan}
+use Rattle.format.specs.Bytes.{Width}
+use Rattle.format.specs.Layer.{area, recordLength, layerChecks, readLayerChecks, layerAt, readLayer, stretch}
+use Rattle.format.proofs.WidthAt.{width-is}
+use Rattle.format.proofs.Sizes.{length-part}
+use Rattle.layers.specs.Readable.{Readable}
 use Rattle.layers.specs.Part.{Within}
-use Rattle.layers.proofs.Sizes.{length-part}
-use Rattle.layers.proofs.Widths.{width-is}
 
 pub span-is : (l m : LayerSpan) → l .z ≡ m .z → l .width ≡ m .width → l .from ≡ m .from → l .to ≡ m .to → l ≡ m
 span-is l m e w f g = λ i. record { z = e i; width = w i; from = f i; to = g i }

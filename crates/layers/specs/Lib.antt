@@ -1,3 +1,2 @@
-pub mod Layer
+pub mod Readable
 pub mod Part
-pub mod Examples

@@ -7,19 +7,13 @@ ghost use Rattle.prelude.specs.Lists.{any};
 ghost use Rattle.rules.specs.Value.{stray};
 ghost use Rattle.rules.specs.Grid.{fitSides, size};
 ghost use Rattle.rules.specs.Checks.{firstFailing};
-ghost use Rattle.words.specs.Words.{Width, valuesOf};
-ghost use Rattle.layers.specs.Layer as spec;
-ghost use Rattle.layers.specs.Layer.{layerLength, widthAt, recordLength, layerChecks, Readable, layerAt, readLayer, valuesIn, withLayer};
-ghost use Rattle.layers.specs.Part.{layerAnswer, bytesOf, Within, handedBack, partOf};
+ghost use Rattle.format.specs.Bytes.{Width, valuesOf};
+ghost use Rattle.format.specs.Layer as spec;
+ghost use Rattle.format.specs.Layer.{layerLength, widthAt, recordLength, layerChecks, layerAt, readLayer, valuesIn, withLayer, bytesOf, handedBack};
+ghost use Rattle.layers.specs.Readable.{Readable};
+ghost use Rattle.layers.specs.Part.{layerAnswer, Within, partOf};
+use format::LayerSpan;
 use rules::Sides;
-
-// A layer where it stands: its z, the bytes of a value, and from which byte of the file up to which its values stand.
-pub struct LayerSpan {
-    pub z: u8,
-    pub width: u8,
-    pub from: usize,
-    pub to: usize,
-}
 
 pub enum LayerAnswer {
     Found {

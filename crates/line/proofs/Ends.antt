@@ -25,7 +25,7 @@ use Rattle.rules.proofs.Checks.{append-hold, by-checks, unless-held, unless-aft
 use Rattle.rules.proofs.Fit.{fit-state, marking-holds}
 use Rattle.rules.proofs.Demand.{by-begin, run-append}
 use Rattle.rules.proofs.NeverUnfit.{never-unfit, carve-ends}
-use Rattle.layers.proofs.Sizes.{size-small}
+use Rattle.format.proofs.Sizes.{size-small}
 use Rattle.line.specs.Program.{noLimit, isRefused, afterCarve, afterOpen, opens, carveAndOpen, roundsLeft}
 use Rattle.line.specs.Ends.{rounds, CarvesToEmpty, Through, EveryCarveEmpties, RoundsGoThrough}
 use Rattle.line.proofs.Rounds.{carve-same, open-refused, open-done, round, round-used}

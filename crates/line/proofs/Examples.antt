@@ -6,7 +6,7 @@ use Prim.Native.Nat.{ℕ, _<_}
 use lib.ListN.{length}
 use borrow.Author.Tests.{lt-ltb}
 use Rattle.rules.proofs.Cases.{all-rules}
-use Rattle.gridfile.proofs.Examples.{reading-rules}
+use Rattle.format.proofs.Examples.File.{reading-rules}
 use Rattle.text.specs.Line.{refusedLine}
 use Rattle.line.specs.Program.{afterCarve, afterOpen, opens, afterFinish, carveAndOpen, lineOf, carvedToEnd, lineFrom, lineAfterRead}
 use Rattle.line.specs.Program.{fileLine, longestInput, programLine}

@@ -25,10 +25,11 @@ use Rattle.rules.specs.Meaning.{found}
 use Rattle.rules.specs.Status.{isKept}
 use Rattle.rules.specs.Machine.{State, state}
 use Rattle.rules.proofs.Demand.{by-begin}
-use Rattle.words.specs.Words.{tagged}
+use Rattle.format.specs.Bytes.{tagged}
 use Rattle.gridfile.specs.declared.ReadAnswer.{ReadAnswer}
-use Rattle.gridfile.specs.File.{sidesIn, fitUpTo, recordsChecks, Header, readAnswer, accepted, readUpTo}
-use Rattle.gridfile.proofs.Headers.{taken}
+use Rattle.format.specs.File.{sidesIn, fitUpTo, recordsChecks, Header, accepted, readUpTo}
+use Rattle.gridfile.specs.Answer.{readAnswer}
+use Rattle.format.proofs.Headers.{taken}
 use Rattle.text.specs.declared.Text.{Text}
 use Rattle.text.specs.Line.{refusedLine, carvedLine}
 use Rattle.text.specs.Written.{printed}

@@ -5,7 +5,7 @@ use mathlib.Core.List.{List, [], _∷_, _++_}
 use Prim.Native.Nat.{ℕ, _<_}
 use lib.ListN.{length, replicate}
 use lib.IntN.{pos}
-use Rattle.gridfile.specs.Examples.{header, three, file, first, top, bottom, above, fileD}
+use Rattle.format.specs.Examples.File.{header, three, file, first, top, bottom, above, fileD}
 use Rattle.text.specs.Line.{refusedLine, carvedLine}
 use Rattle.line.specs.Program.{longestInput, programLine}
 

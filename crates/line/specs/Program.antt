@@ -14,7 +14,7 @@ use Rattle.rules.specs.Begin.{begin}
 use Rattle.rules.specs.Meaning.{found}
 use Rattle.rules.specs.Status.{isKept}
 use Rattle.rules.specs.Machine.{State, state, after, carve, openNext, finish}
-use Rattle.gridfile.specs.File.{headerLength, sidesIn, fitUpTo, Header, readUpTo}
+use Rattle.format.specs.File.{headerLength, sidesIn, fitUpTo, Header, readUpTo}
 use Rattle.text.specs.Line.{Line, refusedLine, carvedLine}
 
 -- ---- after begin: carve to empty and open in turn until open refuses, then finish; each call is lent the marks that begin was

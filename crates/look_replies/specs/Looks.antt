@@ -6,8 +6,8 @@ use lib.Ieee.{ofBits, binary64}
 use Rattle.rules.specs.Answer.{Reply, refused, done}
 use Rattle.surface.specs.declared.Point.{Point}
 use Rattle.points.specs.Listing.{Listing}
-use Rattle.gridfile.specs.File.{Header}
-use Rattle.layers.specs.declared.LayerSpan.{LayerSpan}
+use Rattle.format.specs.File.{Header}
+use Rattle.format.specs.declared.LayerSpan.{LayerSpan}
 use Rattle.look_replies.specs.declared.CrossingAnswer.{CrossingAnswer}
 use Rattle.look_replies.specs.declared.PointsAnswer.{PointsAnswer}
 use Rattle.look_replies.specs.declared.ReadReply.{ReadReply}

@@ -2,9 +2,9 @@
 ghost use mathlib.Core.Path.{_≡_};
 ghost use Rattle.surface.specs.Surface.{crossedAnswer};
 ghost use Rattle.points.specs.Listing.{listedAnswer};
-ghost use Rattle.gridfile.specs.File.{readAnswer};
+ghost use Rattle.gridfile.specs.Answer.{readAnswer};
 ghost use Rattle.layers.specs.Part.{layerAnswer};
-ghost use Rattle.writing.specs.Written.{writeAnswer};
+ghost use Rattle.writing.specs.Answer.{writeAnswer};
 ghost use Rattle.look_replies.specs.Looks.{origin, crossingStruct, pointsStruct, readStruct, layerStruct, writeStruct};
 use gridfile::ReadAnswer;
 use layers::LayerAnswer;

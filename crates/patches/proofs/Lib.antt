@@ -1,3 +1,1 @@
 pub mod Patching
-pub mod LastStands
-pub mod Examples

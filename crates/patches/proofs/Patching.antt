@@ -1,40 +1,18 @@
--- Patches one after the other: how many begin from a byte on, their checks, and what is left to apply.
+-- Patches one after the other: what is left to check, and what is left to apply.
 use mathlib.Core.Path.{_≡_, refl, ap, sym, subst, _∙_}
-use mathlib.Core.Bool.{true}
-use mathlib.Core.List.{List, [], _++_}
-use Prim.Native.Nat.{ℕ, zero, suc, _+_, _≤_, _<_}
-use native.Mathlib.Omega.{arith}
+use mathlib.Core.List.{List, []}
+use Prim.Native.Nat.{ℕ, _+_, _≤_, _<_}
 use lib.ListN.{length, set, length-set}
 use lib.IntN.{ℤ}
 use borrow.Author.Tests.{ltb-false, leb-false}
-use Rattle.rules.specs.Checks.{firstFailing, numbered, AllHold}
+use Rattle.rules.specs.Checks.{firstFailing, AllHold}
 use Rattle.rules.proofs.Checks.{refused-first, held-first, hold-append}
-use Rattle.patches.specs.Patch.{patchLength, indexAt, patchAt, patchChecks, patchCount, checksOf, appliedOf, patchesChecks, patched}
+use Rattle.format.specs.Patch.{patchLength, indexAt, patchAt, patchChecks, patchesChecks, patched}
+use Rattle.format.proofs.Patch.{checks-next, checks-none, patched-next, patched-none}
 
--- ---- how many
-
-pub count-next : (file : List ℕ) (at : ℕ) → at < length file → patchCount file at ≡ suc (patchCount file (at + patchLength))
-count-next file at h = omega arith
-
-pub count-none : (file : List ℕ) (at : ℕ) → length file ≤ at → patchCount file at ≡ 0
-count-none file at h = omega arith
-
--- ---- the checks
-
-pub patches-numbered : (n : ℕ) (file : List ℕ) (left at : ℕ) → numbered (checksOf n file left at) ≡ true
-unfolding checksOf
-patches-numbered n file zero at = refl
-patches-numbered n file (suc left) at = patches-numbered n file left (at + patchLength)
+-- ---- what is left to check
 
 module _ (n : ℕ) (file : List ℕ) where
-  pub checks-next : (at : ℕ) → at < length file → patchesChecks n file at ≡ patchChecks n file at ++ patchesChecks n file (at + patchLength)
-  unfolding checksOf
-  checks-next at h = ap (λ (k : ℕ). checksOf n file k at) (count-next file at h)
-
-  pub checks-none : (at : ℕ) → length file ≤ at → patchesChecks n file at ≡ []
-  unfolding checksOf
-  checks-none at h = ap (λ (k : ℕ). checksOf n file k at) (count-none file at h)
-
   -- what is left to check decides the number
   abbrev pub Deciding : ℕ → ℕ → Type 0
   Deciding start at = firstFailing (patchesChecks n file at) ≡ firstFailing (patchesChecks n file start)
@@ -44,13 +22,13 @@ module _ (n : ℕ) (file : List ℕ) where
     own = firstFailing (patchChecks n file at)
 
     pub deciding-refused : at < length file → (r : ℕ) → r ≡ own → (r ≡ 0 → ⊥) → r ≡ firstFailing (patchesChecks n file start)
-    deciding-refused h r e f = refused-first (patchChecks n file at) _ r e f ∙ ap firstFailing (sym (checks-next at h)) ∙ i
+    deciding-refused h r e f = refused-first (patchChecks n file at) _ r e f ∙ ap firstFailing (sym (checks-next n file at h)) ∙ i
 
     pub deciding-next : at < length file → own ≡ 0 → Deciding start (at + patchLength)
-    deciding-next h e = held-first (patchChecks n file at) _ 0 (sym e) refl refl _ refl ∙ ap firstFailing (sym (checks-next at h)) ∙ i
+    deciding-next h e = held-first (patchChecks n file at) _ 0 (sym e) refl refl _ refl ∙ ap firstFailing (sym (checks-next n file at h)) ∙ i
 
     pub deciding-done : length file ≤ at → 0 ≡ firstFailing (patchesChecks n file start)
-    deciding-done h = none ∙ ap firstFailing (sym (checks-none at h)) ∙ i
+    deciding-done h = none ∙ ap firstFailing (sym (checks-none n file at h)) ∙ i
       where
         none : 0 ≡ firstFailing []
         none = unfold firstFailing in refl
@@ -63,20 +41,9 @@ module _ (n : ℕ) (file : List ℕ) where
   pub fit : (at : ℕ) → AllHold (patchChecks n file at) → Fit at
   fit at h = record { whole = ltb-false _ _ (h .0); below = leb-false _ _ (h .1 .1 .0) }
 
--- ---- applied
+-- ---- what is left to apply
 
 module _ (file : List ℕ) where
-  pub patched-next :
-      (at : ℕ) (values : List ℤ)
-      → at < length file
-      → patched file at values ≡ patched file (at + patchLength) (set values (indexAt file at) (patchAt file at))
-  unfolding appliedOf
-  patched-next at values h = ap (λ (k : ℕ). appliedOf file k at values) (count-next file at h)
-
-  pub patched-none : (at : ℕ) (values : List ℤ) → length file ≤ at → patched file at values ≡ values
-  unfolding appliedOf
-  patched-none at values h = ap (λ (k : ℕ). appliedOf file k at values) (count-none file at h)
-
   -- what is left to apply, of records that were checked, gives what all of them give
   pub record Applying (lent : List ℤ) (start : ℕ) (values : List ℤ) (at : ℕ) : Type 0 where
     pub long : length values ≡ length lent
@@ -101,8 +68,8 @@ module _ (file : List ℕ) where
           rw (ei, ev) (record {
             long = length-set values (indexAt file at) (patchAt file at) ∙ p .long;
             checked = both .1;
-            same = sym (patched-next at values h) ∙ p .same;
+            same = sym (patched-next file at values h) ∙ p .same;
           })
 
     pub applying-done : (values : List ℤ) (at : ℕ) → Applying lent start values at → length file ≤ at → values ≡ patched file start lent
-    applying-done values at p h = sym (patched-none at values h) ∙ p .same
+    applying-done values at p h = sym (patched-none file at values h) ∙ p .same

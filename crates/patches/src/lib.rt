@@ -3,7 +3,7 @@ ghost use mathlib.Core.Path.{_≡_};
 ghost use Prim.Native.Nat.{_+_, _≤_, _<_};
 ghost use lib.ListN.{length};
 ghost use Rattle.rules.specs.Checks.{firstFailing, AllHold};
-ghost use Rattle.patches.specs.Patch.{patchLength, indexAt, patchChecks, patchesChecks, patched};
+ghost use Rattle.format.specs.Patch.{patchLength, indexAt, patchChecks, patchesChecks, patched};
 
 fn index_at(file: &[u8], start: usize) -> usize
     requires { ⌜ start + patchLength ≤ length (now file) ⌝ }

@@ -1,4 +1,1 @@
-pub mod Examples
 pub mod Turning
-pub mod Bytes
-pub mod Widening

@@ -11,8 +11,8 @@ use mir.Facts.{toZ-ofZ}
 use lib.Dec.{eqb}
 use borrow.Author.Tests.{ne-eqb}
 use Rattle.prelude.proofs.Signs.{below, not-below, sign}
-use Rattle.words.specs.Words.{unsigned, Holds, narrowed}
-use Rattle.words.proofs.Bytes.{narrowed-mark, narrowed-other, narrowed-pos, held-from, held-below}
+use Rattle.format.specs.Bytes.{unsigned, Holds, narrowed}
+use Rattle.format.proofs.Bytes.{narrowed-mark, narrowed-other, narrowed-pos, held-from, held-below}
 
 -- the negative numbers, counted from the top
 pub from-top : (h n : ℕ) → h ≤ n → n < h + h → h - 1 - (n - h) ≡ h + h - 1 - n

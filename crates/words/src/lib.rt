@@ -4,8 +4,8 @@ ghost use Prim.Native.Nat.{_+_, _<_, _≤_};
 ghost use lib.Dec.{ltb};
 ghost use lib.ListN.{length};
 ghost use lib.Seq.{sets};
-ghost use Rattle.words.specs.Words as spec;
-ghost use Rattle.words.specs.Words.{Width, half, Holds, valueOf, wordBytes, valueBytes, tagged};
+ghost use Rattle.format.specs.Bytes as spec;
+ghost use Rattle.format.specs.Bytes.{Width, half, Holds, valueOf, wordBytes, valueBytes, tagged};
 
 // ---- read
 

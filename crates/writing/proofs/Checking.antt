@@ -7,7 +7,7 @@ use native.Mathlib.Omega.{arith}
 use lib.Dec.{ltb}
 use lib.ListN.{length}
 use lib.IntN.{ℤ}
-use borrow.Author.Tests.{lt-ltb, le-ltb, eqb-true}
+use borrow.Author.Tests.{lt-ltb, eqb-true}
 use Rattle.prelude.specs.Lists.{any}
 use Rattle.prelude.proofs.Bools.{not-false}
 use Rattle.rules.specs.declared.Sides.{Sides}
@@ -15,8 +15,9 @@ use Rattle.rules.specs.Value.{stray}
 use Rattle.rules.specs.Grid.{fitSides}
 use Rattle.rules.specs.Checks.{Check, _when_, firstFailing, unless, AllHold}
 use Rattle.rules.specs.Answer.{untouched}
-use Rattle.rules.proofs.Checks.{fails-first, held-none, call-refused, unless-after, unless-held, refused-first, held-first, append-hold}
-use Rattle.writing.specs.Written.{writtenLength, sizeChecks, gridChecks, writeChecks, Room, written, write}
+use Rattle.rules.proofs.Checks.{fails-first, held-none, call-refused, unless-after, refused-first, held-first, append-hold}
+use Rattle.format.specs.Written.{writtenLength, sizeChecks, gridChecks, writeChecks, written, write}
+use Rattle.writing.specs.Room.{Room}
 
 -- what holds of a grid that is not refused
 module _ (s : Sides) (values : List ℤ) (h : AllHold (gridChecks s values)) where
@@ -57,9 +58,3 @@ module _ (s : Sides) (T : ℕ) (values : List ℤ) (file : List ℕ) where
     room-refused l =
         sym (unless-after (untouched file) (written s T values file) (gridChecks s values) roomChecks h
         ∙ ap (λ (t : Bool). cond t (untouched file 26) (written s T values file)) (lt-ltb (length file) (writtenLength s values) l))
-
-    pub all-written : writtenLength s values ≤ length file → written s T values file ≡ write s T values file
-    unfolding write
-    all-written r =
-        sym (unless-held (untouched file) (written s T values file) (writeChecks s values (length file))
-        (append-hold (gridChecks s values) roomChecks h (le-ltb (length file) (writtenLength s values) r, tt)))

@@ -12,13 +12,14 @@ use Rattle.prelude.specs.Lists.{range}
 use Rattle.rules.specs.declared.Sides.{Sides}
 use Rattle.rules.specs.Grid.{fitSides}
 use Rattle.rules.proofs.Places.{fit}
-use Rattle.layers.specs.Layer.{area, layerLength}
-use Rattle.layers.proofs.Sizes.{length-part}
-use Rattle.gridfile.specs.File.{headerLength}
-use Rattle.writing.specs.Written.{layerValues, widthFor, Held, layerForm, layersForm, writtenLength, Room}
+use Rattle.format.specs.Layer.{area, layerLength}
+use Rattle.format.specs.File.{headerLength}
+use Rattle.format.specs.Written.{layerValues, widthFor, Held, layerForm, layersForm, writtenLength}
+use Rattle.format.proofs.Sizes.{length-part}
+use Rattle.format.proofs.Holding.{held, held-between}
+use Rattle.format.proofs.Forms.{length-layerValues, length-layersForm, layersForm-next}
+use Rattle.writing.specs.Room.{Room}
 use Rattle.writing.proofs.Laying.{lay}
-use Rattle.writing.proofs.Forms.{length-layerValues, length-layersForm, layersForm-next}
-use Rattle.writing.proofs.Holding.{held, held-between}
 
 -- so many records and the header, by the length of a record that the code found: no sum of the writer's overflows
 pub records-end : (s : Sides) (count total : ℕ) → fitSides s ≡ true → count ≤ s .c → total ≤ 16387 → headerLength + count * total ≤ 1048775

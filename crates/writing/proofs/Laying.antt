@@ -1,21 +1,10 @@
 -- Bytes laid one after the other into a lent buffer: what is laid so far stands before what was lent.
 use mathlib.Core.Path.{_≡_, refl, sym, ap, _∙_}
-use mathlib.Core.List.{List, [], _∷_, _++_, flatMap, append-assoc, append-nil}
+use mathlib.Core.List.{List, [], _∷_, _++_, append-assoc}
 use Prim.Native.Nat.{ℕ, zero, suc, _+_, _≤_}
 use native.Mathlib.Omega.{arith}
 use lib.ListN.{length, take, drop, getD}
 use lib.Seq.{sets, sets-eq, take-at, drop-at, drop-drop}
-
-module _ {A B : Type 0} (f : A → List B) where
-  pub flatMap-append : (xs ys : List A) → flatMap f (xs ++ ys) ≡ flatMap f xs ++ flatMap f ys
-  unfolding flatMap
-  flatMap-append [] ys = refl
-  flatMap-append (x ∷ xs) ys = ap (λ (r : List B). f x ++ r) (flatMap-append xs ys) ∙ sym (append-assoc (f x) (flatMap f xs) (flatMap f ys))
-
-  -- one more at the end
-  pub flatMap-snoc : (xs : List A) (y : A) → flatMap f (xs ++ (y ∷ [])) ≡ flatMap f xs ++ f y
-  unfolding flatMap
-  flatMap-snoc xs y = flatMap-append xs (y ∷ []) ∙ ap (λ (r : List B). flatMap f xs ++ r) (append-nil (f y))
 
 module _ {A : Type 0} (done new lent : List A) (at : ℕ) (e : length done ≡ at) where
   -- by a part of the buffer

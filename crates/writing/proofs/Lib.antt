@@ -1,9 +1,4 @@
 pub mod Laying
-pub mod Holding
-pub mod Forms
 pub mod Values
 pub mod Layers
 pub mod Checking
-pub mod Reading
-pub mod RoundTrip
-pub mod Examples

@@ -7,12 +7,12 @@ use native.Mathlib.Omega.{arith}
 use lib.ListN.{length, take, drop, getD}
 use lib.Seq.{sets, length-sets, length-take-le, take-length, drop-length}
 use lib.IntN.{ℤ, pos}
-use Rattle.words.specs.Words.{valueBytes}
-use Rattle.words.proofs.Bytes.{length-valueBytes}
-use Rattle.layers.proofs.Sizes.{value-room}
-use Rattle.writing.specs.Written.{Held, valuesForm}
+use Rattle.format.specs.Bytes.{valueBytes}
+use Rattle.format.specs.Written.{Held, valuesForm}
+use Rattle.format.proofs.Bytes.{length-valueBytes}
+use Rattle.format.proofs.Sizes.{value-room}
+use Rattle.format.proofs.Forms.{length-valuesForm, valuesForm-next}
 use Rattle.writing.proofs.Laying.{lay-sets}
-use Rattle.writing.proofs.Forms.{length-valuesForm, valuesForm-next}
 
 module _ (width : ℕ) (values : List ℤ) (lent : List ℕ) where
   -- the values below i stand before what was lent

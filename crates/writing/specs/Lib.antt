@@ -1,3 +1,2 @@
-pub mod Written
-pub mod RoundTrip
-pub mod Examples
+pub mod Answer
+pub mod Room

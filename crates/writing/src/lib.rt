@@ -9,12 +9,13 @@ ghost use Rattle.rules.specs.Value.{stray};
 ghost use Rattle.rules.specs.Grid.{fitSides};
 ghost use Rattle.rules.specs.Checks.{firstFailing};
 ghost use Rattle.rules.specs.Answer.{outcome};
-ghost use Rattle.words.specs.Words.{Width};
-ghost use Rattle.layers.specs.Layer.{kindOf, layerLength};
-ghost use Rattle.gridfile.specs.File.{headerLength};
-ghost use Rattle.writing.specs.Written as spec;
-ghost use Rattle.writing.specs.Written.{headerForm, widthFor, Held, valuesForm, layerForm, layersForm, writtenForm, writtenLength};
-ghost use Rattle.writing.specs.Written.{sizeChecks, Room, writeAnswer};
+ghost use Rattle.format.specs.Bytes.{Width};
+ghost use Rattle.format.specs.Layer.{kindOf, layerLength};
+ghost use Rattle.format.specs.File.{headerLength};
+ghost use Rattle.format.specs.Written as spec;
+ghost use Rattle.format.specs.Written.{headerForm, widthFor, Held, valuesForm, layerForm, layersForm, writtenForm, writtenLength, sizeChecks};
+ghost use Rattle.writing.specs.Room.{Room};
+ghost use Rattle.writing.specs.Answer.{writeAnswer};
 use rules::Sides;
 
 // What writing a file answers: its length.

@@ -2,10 +2,10 @@
 use mathlib.Core.Path.{ap}
 use mathlib.Core.Bool.{Bool, _&&_}
 use lib.Dec.{leb}
-use Rattle.gridfile.specs.File.{fitUpTo}
-use borrow.Author.Needs.{needs}
+use Rattle.format.specs.File.{fitUpTo}
 use Rattle.gridfile.proofs.fit_up_to.Statement.{statement}
 use Rattle.gridfile.proofs.fit_up_to.Tie as tie
+use borrow.Author.Needs.{needs}
 
 fit-sides-requires : tie.Need-fit-sides-requires
 fit-sides-requires c κs = search needs

@@ -7,9 +7,9 @@ use borrow.Author.Needs.{needs}
 use borrow.Author.Tests.{lt-ltb, le-ltb, eq-eqb, ne-eqb, not-true, not-false}
 use Rattle.rules.specs.Grid.{fitSides, size}
 use Rattle.rules.specs.Checks.{firstFailing}
-use Rattle.words.specs.Words.{tagged}
-use Rattle.gridfile.specs.File.{sidesIn, fitUpTo}
-use Rattle.gridfile.proofs.Headers.{fitUpTo-fits}
+use Rattle.format.specs.Bytes.{tagged}
+use Rattle.format.specs.File.{sidesIn, fitUpTo}
+use Rattle.format.proofs.Headers.{fitUpTo-fits}
 use Rattle.gridfile.proofs.header_refusal.Statement.{statement}
 use Rattle.gridfile.proofs.header_refusal.Tie as tie
 

@@ -1,6 +1,6 @@
 -- `gridfile::read` meets its contract.
 use borrow.Author.Needs.{needs}
-use Rattle.gridfile.specs.File.{read}
+use Rattle.format.specs.File.{read}
 use Rattle.gridfile.proofs.read.Statement.{statement}
 use Rattle.gridfile.proofs.read.Tie as tie
 

@@ -6,8 +6,8 @@ use lib.ListN.{length}
 use borrow.Author.Needs.{needs}
 use Rattle.rules.specs.Answer.{untouched}
 use Rattle.rules.proofs.Checks.{all-hold, call-refused, call-done}
-use Rattle.gridfile.specs.File.{sidesIn, readChecks, Accepted, accepted, readUpTo}
-use Rattle.gridfile.proofs.Headers.{read-numbered, is-accepted}
+use Rattle.format.specs.File.{sidesIn, readChecks, Accepted, accepted, readUpTo}
+use Rattle.format.proofs.Headers.{read-numbered, is-accepted}
 use Rattle.gridfile.proofs.read_up_to.Statement.{statement}
 use Rattle.gridfile.proofs.read_up_to.Tie as tie
 

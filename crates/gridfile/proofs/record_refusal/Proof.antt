@@ -5,9 +5,10 @@ use native.Mathlib.Omega.{arith}
 use borrow.Author.Needs.{needs}
 use Rattle.rules.specs.Checks.{firstFailing}
 use Rattle.rules.proofs.Checks.{all-hold, refused-first, held-first}
-use Rattle.layers.specs.Layer.{zAt, Readable}
+use Rattle.format.specs.Layer.{zAt}
+use Rattle.format.specs.File.{recordChecks}
+use Rattle.layers.specs.Readable.{Readable}
 use Rattle.layers.proofs.Reading.{readable}
-use Rattle.gridfile.specs.File.{recordChecks}
 use Rattle.gridfile.proofs.Checking.{behind-layer, repeat-refused, skip-refused, stray-refused, record-taken}
 use Rattle.gridfile.proofs.record_refusal.Statement.{statement}
 use Rattle.gridfile.proofs.record_refusal.Tie as tie

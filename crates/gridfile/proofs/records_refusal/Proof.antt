@@ -6,8 +6,8 @@ use borrow.Author.Needs.{needs}
 use Rattle.rules.specs.Checks.{firstFailing}
 use Rattle.rules.proofs.Places.{fit}
 use Rattle.rules.proofs.Checks.{all-hold}
-use Rattle.layers.specs.Layer.{Readable}
-use Rattle.patches.specs.Patch.{patchesChecks}
+use Rattle.format.specs.Patch.{patchesChecks}
+use Rattle.layers.specs.Readable.{Readable}
 use Rattle.gridfile.proofs.Checking.{record-readable, Deciding, deciding-start, deciding-refused, deciding-next, deciding-done}
 use Rattle.gridfile.proofs.records_refusal.Statement.{statement}
 use Rattle.gridfile.proofs.records_refusal.Tie as tie

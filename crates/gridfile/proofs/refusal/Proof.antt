@@ -6,8 +6,8 @@ use Rattle.rules.specs.declared.Sides.{Sides}
 use Rattle.rules.specs.Grid.{fitSides, size}
 use Rattle.rules.specs.Checks.{firstFailing, AllHold}
 use Rattle.rules.proofs.Checks.{all-hold, refused-first, held-first}
-use Rattle.gridfile.specs.File.{headerChecks, recordsChecks}
-use Rattle.gridfile.proofs.Headers.{header-fits, header-long}
+use Rattle.format.specs.File.{headerChecks, recordsChecks}
+use Rattle.format.proofs.Headers.{header-fits, header-long}
 use Rattle.gridfile.proofs.refusal.Statement.{statement}
 use Rattle.gridfile.proofs.refusal.Tie as tie
 

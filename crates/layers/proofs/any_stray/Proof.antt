@@ -8,9 +8,9 @@ use borrow.Author.Needs.{needs, sfits-of}
 use Rattle.prelude.specs.Lists.{any, range}
 use Rattle.prelude.proofs.Ranges.{any-run-none, scan-next}
 use Rattle.rules.specs.Value.{stray}
-use Rattle.words.specs.Words.{valueOf}
-use Rattle.layers.proofs.Sizes.{value-room}
-use Rattle.layers.proofs.Strays.{strays-by-index}
+use Rattle.format.specs.Bytes.{valueOf}
+use Rattle.format.proofs.Sizes.{value-room}
+use Rattle.format.proofs.Strays.{strays-by-index}
 use Rattle.layers.proofs.any_stray.Statement.{statement}
 use Rattle.layers.proofs.any_stray.Tie as tie
 

@@ -1,7 +1,7 @@
 -- `layers::area` meets its contract.
 use mathlib.Core.Path.{refl}
 use native.Mathlib.Omega.{arith}
-use Rattle.layers.proofs.Sizes.{area-small}
+use Rattle.format.proofs.Sizes.{area-small}
 use Rattle.layers.proofs.area.Statement.{statement}
 use Rattle.layers.proofs.area.Tie as tie
 

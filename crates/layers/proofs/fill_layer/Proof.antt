@@ -7,8 +7,8 @@ use lib.IntN.{pos}
 use mir.Facts.{toZ-ofZ}
 use borrow.Author.Needs.{needs, sfits-of}
 use Rattle.prelude.proofs.Filling.{Filling, filling-start, filling-next, filling-done}
-use Rattle.words.specs.Words.{valueOf, valuesOf}
-use Rattle.layers.proofs.Sizes.{value-room}
+use Rattle.format.specs.Bytes.{valueOf, valuesOf}
+use Rattle.format.proofs.Sizes.{value-room}
 use Rattle.layers.proofs.fill_layer.Statement.{statement}
 use Rattle.layers.proofs.fill_layer.Tie as tie
 

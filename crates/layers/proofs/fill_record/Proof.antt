@@ -4,9 +4,9 @@ use Prim.Native.Nat.{ℕ, _+_, _*_, _≤_}
 use native.Mathlib.Omega.{arith}
 use borrow.Author.Needs.{needs}
 use Rattle.rules.specs.Grid.{size}
-use Rattle.layers.specs.declared.LayerSpan.{LayerSpan}
-use Rattle.layers.specs.Layer.{withLayer}
-use Rattle.layers.proofs.Sizes.{size-small, layer-room, length-part, withLayer-middle}
+use Rattle.format.specs.declared.LayerSpan.{LayerSpan}
+use Rattle.format.specs.Layer.{withLayer}
+use Rattle.format.proofs.Sizes.{size-small, layer-room, length-part, withLayer-middle}
 use Rattle.layers.proofs.Reading.{Placed, placed}
 use Rattle.layers.proofs.fill_record.Statement.{statement}
 use Rattle.layers.proofs.fill_record.Tie as tie

@@ -6,11 +6,11 @@ use native.Mathlib.Omega.{arith}
 use borrow.Author.Needs.{needs}
 use Rattle.prelude.specs.Lists.{any}
 use Rattle.rules.specs.Value.{stray}
-use Rattle.words.specs.Words.{valuesOf}
-use Rattle.layers.specs.declared.LayerSpan.{LayerSpan}
-use Rattle.layers.specs.Layer.{layerAt, stretch, valuesIn}
+use Rattle.format.specs.Bytes.{valuesOf}
+use Rattle.format.specs.declared.LayerSpan.{LayerSpan}
+use Rattle.format.specs.Layer.{layerAt, stretch, valuesIn}
+use Rattle.format.proofs.Strays.{narrow-layer}
 use Rattle.layers.proofs.Reading.{Placed, placed}
-use Rattle.layers.proofs.Strays.{narrow-layer}
 use Rattle.layers.proofs.has_stray.Statement.{statement}
 use Rattle.layers.proofs.has_stray.Tie as tie
 

@@ -8,7 +8,8 @@ use Rattle.rules.specs.Grid.{fitSides}
 use Rattle.rules.specs.Checks.{firstFailing}
 use Rattle.rules.specs.Answer.{refused, done}
 use Rattle.rules.proofs.Checks.{fails-first, holds-first, call-refused, call-done, all-hold}
-use Rattle.layers.specs.Layer.{readLayerChecks, Readable, layerAt, readLayer}
+use Rattle.format.specs.Layer.{readLayerChecks, layerAt, readLayer}
+use Rattle.layers.specs.Readable.{Readable}
 use Rattle.layers.proofs.Reading.{readable}
 use Rattle.layers.proofs.layer.Statement.{statement}
 use Rattle.layers.proofs.layer.Tie as tie

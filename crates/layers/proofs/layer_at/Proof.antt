@@ -3,8 +3,8 @@ use mathlib.Core.Path.{refl, ap, _∙_}
 use Prim.Native.Nat.{ℕ, _+_}
 use native.Mathlib.Omega.{arith}
 use borrow.Author.Needs.{needs}
-use Rattle.layers.specs.Layer.{layerLength}
-use Rattle.layers.proofs.Sizes.{width-small}
+use Rattle.format.specs.Layer.{layerLength}
+use Rattle.format.proofs.Sizes.{width-small}
 use Rattle.layers.proofs.Reading.{span-is}
 use Rattle.layers.proofs.layer_at.Statement.{statement}
 use Rattle.layers.proofs.layer_at.Tie as tie

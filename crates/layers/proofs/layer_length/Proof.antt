@@ -3,8 +3,8 @@ use mathlib.Core.Path.{_≡_, ap}
 use Prim.Native.Nat.{ℕ, _*_, _≤_}
 use native.Mathlib.Omega.{arith}
 use borrow.Author.Needs.{needs}
-use Rattle.layers.proofs.Sizes.{bytes-small}
-use Rattle.layers.specs.Layer.{area}
+use Rattle.format.proofs.Sizes.{bytes-small}
+use Rattle.format.specs.Layer.{area}
 use Rattle.layers.proofs.layer_length.Statement.{statement}
 use Rattle.layers.proofs.layer_length.Tie as tie
 

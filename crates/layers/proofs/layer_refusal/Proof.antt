@@ -8,9 +8,9 @@ use borrow.Author.Tests.{ltb-false, le-leb, lt-leb}
 use lib.Dec.{ltb, eqb}
 use lib.ListN.{length}
 use Rattle.rules.specs.Checks.{firstFailing}
-use Rattle.words.specs.Words.{tagged}
-use Rattle.layers.specs.Layer.{narrowKind, wideKind, layerLength, recordLength}
-use Rattle.layers.proofs.Widths.{wrong-mark}
+use Rattle.format.specs.Bytes.{tagged}
+use Rattle.format.specs.Layer.{narrowKind, wideKind, layerLength, recordLength}
+use Rattle.format.proofs.WidthAt.{wrong-mark}
 use Rattle.layers.proofs.layer_refusal.Statement.{statement}
 use Rattle.layers.proofs.layer_refusal.Tie as tie
 

@@ -2,8 +2,9 @@
 use mathlib.Core.Path.{ap, sym, subst}
 use native.Mathlib.Omega.{arith}
 use borrow.Author.Needs.{needs}
+use Rattle.format.specs.Layer.{bytesOf}
 use Rattle.layers.specs.declared.LayerAnswer.{LayerAnswer}
-use Rattle.layers.specs.Part.{layerAnswer, bytesOf, Within}
+use Rattle.layers.specs.Part.{layerAnswer, Within}
 use Rattle.layers.proofs.part.Statement.{statement}
 use Rattle.layers.proofs.part.Tie as tie
 

@@ -44,11 +44,11 @@ use Rattle.rules.specs.declared.Sides.{Sides}
 use Rattle.rules.specs.Answer.{Reply}
 use Rattle.rules.proofs.Sides as S
 use Rattle.rules.proofs.Sides.Laws as S′
-use Rattle.layers.specs.declared.LayerSpan.{LayerSpan}
+use Rattle.format.specs.declared.LayerSpan.{LayerSpan}
+use Rattle.format.specs.Layer.{readLayer, bytesOf, handedBack, Part}
 use Rattle.layers.specs.declared.LayerAnswer.{LayerAnswer}
 use Rattle.layers.specs.declared.LayerPart.{LayerPart}
-use Rattle.layers.specs.Layer.{readLayer}
-use Rattle.layers.specs.Part.{layerAnswer, bytesOf, Within, handedBack, partOf, Part}
+use Rattle.layers.specs.Part.{layerAnswer, Within, partOf}
 use Rattle.layers.proofs.Reading.{found-within}
 use Rattle.layers.proofs.LayerAnswer as E
 use Rattle.layers.proofs.LayerAnswer.Laws as E′

@@ -1,7 +1,7 @@
 -- `layers::record_length` meets its contract.
 use mathlib.Core.Path.{ap, _∙_}
 use borrow.Author.Needs.{needs}
-use Rattle.layers.specs.Layer.{layerLength}
+use Rattle.format.specs.Layer.{layerLength}
 use Rattle.layers.proofs.record_length.Statement.{statement}
 use Rattle.layers.proofs.record_length.Tie as tie
 

@@ -6,7 +6,7 @@ use native.Mathlib.Omega.{arith}
 use lib.ListN.{length}
 use borrow.Author.Needs.{needs}
 use borrow.Author.Tests.{ltb-true, ltb-false}
-use Rattle.layers.proofs.Widths.{width-short, width-wide, width-narrow}
+use Rattle.format.proofs.WidthAt.{width-short, width-wide, width-narrow}
 use Rattle.layers.proofs.width_at.Statement.{statement}
 use Rattle.layers.proofs.width_at.Tie as tie
 

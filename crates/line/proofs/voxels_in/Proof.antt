@@ -3,8 +3,8 @@ use mathlib.Core.Path.{_≡_, ap, sym, _∙_}
 use native.Mathlib.Omega.{arith}
 use borrow.Author.Needs.{needs}
 use Rattle.rules.specs.Grid.{fitSides, size}
-use Rattle.gridfile.specs.File.{sidesIn, fitUpTo}
-use Rattle.gridfile.proofs.Headers.{fitUpTo-fits}
+use Rattle.format.specs.File.{sidesIn, fitUpTo}
+use Rattle.format.proofs.Headers.{fitUpTo-fits}
 use Rattle.line.specs.Program.{greatestSide}
 use Rattle.line.proofs.Reading.{lentFor-short, lentFor-unfit, lentFor-fit, size-fits}
 use Rattle.line.proofs.voxels_in.Statement.{statement}

@@ -6,7 +6,7 @@ use native.Mathlib.Omega.{arith}
 use lib.ListN.{length}
 use mir.Facts.{toZ-ofZ}
 use borrow.Author.Needs.{sfits-of}
-use Rattle.words.specs.Words.{valueOf}
+use Rattle.format.specs.Bytes.{valueOf}
 use Rattle.patches.proofs.Patching.{Fit, Applying, applying-start, applying-fit, applying-next, applying-done}
 use Rattle.patches.proofs.apply_patches.Statement.{statement}
 use Rattle.patches.proofs.apply_patches.Tie as tie

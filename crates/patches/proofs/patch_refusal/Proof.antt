@@ -8,8 +8,8 @@ use lib.ListN.{length}
 use borrow.Author.Needs.{needs}
 use borrow.Author.Tests.{ltb-false, le-leb, lt-leb, not-true, not-false}
 use Rattle.rules.specs.Checks.{firstFailing}
-use Rattle.words.specs.Words.{tagged}
-use Rattle.patches.specs.Patch.{patchLength, indexAt}
+use Rattle.format.specs.Bytes.{tagged}
+use Rattle.format.specs.Patch.{patchLength, indexAt}
 use Rattle.patches.proofs.patch_refusal.Statement.{statement}
 use Rattle.patches.proofs.patch_refusal.Tie as tie
 

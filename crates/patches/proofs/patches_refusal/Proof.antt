@@ -6,7 +6,7 @@ use lib.ListN.{length}
 use borrow.Author.Needs.{needs}
 use Rattle.rules.specs.Checks.{firstFailing}
 use Rattle.rules.proofs.Checks.{all-hold}
-use Rattle.patches.specs.Patch.{patchChecks}
+use Rattle.format.specs.Patch.{patchChecks}
 use Rattle.patches.proofs.Patching.{Deciding, deciding-refused, deciding-next, deciding-done, Fit, fit}
 use Rattle.patches.proofs.patches_refusal.Statement.{statement}
 use Rattle.patches.proofs.patches_refusal.Tie as tie

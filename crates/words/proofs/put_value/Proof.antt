@@ -1,11 +1,11 @@
 -- `words::put_value` meets its contract.
-use mathlib.Core.Path.{_≡_, ap, ap₂, sym, subst, subst₂, _∙_}
+use mathlib.Core.Path.{ap, ap₂, sym, subst, subst₂, _∙_}
 use Prim.Native.Nat.{ℕ, _+_, _<_}
 use lib.IntN.{ℤ}
 use lib.Seq.{sets}
 use mir.Facts.{toZ-ofZ}
 use borrow.Author.Needs.{needs}
-use Rattle.words.specs.Words.{half, wordBytes, unsigned, Holds, narrowed, valueBytes}
+use Rattle.format.specs.Bytes.{wordBytes, unsigned, Holds, narrowed, valueBytes}
 use Rattle.words.proofs.put_value.Statement.{statement}
 use Rattle.words.proofs.put_value.Tie as tie
 

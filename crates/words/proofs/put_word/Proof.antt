@@ -2,13 +2,13 @@
 use mathlib.Core.Path.{_≡_, sym, ap, ap₂, _∙_, subst}
 use mathlib.Core.Logic.{⊎-elim}
 use mathlib.Core.List.{List}
-use Prim.Native.Nat.{ℕ, _+_, _<_, _≤_, _%_, _/_}
+use Prim.Native.Nat.{ℕ, _+_, _<_, _%_, _/_}
 use native.Mathlib.Omega.{arith}
 use lib.ListN.{length}
 use lib.Seq.{sets, length-sets}
 use borrow.Author.Needs.{needs}
-use Rattle.words.specs.Words.{half, wordBytes}
-use Rattle.words.proofs.Bytes.{sets-four}
+use Rattle.format.specs.Bytes.{half, wordBytes}
+use Rattle.format.proofs.Bytes.{sets-four}
 use Rattle.words.proofs.put_word.Statement.{statement}
 use Rattle.words.proofs.put_word.Tie as tie
 

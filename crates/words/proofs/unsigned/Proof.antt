@@ -1,8 +1,5 @@
 -- `words::unsigned` meets its contract.
-use mathlib.Core.Path.{ap, _∙_}
-use Prim.Native.Nat.{_+_, _-_}
 use native.Mathlib.Omega.{arith}
-use lib.IntN.{ℤ, natAbs}
 use borrow.Author.Needs.{needs}
 use Rattle.prelude.proofs.Signs.{small, as-it-is, turned}
 use Rattle.words.proofs.Turning.{turned-low, stands, stands-high, stands-turned, stands-mark}

@@ -1,9 +1,9 @@
 -- `words::value` meets its contract.
-use mathlib.Core.Path.{_≡_, _∙_}
+use mathlib.Core.Path.{_∙_}
 use native.Mathlib.Omega.{arith}
 use mir.Facts.{toZ-ofZ}
 use borrow.Author.Needs.{needs, sfits-of}
-use Rattle.words.proofs.Bytes.{value-mark, value-other}
+use Rattle.format.proofs.Bytes.{value-mark, value-other}
 use Rattle.words.proofs.value.Statement.{statement}
 use Rattle.words.proofs.value.Tie as tie
 

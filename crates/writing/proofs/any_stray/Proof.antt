@@ -1,7 +1,7 @@
 -- `writing::any_stray` meets its contract: of values of two bytes none is.
 use mathlib.Core.Path.{sym, _∙_}
 use borrow.Author.Needs.{needs}
-use Rattle.writing.proofs.Holding.{narrow-known}
+use Rattle.format.proofs.Holding.{narrow-known}
 use Rattle.writing.proofs.any_stray.Statement.{statement}
 use Rattle.writing.proofs.any_stray.Tie as tie
 

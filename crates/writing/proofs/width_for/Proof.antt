@@ -3,7 +3,7 @@ use mathlib.Core.Path.{_≡_, refl, ap}
 use mathlib.Core.Logic.{inl, inr}
 use mathlib.Core.Bool.{Bool, cond}
 use borrow.Author.Needs.{needs}
-use Rattle.writing.specs.Written.{widthFor}
+use Rattle.format.specs.Written.{widthFor}
 use Rattle.writing.proofs.width_for.Statement.{statement}
 use Rattle.writing.proofs.width_for.Tie as tie
 

@@ -5,10 +5,11 @@ use native.Mathlib.Omega.{arith}
 use lib.ListN.{length}
 use borrow.Author.Needs.{needs}
 use Rattle.rules.specs.Checks.{AllHold}
-use Rattle.layers.specs.Layer.{layerLength}
-use Rattle.gridfile.specs.File.{headerLength}
-use Rattle.writing.specs.Written.{writtenLength, gridChecks}
-use Rattle.writing.proofs.Checking.{grid-fits, has-room, size-refused, stray-refused, grid-holds, room-refused, all-written}
+use Rattle.format.specs.Layer.{layerLength}
+use Rattle.format.specs.File.{headerLength}
+use Rattle.format.specs.Written.{writtenLength, gridChecks}
+use Rattle.format.proofs.Written.{all-written}
+use Rattle.writing.proofs.Checking.{grid-fits, has-room, size-refused, stray-refused, grid-holds, room-refused}
 use Rattle.writing.proofs.write.Statement.{statement}
 use Rattle.writing.proofs.write.Tie as tie
 

@@ -6,9 +6,9 @@ use lib.ListN.{take, drop}
 use lib.IntN.{ℤ}
 use borrow.Author.Needs.{needs}
 use Rattle.rules.specs.declared.Sides.{Sides}
-use Rattle.layers.specs.Layer.{layerLength}
-use Rattle.gridfile.specs.File.{headerLength}
-use Rattle.writing.specs.Written.{headerForm, widthFor, layersForm, writtenForm, writtenLength}
+use Rattle.format.specs.Layer.{layerLength}
+use Rattle.format.specs.File.{headerLength}
+use Rattle.format.specs.Written.{headerForm, widthFor, layersForm, writtenForm, writtenLength}
 use Rattle.writing.proofs.Laying.{lay-on}
 use Rattle.writing.proofs.write_file.Statement.{statement}
 use Rattle.writing.proofs.write_file.Tie as tie

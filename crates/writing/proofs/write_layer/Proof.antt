@@ -6,9 +6,9 @@ use native.Mathlib.Omega.{arith}
 use lib.ListN.{length, drop, length-set, length-take, length-drop}
 use lib.Seq.{drop-length}
 use borrow.Author.Needs.{needs}
-use Rattle.writing.specs.Written.{valuesForm}
+use Rattle.format.specs.Written.{valuesForm}
+use Rattle.format.proofs.Forms.{length-valuesForm}
 use Rattle.writing.proofs.Laying.{is-spread}
-use Rattle.writing.proofs.Forms.{length-valuesForm}
 use Rattle.writing.proofs.write_layer.Statement.{statement}
 use Rattle.writing.proofs.write_layer.Tie as tie
 

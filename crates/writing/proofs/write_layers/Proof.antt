@@ -6,9 +6,9 @@ use lib.ListN.{length}
 use borrow.Author.Needs.{needs}
 use Rattle.rules.specs.Grid.{size}
 use Rattle.rules.proofs.Places.{fit}
-use Rattle.layers.specs.Layer.{area}
-use Rattle.layers.proofs.Sizes.{size-small, layer-room}
-use Rattle.writing.proofs.Holding.{held}
+use Rattle.format.specs.Layer.{area}
+use Rattle.format.proofs.Sizes.{size-small, layer-room}
+use Rattle.format.proofs.Holding.{held}
 use Rattle.writing.proofs.Layers.{Laid, laid-start, laid-long, laid-room, laid-end, laid-part, laid-next, laid-done}
 use Rattle.writing.proofs.write_layers.Statement.{statement}
 use Rattle.writing.proofs.write_layers.Tie as tie

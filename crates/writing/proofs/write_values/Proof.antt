@@ -4,7 +4,7 @@ use native.Mathlib.Omega.{arith}
 use lib.ListN.{length}
 use mir.Facts.{toZ-ofZ}
 use borrow.Author.Needs.{needs, sfits-of}
-use Rattle.writing.proofs.Holding.{held-at}
+use Rattle.format.proofs.Holding.{held-at}
 use Rattle.writing.proofs.Values.{Laid, laid-start, laid-room, laid-next, laid-done}
 use Rattle.writing.proofs.write_values.Statement.{statement}
 use Rattle.writing.proofs.write_values.Tie as tie

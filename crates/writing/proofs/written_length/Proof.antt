@@ -3,7 +3,7 @@ use mathlib.Core.Path.{ap}
 use Prim.Native.Nat.{ℕ, _+_, _*_, _≤_}
 use native.Mathlib.Omega.{arith}
 use borrow.Author.Needs.{needs}
-use Rattle.gridfile.specs.File.{headerLength}
+use Rattle.format.specs.File.{headerLength}
 use Rattle.writing.proofs.Layers.{records-end}
 use Rattle.writing.proofs.written_length.Statement.{statement}
 use Rattle.writing.proofs.written_length.Tie as tie

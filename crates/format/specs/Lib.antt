@@ -1,0 +1,12 @@
+pub mod Bytes
+pub mod Layer
+pub mod Patch
+pub mod File
+pub mod Written
+pub mod Widening
+pub mod LastStands
+pub mod WithoutPatches
+pub mod BottomUp
+pub mod Widths
+pub mod RoundTrip
+pub mod Examples

@@ -1,3 +1,0 @@
-pub mod Patch
-pub mod LastStands
-pub mod Examples
