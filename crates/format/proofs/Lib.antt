@@ -16,3 +16,4 @@ pub mod Written
 pub mod Reading
 pub mod RoundTrip
 pub mod Examples
+pub mod Wrong

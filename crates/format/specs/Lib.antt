@@ -10,3 +10,4 @@ pub mod BottomUp
 pub mod Widths
 pub mod RoundTrip
 pub mod Examples
+pub mod Wrong
