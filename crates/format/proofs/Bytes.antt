@@ -82,9 +82,6 @@ word-wordBytes (suc width) n rest h =
 pub half-low : (width : ℕ) → Width width → 1 ≤ half width
 half-low width = ⊎-elim (λ e. rw e (omega arith)) (λ e. rw e (omega arith))
 
-pub half-high : (width : ℕ) → Width width → half width ≤ 2147483648
-half-high width = ⊎-elim (λ e. rw e (omega arith)) (λ e. rw e (omega arith))
-
 -- what is held, and what becomes of it: a value from 0 on, the mark, or a value below 0
 pub narrowed-mark : (h n : ℕ) → eqb n 2147483647 ≡ true → narrowed h (negsuc n) ≡ negsuc (h - 1)
 unfolding narrowed isMissing

@@ -11,6 +11,7 @@ use Rattle.prelude.proofs.Bools.{two}
 use Rattle.rules.specs.Value.{missing, isMissing, beyond, stray}
 use Rattle.format.specs.Bytes.{word, signed, widened, narrowed, valueOf}
 use Rattle.format.specs.Widening.{sixteenBits, Widening}
+use Rattle.format.proofs.Bytes.{narrowed-pos}
 
 -- by the sign, and by the mark
 signed-from : (h n : ℕ) → ltb n h ≡ true → signed h n ≡ pos n
@@ -20,10 +21,6 @@ signed-from h n e = rw e refl
 signed-below : (h n : ℕ) → ltb n h ≡ false → signed h n ≡ negsuc (h + h - 1 - n)
 unfolding signed
 signed-below h n e = rw e refl
-
-widened-mark : (h k : ℕ) → eqb (suc k) h ≡ true → widened h (negsuc k) ≡ missing
-unfolding widened
-widened-mark h k e = rw e refl
 
 widened-other : (h k : ℕ) → eqb (suc k) h ≡ false → widened h (negsuc k) ≡ negsuc k
 unfolding widened
@@ -47,16 +44,12 @@ module _ (P : ℤ → Type 0) where
 
 -- ---- what becomes of a value
 
-narrowed-from : (h n : ℕ) → narrowed h (pos n) ≡ pos n
-unfolding narrowed isMissing
-narrowed-from h n = refl
-
 from-0 : (n : ℕ) → widened 32768 (pos n) ≡ pos n
 unfolding widened
 from-0 n = refl
 
 back-from-0 : (n : ℕ) → narrowed 32768 (widened 32768 (pos n)) ≡ pos n
-back-from-0 n = ap (narrowed 32768) (from-0 n) ∙ narrowed-from 32768 n
+back-from-0 n = ap (narrowed 32768) (from-0 n) ∙ narrowed-pos 32768 n
 
 mark-widened : widened 32768 (negsuc 32767) ≡ missing
 unfolding widened
