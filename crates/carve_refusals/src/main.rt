@@ -1,6 +1,14 @@
 // Runs the program's line on a grid file that is taken, then on one for each number that a file can be refused with, in the order in which
 // they are looked for.
 ghost use Prim.Native.Nat.{_<_, _≤_};
+use libc::STDOUT_FILENO;
+
+fn print_line(file: &[u8]) {
+    let text = line::line(file);
+    let bytes = text.bytes;
+    let start = text.start;
+    io::write_all(STDOUT_FILENO, &bytes[start..]);
+}
 
 // Prints the line of the first n bytes of a file, one of which is changed. It has a header, three layers of 21 bytes, each value 0 but for a -1
 // in the middle, and a patch that shoots the middle again.
@@ -29,7 +37,7 @@ fn print_changed(at: usize, byte: u8, n: usize)
     file[76] = 0xFE;
     file[77] = 0xFF;
     file[at] = byte;
-    printing::print_line(&file[..n]);
+    print_line(&file[..n]);
 }
 
 // Prints the line of a file of three wide layers of 39 bytes. Each value is 0 but for a -1 in the middle and, in a corner, 1,000,000,000 and so
@@ -57,13 +65,13 @@ fn print_wide(more: u8) {
     file[85] = 0x56;
     file[86] = 0x57;
     file[87] = 2;
-    printing::print_line(&file);
+    print_line(&file);
 }
 
 // 25, whatever the input holds.
 fn print_too_long() {
     let input = [0u8; 65537];
-    printing::print_line(&input);
+    print_line(&input);
 }
 
 fn main() {

@@ -14,8 +14,8 @@ use Rattle.format.specs.File.{read}
 use Rattle.format.specs.Examples.File.{fileD}
 use Rattle.format.proofs.Examples.File as files
 use Rattle.text.specs.Line.{decimal, lineText}
-use Rattle.line.specs.Program.{zeros}
-use Rattle.line.proofs.Examples as lines
+use Rattle.program.specs.Program.{zeros}
+use Rattle.program.proofs.Examples as lines
 use Rattle.cases.specs.Cases.{Cases}
 use Rattle.cases.proofs.Carved.{case-c}
 

@@ -13,7 +13,7 @@ use Rattle.surface.specs.Surface.{crossing}
 use Rattle.format.specs.File.{read}
 use Rattle.format.specs.Examples.File.{fileD}
 use Rattle.text.specs.Line.{carvedLine, lineText}
-use Rattle.line.specs.Program.{zeros, programLine}
+use Rattle.program.specs.Program.{zeros, programLine}
 
 pub record Cases : Type 0 where
   pub local-tests : LocalTests

@@ -9,7 +9,6 @@ use lib.Dec.{leb, ltb, eqb}
 use lib.ListN.{length, take, replicate, length-replicate}
 use lib.IntN.{ℤ, pos}
 use Rattle.prelude.proofs.Bools.{and-true}
-use Rattle.prelude.proofs.Counts.{counted}
 use Rattle.prelude.proofs.Ranges.{length-map-range}
 use Rattle.prelude.proofs.Replicate.{take-replicate}
 use Rattle.rules.specs.declared.Sides.{Sides}
@@ -21,9 +20,7 @@ use Rattle.rules.specs.Answer.{done, Outcome, outcome, untouched, Buffers, buff
 use Rattle.rules.specs.Fill.{filled}
 use Rattle.rules.specs.Marks.{marked, noMarks}
 use Rattle.rules.specs.Begin.{inside, inBox, statusAt, startStatus, begin}
-use Rattle.rules.specs.Meaning.{found}
-use Rattle.rules.specs.Status.{isKept}
-use Rattle.rules.specs.Machine.{State, state}
+use Rattle.rules.specs.Machine.{state}
 use Rattle.rules.proofs.Demand.{by-begin}
 use Rattle.format.specs.Bytes.{tagged}
 use Rattle.gridfile.specs.declared.ReadAnswer.{ReadAnswer}
@@ -31,11 +28,12 @@ use Rattle.format.specs.File.{sidesIn, fitUpTo, recordsChecks, Header, accepted
 use Rattle.gridfile.specs.Answer.{readAnswer}
 use Rattle.format.proofs.Headers.{taken}
 use Rattle.text.specs.declared.Text.{Text}
-use Rattle.text.specs.Line.{refusedLine, carvedLine}
+use Rattle.text.specs.Line.{refusedLine}
 use Rattle.text.specs.Written.{printed}
-use Rattle.line.specs.Program.{afterFinish, roundsLeft, allRounds, lineOf, carvedToEnd, lineFrom, zeros, lineAfterRead}
-use Rattle.line.specs.Program.{greatestSide, fileLine, lentFor}
-use Rattle.line.proofs.Rounds.{finish-unmoved, rounds-sides}
+use Rattle.program.specs.Program.{carvedToEnd, lineFrom, zeros, lineAfterRead}
+use Rattle.program.specs.Program.{greatestSide, fileLine}
+use Rattle.line.specs.Buffers.{lentFor}
+use Rattle.line.specs.Refusal.{refusalOf}
 
 -- ---- what begin leaves: as many status bytes as voxels
 
@@ -64,26 +62,6 @@ module _ (s : Sides) (T : ℕ) (values : List ℤ) (marks : List ℕ) (dist : Li
     unfolding lineFrom
     line-begin-refused n f r h =
         h ∙ ap (λ (o : Outcome Buffers Record). printed (lineFrom marks o)) (sym (ap (λ (x : Begun). outcome (begunAnswer x) (buffers d b)) f) ∙ e)
-
--- ---- the line at the end
-
-module _ (marks : List ℕ) (given : Record) (dist : List ℤ) (status : List ℕ) where
-  pub line-ended :
-      (carved ended : Record) (d : List ℤ) (b : List ℕ) (kept : ℕ) (euler : ℤ)
-      → length b ≡ size (given .sides)
-      → state carved dist b ≡ allRounds marks (state given dist status)
-      → state ended d b ≡ afterFinish (state carved dist b)
-      → kept ≡ counted (isKept b) (length b)
-      → euler ≡ ended .euler
-      → carvedLine kept (ended .removals) (ended .openings) (ended .examinations) euler ≡ carvedToEnd marks (state given dist status)
-  unfolding carvedToEnd lineOf voxels
-  line-ended carved ended d b kept euler l e f k z =
-      let rounds = roundsLeft given in
-      let g = state given dist status in
-      let sides : ended .sides ≡ given .sides =
-      ap (λ (h : State). h .rec .sides) f ∙ finish-unmoved (state carved dist b) .sides ∙ ap (λ (h : State). h .rec .sides) e ∙ rounds-sides marks rounds g in
-      let kept-found : kept ≡ found (ended .sides) (isKept b) = k ∙ ap (counted (isKept b)) (l ∙ ap size (sym sides)) in
-      rw (kept-found, z) (ap lineOf (f ∙ ap afterFinish e))
 
 -- ---- how many voxels' buffers are lent
 
@@ -159,9 +137,12 @@ module _ (file : List ℕ) where
     by-answer : lineAfterRead (outcome (readAnswer answer) values) ≡ fileLine file
     by-answer = ap lineAfterRead (r ∙ ap (readUpTo greatestSide file) z) ∙ sym line-lent
 
-    pub line-refused : (n : ℕ) → answer ≡ ReadAnswer.Refused n → refusedLine n ≡ fileLine file
+    pub line-refused : (m n : ℕ) → answer ≡ ReadAnswer.Refused m → n ≡ refusalOf (readAnswer answer) → refusedLine n ≡ fileLine file
     unfolding lineAfterRead
-    line-refused n e = sym (ap (λ (a : ReadAnswer). lineAfterRead (outcome (readAnswer a) values)) e) ∙ by-answer
+    line-refused m n e f =
+        ap refusedLine (f ∙ ap (λ (a : ReadAnswer). refusalOf (readAnswer a)) e)
+        ∙ sym (ap (λ (a : ReadAnswer). lineAfterRead (outcome (readAnswer a) values)) e)
+        ∙ by-answer
 
     pub line-grid :
         (s : Sides) (T : ℕ) (marks : List ℕ) (dist : List ℤ) (status : List ℕ)

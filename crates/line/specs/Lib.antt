@@ -1,3 +1,2 @@
-pub mod Program
-pub mod Ends
-pub mod Examples
+pub mod Buffers
+pub mod Refusal

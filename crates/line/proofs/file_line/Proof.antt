@@ -5,7 +5,7 @@ use lib.ListN.{replicate}
 use lib.IntN.{pos}
 use Rattle.prelude.proofs.Replicate.{take-replicate}
 use Rattle.line.proofs.Reading.{lent-length}
-use Rattle.line.specs.Program.{zeros}
+use Rattle.program.specs.Program.{zeros}
 use borrow.Author.Needs.{needs}
 use Rattle.line.proofs.file_line.Statement.{statement}
 use Rattle.line.proofs.file_line.Tie as tie

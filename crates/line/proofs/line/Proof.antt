@@ -9,7 +9,7 @@ use borrow.Author.Needs.{needs}
 use borrow.Author.Tests.{lt-ltb, le-ltb}
 use Rattle.text.specs.Line.{refusedLine}
 use Rattle.text.specs.Written.{printed}
-use Rattle.line.specs.Program.{fileLine, longestInput, programLine}
+use Rattle.program.specs.Program.{fileLine, longestInput, programLine}
 use Rattle.line.proofs.line.Statement.{statement}
 use Rattle.line.proofs.line.Tie as tie
 

@@ -5,7 +5,7 @@ use borrow.Author.Needs.{needs}
 use Rattle.rules.specs.Grid.{fitSides, size}
 use Rattle.format.specs.File.{sidesIn, fitUpTo}
 use Rattle.format.proofs.Headers.{fitUpTo-fits}
-use Rattle.line.specs.Program.{greatestSide}
+use Rattle.program.specs.Program.{greatestSide}
 use Rattle.line.proofs.Reading.{lentFor-short, lentFor-unfit, lentFor-fit, size-fits}
 use Rattle.line.proofs.voxels_in.Statement.{statement}
 use Rattle.line.proofs.voxels_in.Tie as tie

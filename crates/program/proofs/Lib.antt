@@ -1,0 +1,4 @@
+pub mod Rounds
+pub mod Ends
+pub mod Examples
+pub mod Wrong

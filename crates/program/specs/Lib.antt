@@ -1,0 +1,4 @@
+pub mod Program
+pub mod Ends
+pub mod Examples
+pub mod Wrong

@@ -1,0 +1,4 @@
+pub mod Answers
+pub mod Going
+pub mod Counting
+pub mod Ended
