@@ -4,3 +4,4 @@ pub mod Walking
 pub mod Listable
 pub mod Worked
 pub mod EachPoint
+pub mod Wrong

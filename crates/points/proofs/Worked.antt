@@ -10,7 +10,7 @@ use Rattle.rules.specs.Answer.{Reply, refused, done, outcome}
 use Rattle.surface.proofs.Worked.{rule, caseA, grid, one}
 use Rattle.points.specs.Listing.{pointAt, walk, doubles, Listing, listing, points}
 
-unfoldable points-rule : Unit {0}
+unfoldable pub points-rule : Unit {0}
 unfolding rule pointAt walk doubles listing points
 points-rule = tt
 

@@ -1,3 +1,4 @@
 pub mod Listing
 pub mod Positions
 pub mod EachPoint
+pub mod Wrong

@@ -97,6 +97,11 @@ the-numbers =
       index = refl;
       gone = refl;
       inside = refl;
+      unfit-first = refl;
+      finished-first = refl;
+      pending-first = refl;
+      allowed-first = refl;
+      removals-of-n = refl;
     }
 
 pub long-tunnels : LongTunnels

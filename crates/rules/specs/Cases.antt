@@ -14,7 +14,7 @@ use Rattle.rules.specs.Marks.{noMarks}
 use Rattle.rules.specs.Answer.{Reply, refused, done, Outcome, Buffers, Carving, Removal, Opening}
 use Rattle.rules.specs.Begin.{isIn, inside, begin, newRecord}
 use Rattle.rules.specs.Status.{statusOf, anyPending}
-use Rattle.rules.specs.Machine.{State, state, after, count, carve, take, openNext, finish}
+use Rattle.rules.specs.Machine.{State, state, after, count, asFinished, carve, take, openNext, finish}
 use Rattle.rules.specs.PinFirst.{markedBefore, beginBy}
 
 abbrev pub sides : ℕ → ℕ → ℕ → Sides
@@ -167,6 +167,14 @@ pub record Numbers : Type 0 where
   pub index : plainTake 48 caseD .answer ≡ refused 5
   pub gone : plainTake 0 caseD .answer ≡ refused 10
   pub inside : plainTake 21 caseD .answer ≡ refused 11
+  -- the first of two: unfit and finished, finished and no such voxel, pending with no opening left, no opening left and no voxel to open
+  pub unfit-first : plainCarve 1 (with (λ r. asFinished (count r 0 0 1 (pos 0)))) .answer ≡ refused 7
+  pub finished-first : plainTake 48 (with asFinished) .answer ≡ refused 8
+  pub pending-first : plainOpen caseD .answer ≡ refused 13
+  pub allowed-first : plainOpen (carvedTo 9 caseD) .answer ≡ refused 14
+  -- a count at its limit is fit
+  pub removals-of-n : plainCarve 0 (with (λ r. count r 0 48 0 (pos 0))) .answer
+      ≡ done (record { examined = 0; removed = 0; pending = true; face = 6; next = count (count (caseD .rec) 0 48 0 (pos 0)) 0 0 0 (pos 0) })
 
 -- ---- document 02, CR 5: number 28 in its order, and the ends of the range
 

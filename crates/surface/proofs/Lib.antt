@@ -8,3 +8,4 @@ pub mod Bound
 pub mod Between
 pub mod Crossable
 pub mod LongRange
+pub mod Wrong

@@ -1,3 +1,4 @@
 pub mod Surface
 pub mod Coordinates
 pub mod LongRange
+pub mod Wrong
