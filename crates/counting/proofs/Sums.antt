@@ -1,36 +1,12 @@
 -- Signed sums of small numbers, as the machine holds them.
-use mathlib.Core.Path.{_≡_, refl, sym, ap₂, _∙_, subst}
-use mathlib.Core.Logic.{inl, inr}
-use mathlib.Core.Bool.{Bool, cond}
-use Prim.Native.Nat.{ℕ, zero, suc, _+_, _-_, _^_, _≤_, _<_}
+use mathlib.Core.Path.{_≡_, sym, ap₂, _∙_, subst}
+use Prim.Native.Nat.{ℕ, _^_, _≤_, _<_}
 use native.Mathlib.Omega.{arith}
-use borrow.Author.Tests.{ltb-true}
-use lib.Dec.{ltb}
-use lib.IntN.{ℤ, pos, negsuc, negℤ, natAbs, subℕ, _+ℤ_, _-ℤ_}
+use lib.IntN.{ℤ, pos, negsuc, natAbs, _+ℤ_, _-ℤ_}
 use mir.Syntax.{w32}
 use mir.Val.{SFits, toZ, ofZ}
 use mir.Facts.{toZ-ofZ}
-use Rattle.prelude.proofs.Bools.{two}
-
-sub-size : (a b : ℕ) → natAbs (subℕ a b) ≤ a + b
-sub-size a b =
-    elim (two (ltb a b)) [
-      | inl e ↦
-          subst (λ (t : Bool). natAbs (cond t (negsuc (b - suc a)) (pos (a - b))) ≤ a + b) (sym e)
-          (let h = ltb-true a b e in let q : suc (b - suc a) ≤ a + b = omega arith in q)
-      | inr e ↦ subst (λ (t : Bool). natAbs (cond t (negsuc (b - suc a)) (pos (a - b))) ≤ a + b) (sym e) (let q : a - b ≤ a + b = omega arith in q)
-    ]
-
-pub sum-size : (x y : ℤ) → natAbs (x +ℤ y) ≤ natAbs x + natAbs y
-sum-size (pos a) (pos b) = omega arith
-sum-size (pos a) (negsuc b) = sub-size a (suc b)
-sum-size (negsuc a) (pos b) = omega (arith, sub-size b (suc a))
-sum-size (negsuc a) (negsuc b) = omega arith
-
-neg-size : (x : ℤ) → natAbs (negℤ x) ≡ natAbs x
-neg-size (pos zero) = refl
-neg-size (pos (suc n)) = refl
-neg-size (negsuc n) = refl
+use Rattle.prelude.proofs.Integers.{difference-size, sum-size}
 
 pub small-fits : (z : ℤ) → natAbs z ≤ 16777216 → SFits w32 z
 small-fits (pos n) h = record { sfits = let q : n < 2 ^ 31 = omega arith in q }
@@ -44,11 +20,8 @@ module _ (k m : ℕ) (hk : k ≤ 26) (hm : m ≤ 26) where
   pub difference : toZ w32 k -ℤ toZ w32 m ≡ pos k -ℤ pos m
   difference = ap₂ _-ℤ_ (back k hk) (back m hm)
 
-  pub difference-size : natAbs (pos k -ℤ pos m) ≤ 52
-  difference-size = omega (arith, sum-size (pos k) (negℤ (pos m)), neg-size (pos m))
-
   pub difference-fits : SFits w32 (toZ w32 k -ℤ toZ w32 m)
-  difference-fits = subst (λ (z : ℤ). SFits w32 z) (sym difference) (small-fits (pos k -ℤ pos m) (omega (arith, difference-size)))
+  difference-fits = subst (λ (z : ℤ). SFits w32 z) (sym difference) (small-fits (pos k -ℤ pos m) (omega (arith, difference-size k m 26 hk hm)))
 
 module _ (x y : ℤ) (fx : SFits w32 x) (fy : SFits w32 y) (hx : natAbs x ≤ 2097152) (hy : natAbs y ≤ 52) where
   abbrev held : ℤ

@@ -1,3 +1,2 @@
-pub mod Few
 pub mod Counting
 pub mod Opening

@@ -1,5 +1,5 @@
 -- One voxel of the body goes: what becomes of the body, the background, the Euler number and the local test elsewhere.
-use mathlib.Core.Path.{_≡_, refl, ap, ap₂, sym, _∙_, subst, fun-ext}
+use mathlib.Core.Path.{_≡_, refl, ap, ap₂, sym, _∙_, subst}
 use mathlib.Core.Logic.{_⊎_, inl, inr, _≢_}
 use mathlib.Core.Bool.{Bool, true, false, not, _&&_, _||_}
 use Prim.Native.Nat.{ℕ, suc, _+_, _/_, _%_, _<_}
@@ -8,15 +8,15 @@ use native.Mathlib.Decide.{ℕ-discrete}
 use lib.Dec.{leb, ltb, eqb}
 use lib.IntN.{ℤ, pos, _+ℤ_, _-ℤ_, +ℤ-idr}
 use borrow.Author.Tests.{leb-false, lt-ltb, eqb-true, eq-eqb}
-use Rattle.cells.specs.Groups.{any, filter}
+use Rattle.cells.specs.Groups.{any}
 use Rattle.cells.specs.Linked.{Linked, OnePiece}
 use Rattle.cells.specs.Classes.{cells, among}
 use Rattle.cells.specs.Cells.{contains, joined, positions, touched, Test, testOf, test, passes}
 use Rattle.prelude.proofs.Bools.{and-true, true-and, or-true, or-false, both-ways, not-true, not-false, not-both, two, and-zero}
-use Rattle.prelude.proofs.Lists.{Mem, any-true, true-any, any-false, any-ext}
+use Rattle.prelude.proofs.Lists.{Mem, any-true, true-any, any-false}
 use Rattle.cells.proofs.GroupsAre.{mem-among, cells-one-piece}
 use Rattle.cells.proofs.GroupsAre.{contains-self}
-use Rattle.closed_sets.proofs.EveryBlock.{bare-face}
+use Rattle.closed_sets.proofs.EveryBlock.{test-ext, bare-face}
 use Rattle.rules.specs.declared.Sides.{Sides}
 use Rattle.rules.specs.Grid.{Voxel, index, voxel, size, gap, touch, apart, taxicab, shareFace, neighbour, neighbourhoodOf, neighbourhood, facePositions}
 use Rattle.rules.specs.Begin.{exposed}
@@ -44,13 +44,7 @@ omit-self p i = ap (λ (t : Bool). p i && not t) (eq-eqb i i refl) ∙ and-zero 
 pub omit-split : (p : ℕ → Bool) (i j : ℕ) → p j ≡ true → (j ≡ i) ⊎ (omit p i j ≡ true)
 omit-split p i j e = elim (ℕ-discrete j i) [ yes q ↦ inl q | no n ↦ inr (true-omit p i j e n) ]
 
--- ---- the local test sees only the 26 places
-
-pub test-ext : (f g : ℕ → Bool) → ((p : ℕ) → Mem p positions → f p ≡ g p) → test f ≡ test g
-unfolding test touched
-test-ext f g h =
-    ap (λ (t : ℕ → Bool). testOf (filter t positions) (filter (λ c. not (t c)) positions))
-    (fun-ext (λ c. any-ext (λ v. contains v c && f v) (λ v. contains v c && g v) positions (λ v m. ap (λ (t : Bool). contains v c && t) (h v m))))
+-- ---- the local test
 
 pub passes-parts : (t : Test) → passes t ≡ true → (t .k ≡ 1) × (t .m ≡ 1)
 unfolding passes
