@@ -427,7 +427,8 @@ fn vtk_has_every_field() {
     at_hand(&found, "VTK was read here alone, since python3 with vtk (python3-vtk9) is not there");
 }
 
-/// The samples that teem's own program reads, printed as text.
+/// The samples that teem's own program reads, printed as text. It is the format's, and the only one that is asked: the reader of VTK 9.1 finds
+/// 8 x 7 x 1 samples where a file has 9 x 8 x 7.
 fn by_unu(file: &Path) -> Option<(String, Vec<i64>)> {
     // Debian calls it teem-unu
     let run = |name: &str| Command::new(name).args(["save", "-f", "nrrd", "-e", "ascii", "-i", path(file)]).output().ok();
@@ -450,13 +451,10 @@ fn nrrd_has_the_field_asked_for() {
             if field == "distances" {
                 assert_eq!(answer(&["volume", "--nrrd", path(&file)]), bytes, "distances are what is written unasked");
             }
-            let (teem, vtk) = (by_unu(&name), python("nrrd_by_vtk", &name));
-            assert!(teem.as_ref().is_none_or(|read| *read == (printed_sides(body.sides), due.clone())), "unu reads other samples");
-            if let Some((sides, arrays)) = vtk.as_deref().map(parse_printed) {
-                assert_eq!((sides, &arrays[0].2, arrays.len()), (printed_sides(body.sides), &due, 1), "VTK reads other samples");
-            }
-            found.extend([teem.is_some(), vtk.is_some()]);
+            let read = by_unu(&name);
+            assert!(read.as_ref().is_none_or(|read| *read == (printed_sides(body.sides), due)), "unu reads other samples");
+            found.push(read.is_some());
         }
     }
-    at_hand(&found, "NRRD was read here alone, since neither unu (teem-apps) nor python3 with vtk (python3-vtk9) is there");
+    at_hand(&found, "NRRD was read here alone, since unu (teem-apps) is not there");
 }

@@ -75,7 +75,8 @@ fn read_back(folder: &Path, grid: &Path) -> bool {
     let rows = |text: Option<String>| text.map(|text| text.lines().map(str::to_string).collect::<Vec<_>>());
     let (csv, json) = (rows(csv), rows(json));
     assert_eq!(csv, json, "{}", grid.display());
-    assert_eq!(csv.as_ref().map_or(0, Vec::len), text(&answer(&["list", path(grid)])).lines().count() - 1);
+    let listed = text(&answer(&["list", path(grid)])).lines().count() - 1;
+    assert!(csv.as_ref().is_none_or(|rows| rows.len() == listed), "{}", grid.display());
     csv.is_some()
 }
 

@@ -44,14 +44,6 @@ def ply_by_vtk(name):
         print(numbers(mesh.GetPoint(i)))
 
 
-def nrrd_by_vtk(name):
-    from vtkmodules.vtkIOImage import vtkNrrdReader
-
-    image = read_by(vtkNrrdReader(), name)
-    print(*image.GetDimensions())
-    arrays(image.GetPointData())
-
-
 def vtk_by_vtk(name):
     from vtkmodules.vtkIOLegacy import vtkStructuredPointsReader
 
@@ -98,7 +90,7 @@ def json_lines(name):
         rows(json.loads(line) for line in file)
 
 
-READERS = {f.__name__: f for f in (png_by_pil, ply_by_vtk, nrrd_by_vtk, vtk_by_vtk, ply_by_meshio, csv_rows, json_rows, json_lines)}
+READERS = {f.__name__: f for f in (png_by_pil, ply_by_vtk, vtk_by_vtk, ply_by_meshio, csv_rows, json_rows, json_lines)}
 
 if __name__ == "__main__":
     try:
