@@ -45,12 +45,17 @@ fn hunks(patch: &str) -> Result<Vec<Hunk>, String> {
     Ok(hunks)
 }
 
-/// Applies a hunk where its old lines stand; of several such places the one nearest to where they stood.
-fn apply(hunk: &Hunk, text: &str) -> Option<String> {
-    let line_of = |at: usize| text[..at].lines().count() + 1;
-    let starts = text.match_indices(&hunk.old).map(|(at, _)| at).filter(|&at| at == 0 || text.as_bytes()[at - 1] == b'\n');
-    let at = starts.min_by_key(|&at| line_of(at).abs_diff(hunk.line))?;
-    Some(format!("{}{}{}", &text[..at], hunk.new, &text[at + hunk.old.len()..]))
+/// Applies a hunk where its old lines stand. They must stand in one place alone: the nearest of several may be another one than was meant.
+fn apply(hunk: &Hunk, text: &str) -> Result<String, String> {
+    let begins_a_line = |at: &usize| *at == 0 || text.as_bytes()[at - 1] == b'\n';
+    let starts: Vec<usize> = text.match_indices(&hunk.old).map(|(at, _)| at).filter(begins_a_line).collect();
+    match starts[..] {
+        [at] => Ok(format!("{}{}{}", &text[..at], hunk.new, &text[at + hunk.old.len()..])),
+        [] => Err(format!("{} has no longer what stood at line {}", hunk.file, hunk.line)),
+        _ => {
+            Err(format!("{} has {} times what stood at line {}: the patch needs more lines around it", hunk.file, starts.len(), hunk.line))
+        }
+    }
 }
 
 /// The sources with a patch applied.
@@ -62,7 +67,7 @@ pub fn patched(sources: &[Source], patch: &str) -> Result<Vec<Source>, String> {
     }
     for hunk in hunks {
         let (_, text) = sources.iter_mut().find(|(name, _)| *name == hunk.file).ok_or(format!("there is no {}", hunk.file))?;
-        *text = apply(&hunk, text).ok_or(format!("{} has no longer what stood at line {}", hunk.file, hunk.line))?;
+        *text = apply(&hunk, text)?;
     }
     Ok(sources)
 }
@@ -225,10 +230,9 @@ mod tests {
     }
 
     #[test]
-    fn of_two_places_the_nearest() {
-        let at = |line: usize| of(TEXT, &format!("--- a/a.rs\n+++ b/a.rs\n@@ -{line} +{line} @@\n-same\n+other\n"));
-        assert_eq!(at(2).as_deref(), Ok("one\ntwo\nother\nthree\nfour\nsame\n"));
-        assert_eq!(at(7).as_deref(), Ok("one\ntwo\nsame\nthree\nfour\nother\n"));
+    fn a_patch_that_fits_in_two_places_is_told() {
+        let told = "a.rs has 2 times what stood at line 3: the patch needs more lines around it";
+        assert_eq!(of(TEXT, "--- a/a.rs\n+++ b/a.rs\n@@ -3 +3 @@\n-same\n+other\n"), Err(told.to_string()));
     }
 
     #[test]
