@@ -7,7 +7,7 @@ use std::process::ExitCode;
 fn main() -> ExitCode {
     match std::env::args().nth(1).as_deref() {
         None => program(),
-        Some("replay") => reference::replay::standard_input(),
+        Some("replay") => reference::replay::standard_input(reference::calls::REFERENCE),
         Some(other) => {
             eprintln!("reference: unknown mode {other}; usage: reference [replay]");
             ExitCode::from(2)

@@ -1,14 +1,33 @@
 //! Call scripts (docs/CALL-SCRIPTS.md): one command a line in, one answer a line out for each call.
 
-use crate::file::{layer, program_line, read, write};
-use crate::grid::{begin, Record, Refused, Sides};
-use crate::local::local_test;
-use crate::machine::{carve, crossing, finish, open, points, take, Opening};
+use crate::file::Layer;
+use crate::grid::{Record, Refused, Sides};
+use crate::local::Local;
+use crate::machine::{Carving, Opening, Points};
 use crate::words::{Mistake, Words};
 use std::io::{BufRead, Write};
 
-/// What a script works on.
+/// The calls that a script makes. They are a table, so that it can be replayed over other implementations too (tests/mutants).
+#[derive(Clone, Copy)]
+#[allow(clippy::type_complexity)] // each type says what its call takes and answers
+pub struct Calls {
+    pub begin: fn(Sides, u16, &[i32], &[u8], &mut [i32], &mut [u8]) -> Result<Record, Refused>,
+    pub carve: fn(&mut Record, &[i32], &[u8], &mut [u8], u64) -> Result<Carving, Refused>,
+    pub take: fn(&mut Record, &[i32], &[u8], &mut [u8], u64) -> Result<Local, Refused>,
+    pub open: fn(&mut Record, &[i32], &[u8], &mut [u8]) -> Result<Opening, Refused>,
+    pub finish: fn(&mut Record, &mut [i32], &[u8]) -> Result<(), Refused>,
+    pub crossing: fn(&Record, &[i32], &[u8], u64, u64) -> Result<Option<[f64; 3]>, Refused>,
+    pub points: fn(&Record, &[i32], &[u8], u64, &mut [f64]) -> Result<Points, Refused>,
+    pub local_test: fn(&[bool; 27]) -> Local,
+    pub layer: fn(&Sides, &[u8], u64) -> Result<Layer, Refused>,
+    pub read: fn(&[u8], &mut [i32], u64) -> Result<(Sides, u16), Refused>,
+    pub write: fn(&Sides, u16, &[i32], &mut [u8]) -> Result<usize, Refused>,
+    pub program_line: fn(&[u8]) -> String,
+}
+
+/// What a script works on, and the calls that it makes.
 pub struct Replay {
+    calls: Calls,
     pub sides: Sides,
     pub t: u16,
     pub values: Vec<i32>,
@@ -77,8 +96,8 @@ fn sides_from(words: &mut Words) -> Result<Sides, Mistake> {
 }
 
 /// Replays a script; an error says which line is not of the language, or that no more can be written.
-pub fn replay(script: impl BufRead, mut answers: impl Write) -> Result<(), Mistake> {
-    let mut state = Replay::new();
+pub fn replay(calls: Calls, script: impl BufRead, mut answers: impl Write) -> Result<(), Mistake> {
+    let mut state = Replay::new(calls);
     for (i, line) in script.split(b'\n').enumerate() {
         let line = line.map_err(|wrong| format!("the script cannot be read: {wrong}"))?;
         let line = std::str::from_utf8(&line).map_err(|_| format!("line {}: not text", i + 1))?;
@@ -90,8 +109,8 @@ pub fn replay(script: impl BufRead, mut answers: impl Write) -> Result<(), Mista
 }
 
 /// Replays standard input; the status is 2 where that ends early.
-pub fn standard_input() -> std::process::ExitCode {
-    match replay(std::io::stdin().lock(), std::io::BufWriter::new(std::io::stdout().lock())) {
+pub fn standard_input(calls: Calls) -> std::process::ExitCode {
+    match replay(calls, std::io::stdin().lock(), std::io::BufWriter::new(std::io::stdout().lock())) {
         Ok(()) => std::process::ExitCode::SUCCESS,
         Err(wrong) => {
             eprintln!("reference: {wrong}");
@@ -101,11 +120,11 @@ pub fn standard_input() -> std::process::ExitCode {
 }
 
 impl Replay {
-    pub fn new() -> Self {
+    pub fn new(calls: Calls) -> Self {
         let sides = Sides { a: 3, b: 3, c: 3 };
         let record = Record { sides, t: 0, openings: 0, removals: 0, examinations: 0, euler: 1, finished: 0 };
         let (values, dist, marks, status, file) = (vec![], vec![], vec![], vec![], vec![]);
-        let mut new = Replay { sides, t: 0, values, dist, marks, status, file, record, hash_after_each: false };
+        let mut new = Replay { calls, sides, t: 0, values, dist, marks, status, file, record, hash_after_each: false };
         new.make_buffers();
         new
     }
@@ -166,7 +185,7 @@ impl Replay {
             "hash" => return Ok(Some(self.hashes())),
             "dump" => return self.dump(words.word()?).map(Some),
             "showfile" => return Ok(Some(self.file.iter().map(|b| format!("{b:02X}")).collect())),
-            "program" => return Ok(Some(program_line(&self.file))),
+            "program" => return Ok(Some((self.calls.program_line)(&self.file))),
             _ => {
                 let answer = match command {
                     "points" => self.points(words)?,
@@ -205,7 +224,7 @@ impl Replay {
     fn points(&self, words: &mut Words) -> Result<String, Mistake> {
         let (position, capacity): (u64, usize) = (words.number()?, length(words)?);
         let mut out = vec![f64::from_bits(0x5A5A_5A5A_5A5A_5A5A); capacity];
-        let answer = match points(&self.record, &self.dist, &self.status, position, &mut out) {
+        let answer = match (self.calls.points)(&self.record, &self.dist, &self.status, position, &mut out) {
             Ok(all) => format!("ok count {} next {}", all.count, all.next),
             Err(number) => format!("refused {number}"),
         };
@@ -215,7 +234,7 @@ impl Replay {
     /// Lends a buffer likewise; its first bytes are the file from then on, unless the call is refused.
     fn write(&mut self, words: &mut Words) -> Result<String, Mistake> {
         let mut lent = vec![0xA5; length(words)?];
-        let answer = match write(&self.sides, self.t, &self.values, &mut lent) {
+        let answer = match (self.calls.write)(&self.sides, self.t, &self.values, &mut lent) {
             Ok(length) => {
                 self.file = lent[..length].to_vec();
                 format!("ok length {length}")
@@ -226,49 +245,42 @@ impl Replay {
     }
 
     fn call(&mut self, name: &str, words: &mut Words) -> Result<Result<String, Refused>, Mistake> {
-        let Replay { record: r, dist, marks, status, .. } = self;
+        let Replay { calls, record: r, dist, marks, status, .. } = self;
         Ok(match name {
-            "begin" => begin(self.sides, self.t, &self.values, marks, dist, status).map(|new| {
+            "begin" => (calls.begin)(self.sides, self.t, &self.values, marks, dist, status).map(|new| {
                 self.record = new;
                 shown(&new)
             }),
-            "carve" => carve(r, dist, marks, status, words.number::<u32>()?.into()).map(|c| {
+            "carve" => (calls.carve)(r, dist, marks, status, words.number::<u32>()?.into()).map(|c| {
                 let pending = u8::from(c.pending);
                 format!("examined {} removed {} pending {pending} face {} | {}", c.examined, c.removed, c.face, shown(r))
             }),
-            "take" => {
-                take(r, dist, marks, status, words.number()?).map(|t| format!("gone k {} m {} face {} | {}", t.k, t.m, t.face, shown(r)))
-            }
-            "open" => open(r, dist, marks, status)
+            "take" => (calls.take)(r, dist, marks, status, words.number()?)
+                .map(|t| format!("gone k {} m {} face {} | {}", t.k, t.m, t.face, shown(r))),
+            "open" => (calls.open)(r, dist, marks, status)
                 .map(|Opening { index, local }| format!("opened {index} k {} m {} face {} | {}", local.k, local.m, local.face, shown(r))),
-            "finish" => finish(r, dist, status).map(|()| shown(r)),
+            "finish" => (calls.finish)(r, dist, status).map(|()| shown(r)),
             "crossing" => {
                 let (index, axis) = (words.number()?, words.number::<u32>()?);
                 let bits = |p: [f64; 3]| p.map(|v| format!("{:016x}", v.to_bits())).join(" ");
-                crossing(r, dist, status, index, axis.into())
+                (calls.crossing)(r, dist, status, index, axis.into())
                     .map(|point| point.map_or("none".to_string(), |p| format!("point {}", bits(p))))
             }
             "local" => {
                 let bits = words.bits()?;
-                let t = local_test(&std::array::from_fn(|p| bits >> p & 1 == 1));
+                let t = (calls.local_test)(&std::array::from_fn(|p| bits >> p & 1 == 1));
                 Ok(format!("k {} m {} corners {} edges {} faces {} face {}", t.k, t.m, t.corners, t.edges, t.faces, t.face))
             }
-            "readlayer" => layer(&self.sides, &self.file, words.number()?).map(|l| {
+            "readlayer" => (calls.layer)(&self.sides, &self.file, words.number()?).map(|l| {
                 let bytes = self.file[l.from..l.to].iter().copied();
                 format!("z {} width {} from {} to {} bytes {}", l.z, l.width, l.from, l.to, fnv(bytes))
             }),
-            "read" => read(&self.file, &mut self.values, 64).map(|(sides, t)| {
+            "read" => (calls.read)(&self.file, &mut self.values, 64).map(|(sides, t)| {
                 (self.sides, self.t) = (sides, t);
                 format!("sides {} {} {} T {t}", sides.a, sides.b, sides.c)
             }),
             other => return Err(format!("unknown command: {other}")),
         })
-    }
-}
-
-impl Default for Replay {
-    fn default() -> Self {
-        Self::new()
     }
 }
 

@@ -1,11 +1,12 @@
 //! Document 01's worked cases A, C and D.
 
+use reference::calls::REFERENCE;
 use reference::file::{program_line, write};
 use reference::grid::Sides;
 use reference::replay::Replay;
 
 fn run(script: &str) -> Vec<String> {
-    let mut replay = Replay::new();
+    let mut replay = Replay::new(REFERENCE);
     script.lines().filter_map(|l| replay.line(l).expect("a valid script")).collect()
 }
 

@@ -2,6 +2,7 @@
 //! line and command, with what the script is for, and with what to run to see it.
 
 use crate::progress::Progress;
+use reference::calls::REFERENCE;
 use reference::replay::Replay;
 use std::collections::BTreeMap;
 use std::io::{BufRead, BufReader, Write};
@@ -38,7 +39,7 @@ pub fn bears_on_the_file(command: &str) -> bool {
 
 /// The reference's lines for a script, or what it does not take.
 pub fn reference_lines(script: &str) -> Result<Vec<String>, String> {
-    let mut replay = Replay::new();
+    let mut replay = Replay::new(REFERENCE);
     let mut lines = Vec::new();
     for command in script.lines() {
         lines.extend(replay.line(command).map_err(|wrong| format!("the reference does not take {command:?}: {wrong}"))?);

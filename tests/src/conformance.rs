@@ -3,6 +3,7 @@
 use crate::compare::prints;
 use crate::demands::{list, marked::Begun, worked_case, Before};
 use crate::scripts::{cases, conformance, language::MISTAKES, SEEDED, WRITTEN};
+use reference::calls::REFERENCE;
 use reference::replay::Replay;
 use std::collections::BTreeMap;
 use std::path::Path;
@@ -33,7 +34,7 @@ impl Made {
 
     fn kind(&mut self, kind: &str) -> Result<(), String> {
         let scripts = conformance(kind);
-        let (mut state, mut begun) = (Replay::new(), Begun::default());
+        let (mut state, mut begun) = (Replay::new(REFERENCE), Begun::default());
         let mut answers = String::new();
         for (i, script) in scripts.iter().enumerate() {
             let case = cases::SCRIPTS.get(i).filter(|_| kind == "cases").map(|(name, _)| *name);
@@ -115,7 +116,7 @@ mod tests {
 
     #[test]
     fn an_answer_out_of_the_order_of_checks_is_told() {
-        let mut state = Replay::new();
+        let mut state = Replay::new(REFERENCE);
         state.line("rawsides 2 3 3").expect("a line of the language");
         let entries = |answer: &str| Before::of(&state, "begin").entries(answer);
         assert!(entries("begin refused 1").is_ok_and(|met| met.contains(&"begin: 1 before 2".to_string())));
@@ -127,7 +128,7 @@ mod tests {
     fn an_answer_for_a_later_patch_is_told() {
         let layers = file_of(&Grid { sides: [3, 3, 3], allowed: 0, values: vec![6; 27] }, &[0, 1, 2]);
         let patches = [patch(0, 1), patch(27, 1), vec![0; 8]].concat();
-        let mut state = Replay::new();
+        let mut state = Replay::new(REFERENCE);
         state.line(&format!("file {}{}", hex(&layers), hex(&patches))).expect("a line of the language");
         let entries = |answer: &str| Before::of(&state, "read").entries(answer);
         assert!(entries("read refused 5").is_ok_and(|met| met.contains(&"read: 5 before a later record's patch 22".to_string())));
@@ -146,7 +147,7 @@ mod tests {
             ([0, 0, 3, 2], "24", "read: 24 before a later record's 27"),
         ];
         for (order, number, met) in all {
-            let mut state = Replay::new();
+            let mut state = Replay::new(REFERENCE);
             for line in ["sides 3 3 4".to_string(), format!("file {}", hex(&file_of(&grid, &order)))] {
                 state.line(&line).expect("a line of the language");
             }
@@ -171,7 +172,7 @@ mod tests {
             ([&file[..], &patch(13, 6)].concat(), "28", "read refused: 28, a patch to that voxel behind"),
         ];
         for (file, number, met) in all {
-            let mut state = Replay::new();
+            let mut state = Replay::new(REFERENCE);
             state.line(&format!("file {}", hex(&file))).expect("a line of the language");
             let entries = |answer: &str| Before::of(&state, "read").entries(answer);
             assert!(entries(&format!("read refused {number}")).is_ok_and(|all| all.contains(&met.to_string())), "{met}");
@@ -194,7 +195,7 @@ mod tests {
             ("marks fill 9", "begin", "29", "begin refused: 29, at two voxels or more"),
         ];
         for (line, call, number, met) in all {
-            let mut state = Replay::new();
+            let mut state = Replay::new(REFERENCE);
             for line in pair.into_iter().chain([line]) {
                 state.line(line).expect("a line of the language");
             }
@@ -212,7 +213,8 @@ mod tests {
     #[test]
     fn a_mark_of_3_that_changed_since_begin_is_told() {
         let met = |lines: &[&str]| {
-            let (mut made, mut state, mut begun) = (Made { files: Vec::new(), met: BTreeMap::new() }, Replay::new(), Begun::default());
+            let (mut made, mut state, mut begun) =
+                (Made { files: Vec::new(), met: BTreeMap::new() }, Replay::new(REFERENCE), Begun::default());
             for line in ["sides 4 4 3", "values fill 6", "values set 21 -6", "values set 26 -6"].iter().chain(lines) {
                 made.line(&mut state, &mut begun, line, None).expect("a line of the language");
             }
@@ -243,7 +245,7 @@ mod tests {
             ("take 22", "take ok gone k 1 m 1 face", 1, "take: a lower face covered by a voxel of S"),
             ("local 15410", "local ok k 1 m 1 corners 8 edges 12 faces 5 face", 5, "local: one face is bare"),
         ];
-        let mut state = Replay::new();
+        let mut state = Replay::new(REFERENCE);
         for line in pair {
             state.line(line).expect("a line of the language");
         }
@@ -261,7 +263,7 @@ mod tests {
     #[test]
     fn the_length_for_the_width_is_told() {
         for (value, length) in [(32_767, 70), (32_768, 124), (-32_768, 124), (MISSING, 70)] {
-            let mut state = Replay::new();
+            let mut state = Replay::new(REFERENCE);
             state.line(&format!("values set 3 {value}")).expect("a line of the language");
             let met = |lent: usize, answer: &str| Before::of(&state, &format!("write {lent}")).entries(answer).is_ok();
             assert!(met(length, "write ok length") && !met(length, "write refused 26"), "{value}");

@@ -5,6 +5,7 @@ use crate::compare::{bears_on_the_file, read_kind, reference_lines, Script};
 use crate::conformance::kinds;
 use crate::files::{file, hex, layer, long_file, patched_file, walled_file, wide_file};
 use crate::records::{contents, written_width};
+use reference::calls::REFERENCE;
 use reference::file::read;
 use reference::grid::Sides;
 use reference::replay::Replay;
@@ -23,7 +24,7 @@ fn of_scripts(folder: &Path) -> Result<Vec<Named>, String> {
     let mut found = Vec::new();
     for kind in kinds() {
         for script in read_kind(folder, kind)? {
-            let mut state = Replay::new();
+            let mut state = Replay::new(REFERENCE);
             for command in script.text.lines().filter(|command| bears_on_the_file(command)) {
                 state.line(command)?;
                 found.push((script.name.clone(), state.file.clone()));

@@ -12,6 +12,7 @@
 //!        fuzz script KIND SEED GREATEST           prints the script of a seed, on grids up to a greatest side
 //!        fuzz blocks REPLAY [FIRST COUNT]         the local test on blocks; on all 2^26 if no others are named
 
+use reference::calls::REFERENCE;
 use reference::replay::Replay;
 use std::collections::BTreeMap;
 use std::path::Path;
@@ -150,7 +151,7 @@ fn program_lines(program: &str, folder: &Path) -> Same {
     let (mut files, mut differ) = (0, 0);
     for kind in kinds() {
         for script in read_kind(folder, kind)? {
-            let mut state = Replay::new();
+            let mut state = Replay::new(REFERENCE);
             let mut answers = script.answers.iter();
             for command in script.text.lines() {
                 let wanted = prints(command).then(|| answers.next()).flatten();
