@@ -136,7 +136,8 @@ testCheck i g = 12 when not (passes (testAt (g .rec .sides) (g .status) i))
 
 pub record WrongTakes : Type 0 where
   pub index-before-finished :
-      OtherTakeChecks (λ m i g. stateChecks g ++ (indexCheck i g ∷ markCheck m ∷ workCheck g ∷ goneCheck i g ∷ insideCheck i g ∷ pinCheck m i ∷ testCheck i g ∷ []))
+      OtherTakeChecks (λ m i g. stateChecks g
+      ++ (indexCheck i g ∷ markCheck m ∷ workCheck g ∷ goneCheck i g ∷ insideCheck i g ∷ pinCheck m i ∷ testCheck i g ∷ []))
   pub gone-before-index : OtherTakeChecks (λ m i g. markedChecks m g ++ (goneCheck i g ∷ indexCheck i g ∷ insideCheck i g ∷ pinCheck m i ∷ testCheck i g ∷ []))
   pub pin-before-gone : OtherTakeChecks (λ m i g. markedChecks m g ++ (indexCheck i g ∷ pinCheck m i ∷ goneCheck i g ∷ insideCheck i g ∷ testCheck i g ∷ []))
   pub pin-before-inside : OtherTakeChecks (λ m i g. markedChecks m g ++ (indexCheck i g ∷ goneCheck i g ∷ pinCheck m i ∷ insideCheck i g ∷ testCheck i g ∷ []))
