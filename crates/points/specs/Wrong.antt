@@ -1,11 +1,11 @@
 -- Lists of points by another rule, each told from ours by case A. proofs/Wrong.antt shows it by computation.
 use mathlib.Core.Path.{_≡_}
-use mathlib.Core.List.{List, [], _∷_, _++_}
+use mathlib.Core.List.{[], _∷_, _++_}
 use mathlib.Core.Option.{Option, none, some}
 use Prim.Native.Nat.{ℕ, zero, suc, _*_}
 use lib.Dec.{leb, ltb}
 use Rattle.rules.specs.Grid.{size}
-use Rattle.rules.specs.Checks.{Check, _when_, firstFailing}
+use Rattle.rules.specs.Checks.{_when_, firstFailing}
 use Rattle.rules.specs.Machine.{State, stateChecks, finishedChecks}
 use Rattle.surface.specs.declared.Point.{Point}
 use Rattle.points.specs.Listing.{Walk, walk, pointAt, pointsChecks}

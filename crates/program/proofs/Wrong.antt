@@ -9,7 +9,7 @@ use Rattle.rules.specs.Marks.{noMarks}
 use Rattle.rules.specs.Machine.{State}
 use Rattle.format.specs.Examples.File.{header}
 use Rattle.text.specs.Line.{Line, refusedLine, carvedLine}
-use Rattle.program.specs.Program.{fileLine, programLine}
+use Rattle.program.specs.Program.{fileLine}
 use Rattle.program.specs.Wrong.{lateFor, WrongPrograms}
 use Rattle.program.proofs.Examples.{whole-program, too-long}
 

@@ -2,7 +2,7 @@
 use mathlib.Core.Path.{_≡_, refl, ap, sym, _∙_, subst}
 use mathlib.Core.Bool.{Bool, true, false}
 use mathlib.Core.List.{List, [], _∷_, _++_}
-use Prim.Native.Nat.{ℕ, _*_, _≤_, _<_}
+use Prim.Native.Nat.{ℕ, _<_}
 use native.Mathlib.Omega.{arith}
 use lib.IntN.{ℤ, pos}
 use Rattle.rules.specs.declared.Sides.{Sides}
@@ -14,7 +14,7 @@ use Rattle.rules.specs.Begin.{isIn, inside, inBox, worked, startStatus, 
 use Rattle.rules.specs.Status.{isPending, testAt, anyPending}
 use Rattle.rules.specs.Machine.{State, state, isInside}
 use Rattle.rules.specs.Marks.{Marked, marked}
-use Rattle.rules.specs.Demand.{Call, carveUpTo, takeAt, openOne, finishIt, Lends, AllLend, Unchanged, Sums, call, run, Demand}
+use Rattle.rules.specs.Demand.{Call, carveUpTo, takeAt, openOne, finishIt, Lends, AllLend, Unchanged, call, run, Demand}
 use Rattle.rules.specs.Demand.{DemandIsMet}
 use Rattle.rules.specs.Meaning.{found}
 use Rattle.rules.proofs.Checks.{by-checks}

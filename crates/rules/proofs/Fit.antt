@@ -11,7 +11,6 @@ use lib.Dec.{eqb, ltb}
 use lib.IntN.{ℤ, pos}
 use lib.ListN.{length, List·getD-eq-default}
 use Rattle.cells.specs.Groups.{any}
-use Rattle.cells.specs.Cells.{passes}
 use Rattle.prelude.proofs.Bools.{and-true, true-and, or-true, or-false, not-false, not-both, two}
 use Rattle.prelude.proofs.Lists.{none-at}
 use Rattle.rules.specs.declared.Sides.{Sides}

@@ -18,17 +18,17 @@ use Rattle.prelude.proofs.Ranges.{getD-map-range, length-map-range, none-below}
 use Rattle.prelude.proofs.Integers.{difference-size, sum-size}
 use Rattle.rules.specs.declared.Sides.{Sides}
 use Rattle.rules.specs.Grid.{size, range, voxel, voxels, onBorder, neighbourhood, isNegative, distanceAt}
-use Rattle.rules.specs.Checks.{_when_, AllHold}
+use Rattle.rules.specs.Checks.{AllHold}
 use Rattle.rules.specs.Answer.{Outcome, Buffers, untouched, Carving}
 use Rattle.rules.specs.Fill.{filled}
 use Rattle.rules.specs.Begin.{exposed, isIn, inside, inBox, greatestFacing, workedAt, worked, waitsFirst, statusAt, startStatus, newRecord}
 use Rattle.rules.specs.Meaning.{found}
-use Rattle.rules.specs.Status.{Progress, statusOf, keptByte, pendingByte, isKept, isPending, anyPending, testAt, removable, openable, carving}
+use Rattle.rules.specs.Status.{statusOf, keptByte, pendingByte, isKept, isPending, anyPending, testAt, removable, openable, carving}
 use Rattle.rules.specs.Marks.{Marked, marked, strayMark}
-use Rattle.rules.specs.Machine.{State, after, lentTo, isInside, outside, mayGo, farther, sooner, count, stateChecks, markedChecks, takeChecks, openChecks}
-use Rattle.rules.specs.Machine.{finishChecks, carved, carve, taken, take, toOpen, isNone, theVoxel, opened, openNext, closed, closedAt, asFinished}
+use Rattle.rules.specs.Machine.{State, after, lentTo, isInside, outside, mayGo, farther, sooner, stateChecks, markedChecks, takeChecks, openChecks}
+use Rattle.rules.specs.Machine.{finishChecks, carved, carve, taken, take, toOpen, isNone, theVoxel, opened, openNext, closed, closedAt}
 use Rattle.rules.specs.Machine.{finishedOf, finish}
-use Rattle.rules.specs.Fit.{Lent, Known, FitVoxels, FitState, Working, Marking, Takeable, Quiet, Openable}
+use Rattle.rules.specs.Fit.{Lent, Known, FitVoxels, FitState, Marking, Openable}
 use Rattle.rules.specs.Demand.{Call, carveUpTo, takeAt, openOne, finishIt, AllLend, call, run, NeverUnfit, CarveEnds}
 use Rattle.rules.proofs.Checks.{by-checks, unless-held}
 use Rattle.rules.proofs.Foremost.{farther-order, sooner-order, first-foremost}

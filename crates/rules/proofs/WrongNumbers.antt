@@ -10,9 +10,9 @@ use Rattle.rules.specs.declared.Record.{Record}
 use Rattle.rules.specs.Checks.{firstFailing}
 use Rattle.rules.specs.Marks.{noMarks}
 use Rattle.rules.specs.Begin.{newRecord}
-use Rattle.rules.specs.Machine.{State, state, count, asFinished}
+use Rattle.rules.specs.Machine.{State, state, count, asFinished, unfitCounts}
 use Rattle.rules.specs.Cases.{sides, caseD, with, carvedTo, bar, cube, markAt, markD}
-use Rattle.rules.specs.WrongNumbers.{WrongBegins, WrongStates, WrongFits, WrongTakes, WrongOpens}
+use Rattle.rules.specs.WrongNumbers.{WrongBegins, WrongStates, WrongFits, WrongTakes, WrongOpens, OwnChecks}
 use Rattle.rules.proofs.Cases.{all-rules}
 
 -- ---- begin, on 27 voxels
@@ -111,4 +111,17 @@ wrong-opens =
       none-before-allowed = λ h. let z : _≡_ {A = ℕ} 14 15 = h (noMarks (sides 4 4 3)) (carvedTo 9 caseD) in omega arith;
       claims-15 = λ h. let z : _≡_ {A = ℕ} 0 15 = h (noMarks (sides 5 3 3)) (carvedTo 9 (bar (replicate 45 (pos 1)))) in omega arith;
       closes-while-pending = λ h. let z : _≡_ {A = ℕ} 13 0 = h caseD in omega arith;
+    }
+
+-- ---- the rule's own parts
+
+pub own-checks : OwnChecks
+unfolding unfitCounts
+own-checks =
+    record {
+      begins = λ s v m d t. refl;
+      marks = λ m g. refl;
+      counts = λ r. refl;
+      takes = λ m i g. refl;
+      opens = λ m g. refl;
     }

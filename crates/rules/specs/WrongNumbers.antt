@@ -18,7 +18,7 @@ use Rattle.rules.specs.Marks.{marked, strayMark, wrongMarks}
 use Rattle.rules.specs.Begin.{beginChecks}
 use Rattle.rules.specs.Status.{statusOf, isKept, anyPending, testAt}
 use Rattle.rules.specs.Machine.{State, isInside, mayGo, unfitCounts, unfitVoxel, unfit, wrongLength, stateChecks, workingChecks, markedChecks}
-use Rattle.rules.specs.Machine.{takeChecks, toOpen, isNone, openChecks, quietChecks, finishChecks}
+use Rattle.rules.specs.Machine.{takeChecks, toOpen, isNone, openChecks, finishChecks}
 
 -- ---- begin: 1, 2, 28, 29, 3, 4
 
@@ -168,3 +168,14 @@ pub record WrongOpens : Type 0 where
   pub claims-15 : OtherOpenChecks (λ m g. markedChecks m g ++ (pendingCheck g ∷ allowedCheck g ∷ 15 when not (g .rec .finished) ∷ []))
   -- finish closes while a voxel is pending
   pub closes-while-pending : ((g : State) → firstFailing (finishChecks g) ≡ firstFailing (workingChecks g)) → ⊥
+
+-- ---- by their own parts, in their own order, the checks are the rule's: a wrong one differs in what its clause says
+
+pub record OwnChecks : Type 0 where
+  pub begins : (s : Sides) (v : List ℤ) (m : List ℕ) (d : List ℤ) (t : List ℕ)
+      → beginChecks s v m d t ≡ sideCheck s ∷ beginLengths s v m d t ∷ rangeCheck v ∷ markCheck m ∷ bodyChecks s v
+  pub marks : (m : List ℕ) (g : State) → markedChecks m g ≡ stateSide g ∷ lengths m g ∷ fitCheck g ∷ markCheck m ∷ workCheck g ∷ []
+  pub counts : (r : Record) → unfitCounts r ≡ countsBy ltb ltb ltb ltb r
+  pub takes : (m : List ℕ) (i : ℕ) (g : State)
+      → takeChecks m i g ≡ markedChecks m g ++ (indexCheck i g ∷ goneCheck i g ∷ insideCheck i g ∷ pinCheck m i ∷ testCheck i g ∷ [])
+  pub opens : (m : List ℕ) (g : State) → openChecks m g ≡ markedChecks m g ++ (pendingCheck g ∷ allowedCheck g ∷ noneCheck m g ∷ [])

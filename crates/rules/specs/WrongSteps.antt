@@ -5,8 +5,8 @@ use mathlib.Core.List.{List, [], _∷_, map}
 use mathlib.Core.Option.{Option, none, some}
 use Prim.Native.Nat.{ℕ, zero, suc}
 use lib.Dec.{ltb, eqb}
-use lib.ListN.{length, set}
-use lib.IntN.{ℤ, pos}
+use lib.ListN.{length}
+use lib.IntN.{ℤ}
 use Rattle.cells.specs.Groups.{filter, groups}
 use Rattle.cells.specs.Cells.{passes}
 use Rattle.rules.specs.declared.Sides.{Sides}
@@ -14,7 +14,7 @@ use Rattle.rules.specs.Value.{missing}
 use Rattle.rules.specs.Grid.{size, voxels, touch, shareFace, measuredNonNegative, amount, valueAt}
 use Rattle.rules.specs.Answer.{done, Carving, Opening}
 use Rattle.rules.specs.Fill.{enclosedGaps, inSome, filled}
-use Rattle.rules.specs.Marks.{Marked, marked}
+use Rattle.rules.specs.Marks.{marked}
 use Rattle.rules.specs.Begin.{least, greatest, negatives, inside, facing, greatestFacing, distance, exposed}
 use Rattle.rules.specs.Status.{statusOf, woken, isKept, isPending, testAt, foremost, firstOf, removable, without, goes, examine, openable}
 use Rattle.rules.specs.Machine.{State, mayGo, sooner, carve, toOpen, openNext, after}
