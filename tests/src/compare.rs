@@ -1,6 +1,7 @@
 //! A replay tool's lines against the wanted ones: every difference is counted, by kind and by call, and the first of each script is reported with its
 //! line and command, with what the script is for, and with what to run to see it.
 
+use crate::processor::{outlasts, PATIENCE};
 use crate::progress::Progress;
 use reference::calls::REFERENCE;
 use reference::replay::Replay;
@@ -9,7 +10,6 @@ use std::io::{BufRead, BufReader, Write};
 use std::path::Path;
 use std::process::{Command, Stdio};
 use std::sync::{mpsc, Mutex};
-use std::time::Duration;
 
 /// A script with the lines that it must print.
 pub struct Script {
@@ -58,9 +58,6 @@ pub struct Run {
     pub status: Option<i32>,
 }
 
-/// How long a tool may take for one run: far more than any needs.
-const PATIENCE: Duration = Duration::from_secs(60);
-
 impl Tool {
     /// From words with blanks between, such as `reference replay`.
     pub fn named(words: &str) -> Self {
@@ -98,6 +95,7 @@ impl Tool {
         let [program, arguments @ ..] = &self.0[..] else { return Err("no replay tool is named".to_string()) };
         let child = Command::new(program).args(arguments).stdin(Stdio::piped()).stdout(Stdio::piped()).stderr(Stdio::piped()).spawn();
         let mut child = child.map_err(|wrong| format!("{program} does not start: {wrong}"))?;
+        let number = child.id();
         let (input, said, told) = (child.stdin.take(), child.stdout.take(), child.stderr.take());
         let child = Mutex::new(child);
         let stop = || child.lock().map(|mut child| child.kill());
@@ -106,10 +104,7 @@ impl Tool {
             scope.spawn(move || input.map(|mut input| input.write_all(script.as_bytes())));
             let told = scope.spawn(|| told.map(std::io::read_to_string));
             let (done, waiting) = mpsc::channel::<()>();
-            let watch = scope.spawn(move || {
-                let late = waiting.recv_timeout(PATIENCE) == Err(mpsc::RecvTimeoutError::Timeout);
-                late.then(stop).is_some()
-            });
+            let watch = scope.spawn(move || outlasts(number, &waiting).then(stop).is_some());
             let lines = said.into_iter().flat_map(|said| BufReader::new(said).split(b'\n')).map_while(Result::ok);
             let enough = lines.map(|line| String::from_utf8_lossy(&line).into_owned()).any(|line| !more(line));
             drop(done);

@@ -10,6 +10,7 @@ pub mod gaps;
 pub mod grids;
 pub mod marks;
 pub mod mutants;
+pub mod processor;
 pub mod progress;
 pub mod random;
 pub mod records;
