@@ -82,12 +82,21 @@ impl Tool {
         Ok(Run { lines, wrong: end.wrong, status: end.status })
     }
 
-    /// Whether the tool prints exactly what it must for all the scripts in a row. It is stopped at the first line that differs.
+    /// Whether the tool prints exactly what it must for all the scripts in a row.
     pub fn agrees(&self, scripts: &[Script]) -> Result<bool, String> {
+        self.first_difference(&scripts.iter().collect::<Vec<_>>()).map(|differs| differs.is_none())
+    }
+
+    /// Of scripts in a row the first whose lines are not what the tool must print; the last where only its end is wrong. The tool is stopped at the
+    /// first line that differs.
+    pub fn first_difference(&self, scripts: &[&Script]) -> Result<Option<usize>, String> {
         let all: String = scripts.iter().map(|script| script.text.as_str()).collect();
-        let mut wanted = scripts.iter().flat_map(|script| &script.answers);
-        let end = self.each_line(&all, |line| wanted.next() == Some(&line))?;
-        Ok(end.wrong.is_none() && wanted.next().is_none())
+        let mut wanted = scripts.iter().enumerate().flat_map(|(i, script)| script.answers.iter().map(move |answer| (i, answer))).peekable();
+        let end = self.each_line(&all, |line| wanted.next_if(|(_, answer)| **answer == line).is_some())?;
+        match wanted.next() {
+            Some((i, _)) => Ok(Some(i)),
+            None => Ok(end.wrong.map(|_| scripts.len().saturating_sub(1))),
+        }
     }
 
     /// Runs the tool, and hands on its lines for as long as `more` wants another.
@@ -321,6 +330,19 @@ mod tests {
         assert_eq!(of(1), None);
         assert_eq!(of(3).as_deref(), Some("# first"));
         assert_eq!(of(5).as_deref(), Some("# second"));
+    }
+
+    #[test]
+    fn the_first_script_that_differs() {
+        let of = |scripts: &[Script]| echo().first_difference(&scripts.iter().collect::<Vec<_>>()).expect("cat runs");
+        let (good, bad) = (|| script("hash\nbegin\n", &["hash", "begin"]), || script("hash\nopen\n", &["hash", "begin"]));
+        assert_eq!(of(&[]), None);
+        assert_eq!(of(&[good(), good()]), None);
+        assert_eq!(of(&[good(), bad(), good(), bad()]), Some(1));
+        // a line too few, and one too many: both at the end, and before others
+        assert_eq!(of(&[good(), script("hash\n", &["hash", "begin"])]), Some(1));
+        assert_eq!(of(&[good(), script("hash\nbegin\n", &["hash"])]), Some(1));
+        assert_eq!(of(&[script("hash\n", &["hash", "begin"]), good()]), Some(0));
     }
 
     #[test]

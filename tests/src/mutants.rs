@@ -3,11 +3,13 @@
 mod build;
 mod own;
 mod patch;
+mod told;
 
-pub use build::build;
+pub use build::{build, Quick};
 pub use patch::patched;
+pub use told::{read_hints, what_is_old, write_hints, Hints, Telling};
 
-use crate::compare::{read_kind, Script, Tool};
+use crate::compare::{read_kind, Script};
 use crate::scripts::{SEEDED, WRITTEN};
 use std::path::{Path, PathBuf};
 
@@ -36,28 +38,10 @@ fn module(file: &str) -> &str {
     file.trim_end_matches(".rs")
 }
 
-/// The conformance scripts, by kind.
-pub fn given(folder: &Path) -> Result<Vec<(&'static str, Vec<Script>)>, String> {
-    WRITTEN.into_iter().chain(SEEDED).map(|kind| read_kind(folder, kind).map(|scripts| (kind, scripts))).collect()
-}
-
-/// The kinds that are likely to tell a mutant apart: those that its patch names in a line `Kinds: KIND ..`, and those that begin as its name does.
-pub fn likely_kinds(name: &str, patch: &str, given: &[(&'static str, Vec<Script>)]) -> Vec<&'static str> {
-    let told = patch.lines().take_while(|line| !line.starts_with("--- ")).find_map(|line| line.strip_prefix("Kinds: ")).unwrap_or("");
-    let named = |kind: &str| told.split_whitespace().any(|word| word == kind);
-    let alike = |kind: &str| name.len() >= 4 && kind.starts_with(&name[..4]);
-    given.iter().map(|(kind, _)| *kind).filter(|kind| named(kind) || told.is_empty() && alike(kind)).collect()
-}
-
-/// A kind of scripts on which a tool's answers are not the wanted ones; the likely ones are tried first.
-pub fn caught_by(tool: &Tool, likely: &[&str], given: &[(&'static str, Vec<Script>)]) -> Result<Option<&'static str>, String> {
-    let (first, others): (Vec<_>, Vec<_>) = given.iter().partition(|(kind, _)| likely.contains(kind));
-    for (kind, scripts) in first.into_iter().chain(others) {
-        if !tool.agrees(scripts)? {
-            return Ok(Some(kind));
-        }
-    }
-    Ok(None)
+/// All conformance scripts.
+pub fn scripts(folder: &Path) -> Result<Vec<Script>, String> {
+    let kinds: Result<Vec<_>, _> = WRITTEN.into_iter().chain(SEEDED).map(|kind| read_kind(folder, kind)).collect();
+    Ok(kinds?.into_iter().flatten().collect())
 }
 
 /// The patches of a folder, by name.

@@ -66,27 +66,31 @@ impl Watch {
     }
 }
 
-/// Where this process stood at one moment.
-pub struct Since {
-    clock: Instant,
+/// What this process spent on a part of its work, its children that have ended with it.
+#[derive(Default)]
+pub struct Spent {
+    clock: Duration,
     processor: Option<Duration>,
 }
 
-impl Since {
-    pub fn now() -> Self {
-        Since { clock: Instant::now(), processor: Self::used() }
+impl Spent {
+    /// Does some of that work.
+    pub fn on<A>(&mut self, work: impl FnOnce() -> A) -> A {
+        let used = || Process::seen("self").map(|this| this.used + this.used_by_children);
+        let (clock, before) = (Instant::now(), used());
+        let answer = work();
+        self.clock += clock.elapsed();
+        if let Some((before, now)) = before.zip(used()) {
+            self.processor = Some(self.processor.unwrap_or_default() + (now - before));
+        }
+        answer
     }
 
-    /// By this process and by its children that have ended.
-    fn used() -> Option<Duration> {
-        Process::seen("self").map(|this| this.used + this.used_by_children)
-    }
-
-    /// What has been spent since, as a line of seconds by the clock and of processor time, where that is known.
+    /// A line of the seconds by the clock, and of those of processor time where they are known.
     pub fn line(&self, what: &str) -> String {
-        let clock = format!("time: {:.0} s {what}", self.clock.elapsed().as_secs_f64());
-        match self.processor.zip(Self::used()) {
-            Some((then, now)) => format!("{clock}, {:.0} s of processor time", (now - then).as_secs_f64()),
+        let clock = format!("time: {:.0} s {what}", self.clock.as_secs_f64());
+        match self.processor {
+            Some(used) => format!("{clock}, {:.0} s of processor time", used.as_secs_f64()),
             None => clock,
         }
     }
@@ -114,6 +118,16 @@ mod tests {
         assert_eq!(Process::of_line("7 (a) R 1 7"), None);
         assert_eq!(Process::of_line(""), None);
         assert_eq!(Process::seen("self").is_some(), cfg!(target_os = "linux"));
+    }
+
+    #[test]
+    fn what_is_spent_is_a_line() {
+        let (clock, processor) = (Duration::from_millis(1600), Some(Duration::from_millis(3400)));
+        assert_eq!(Spent { clock, processor }.line("mutants run"), "time: 2 s mutants run, 3 s of processor time");
+        assert_eq!(Spent { clock, processor: None }.line("mutants run"), "time: 2 s mutants run");
+        let mut spent = Spent::default();
+        assert_eq!(spent.on(|| 7), 7);
+        assert_eq!(spent.processor.is_some(), cfg!(target_os = "linux"));
     }
 
     #[test]

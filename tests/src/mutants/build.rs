@@ -6,9 +6,16 @@ use std::collections::BTreeMap;
 use std::path::{Path, PathBuf};
 use std::process::Command;
 
+/// What is to be quick: to compile a program, as is best where it has little to do, or to run it.
+#[derive(Debug, Clone, Copy, PartialEq)]
+pub enum Quick {
+    Compiled,
+    Run,
+}
+
 /// Compiles mutants to one program in a folder, with what they share compiled once. A mutant's name as its argument makes it the replay tool of that
 /// mutant; with another it is the reference's.
-pub fn build(sources: &[Source], mutants: &[&Mutant], folder: &Path) -> Result<PathBuf, String> {
+pub fn build(sources: &[Source], mutants: &[&Mutant], quick: Quick, folder: &Path) -> Result<PathBuf, String> {
     let mut modules: BTreeMap<&str, String> = BTreeMap::new();
     let mut choices = String::new();
     for (k, (name, mutant)) in mutants.iter().enumerate() {
@@ -30,7 +37,7 @@ pub fn build(sources: &[Source], mutants: &[&Mutant], folder: &Path) -> Result<P
         write(file, format!("{text}\npub mod mutants {{\n{mutants}}}\n"))?;
     }
     write("main.rs", main_text(sources, &choices))?;
-    compile(folder)
+    compile(folder, quick)
 }
 
 /// A module of a mutant stands within the shared one, where all that this has is to be seen, and its own items come before those.
@@ -54,12 +61,16 @@ fn main_text(sources: &[Source], choices: &str) -> String {
 }
 
 /// Sums wrap, so that a mutant is caught by what it answers and not by a check of the compiler's.
-fn compile(folder: &Path) -> Result<PathBuf, String> {
+fn compile(folder: &Path, quick: Quick) -> Result<PathBuf, String> {
     let program = folder.join("replay");
     let options = ["--edition", "2021", "--crate-name", "replay", "-A", "warnings", "--error-format", "short"];
+    let level = match quick {
+        Quick::Compiled => "opt-level=0",
+        Quick::Run => "opt-level=2",
+    };
     let codegen = [
         "-C",
-        "opt-level=0",
+        level,
         "-C",
         "codegen-units=1",
         "-C",
