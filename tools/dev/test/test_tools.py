@@ -178,10 +178,13 @@ class Tools(unittest.TestCase):
 
     def test_costs(self):
         times = "crate low 8\ncrate high 2\nedit low/third 5\nedit low/whole 4\nedits: 2, 9 seconds in all\n"
-        file = self.write("target/gate-times", "seconds: 9 in all\n" + times)
+        steps = "step unit 7\nstep scripts 30\ngrading compiled 20 35\ngrading run 9 \n"
+        file = self.write("target/gate-times", "seconds: 9 in all\n" + steps + times)
         printed = self.tool("costs", status=1)
         for said in ("crates: 2, 10 s in all", "edits: 2, 9 s in all", "low 2 (9 s)"):
             self.assertIn(said, printed)
+        self.assertIn("steps of tests/run: 2, 37 s in all\n    30 s scripts\n     7 s unit\n", printed)
+        self.assertIn("wrong implementations compiled: 20 s, 35 s of processor time\nwrong implementations run: 9 s\n", printed)
         self.assertIn("  low: 8 s, edits of code: 2\n  low: edits at one place: third, whole\n", printed)
         self.write("crates/low/must-fail/one.edit", "file: src/lib.rt\nold: 1\nnew: 2\n")
         log = "library x: modules loaded=900 checked=0\nlibrary y: modules loaded=101 checked=0\nrt: low proved (6 s)\n"
