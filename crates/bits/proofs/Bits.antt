@@ -1,13 +1,13 @@
 -- Laws of `bits` and `has`: what the machine's operations on bits do to sets of small numbers.
 use mathlib.Core.Path.{_≡_, refl, sym, ap, ap₂, _∙_, subst}
-use mathlib.Core.Bool.{Bool, true, false, not, _&&_, _||_}
+use mathlib.Core.Bool.{Bool, true, false, not, _&&_, _||_, true≢false}
 use mathlib.Core.List.{List, [], _∷_}
 use Prim.Native.Nat.{ℕ, zero, suc, _+_, _-_, _*_, _/_, _%_, _^_, _≤_, _<_, min, max}
 use native.Mathlib.Nat.{add-zero, zero-add, suc-add, add-suc, mul-assoc, pow-suc, div-one, le-of-suc-le-suc, not-suc-le-zero, lt-of-le-of-lt}
 use native.Mathlib.Omega.{arith}
 use lib.Dec.{eqb, leb, lit<}
 use lib.Arith.{digits-div, digits-mod, digits-lt}
-use lib.Pow.{shr-shr, shl-shr, shl-exact, pow-add}
+use lib.Pow.{shr-shr, shl-shr, shl-exact, pow-add, field, mod-mod-pow}
 use lib.Bits.{bitAnd, bitOr, bitXor, differ, and-step, or-step, xor-step, and-shr}
 use lib.Bits.{or-shr, and-zero-l, xor-zero-l, or-shifted-r, shifted-even, and-mask, and-le-r}
 use lib.Count.{ones, onesIn, ones-step}
@@ -16,7 +16,7 @@ use borrow.Author.Tests.{leb-true, leb-false}
 use Rattle.prelude.specs.Lists.{range}
 use Rattle.cells.specs.Groups.{filter, consIf}
 use Rattle.cells.specs.Cells.{bit}
-use Rattle.prelude.proofs.Bools.{and-true, and-one}
+use Rattle.prelude.proofs.Bools.{and-true, and-comm}
 use Rattle.bits.specs.Bits.{has, bits}
 
 -- ---- one digit
@@ -158,6 +158,12 @@ pub low : (x : ℕ) → bitAnd x 1 ≡ bit (has x 0)
 unfolding has
 low x = and-mask x 1 ∙ odd-bit x ∙ ap (λ (y : ℕ). bit (odd y)) (sym (div-one x))
 
+-- what a mask of n digits leaves
+pub masked : (n x mask : ℕ) → mask < 2 ^ n → bitAnd x mask ≡ bits n (λ c. has mask c && has x c)
+masked n x mask h =
+    bits-has n (bitAnd x mask) (lt-of-le-of-lt (and-le-r x mask) h)
+    ∙ bits-ext n (has (bitAnd x mask)) (λ c. has mask c && has x c) (λ c _. has-and x mask c ∙ and-comm (has x c) (has mask c))
+
 -- ---- shifts to the left
 
 shl-low : (x j c : ℕ) → c < j → has (x * 2 ^ j) c ≡ false
@@ -183,6 +189,20 @@ has-shl x j c = by-case (leb j c) refl
         let d : c ≡ j + (c - j) = omega arith in
         ap (has (x * 2 ^ j)) d ∙ shl-high x j (c - j)
     by-case false e = shl-low x j c (leb-false j c e)
+
+-- the same in a word of w digits, at a digit of the word
+pub has-mod : (x w c : ℕ) → c < w → has (x % 2 ^ w) c ≡ has x c
+unfolding has
+has-mod x w c h =
+    let d : ℕ = w - suc c in
+    let e : w ≡ suc d + c = omega arith in
+    ap (λ (v : ℕ). odd (x % 2 ^ v / 2 ^ c)) e ∙ ap odd (field x (suc d) c) ∙ ap (λ (y : ℕ). eqb y 1) (halves (x / 2 ^ c) d)
+  where
+    halves : (y d : ℕ) → y % 2 ^ suc d % 2 ≡ y % 2
+    halves y d = let e : suc d ≡ d + 1 = omega arith in ap (λ (v : ℕ). y % 2 ^ v % 2) e ∙ mod-mod-pow y d 1
+
+pub has-shl-in : (w x j c : ℕ) → c < w → has ((x * 2 ^ j) % 2 ^ w) c ≡ leb j c && has x (c - j)
+has-shl-in w x j c h = has-mod (x * 2 ^ j) w c h ∙ has-shl x j c
 
 -- ---- sets side by side
 
@@ -234,12 +254,15 @@ pub length-consIf : (b : Bool) (c : ℕ) (cs : List ℕ) → length (consIf b c 
 length-consIf true c cs = omega arith
 length-consIf false c cs = omega arith
 
+pub ones-more : (n : ℕ) (s : ℕ → Bool) → ones (bits (suc n) s) ≡ bit (s 0) + ones (bits n (next s))
+ones-more n s = ones-step (bits (suc n) s) ∙ ap₂ (λ (x y : ℕ). x + ones y) (bits-odd n s) (bits-half n s)
+
 ones-range : (k n : ℕ) (s : ℕ → Bool) → ones (bits n (λ i. s (k + i))) ≡ length (filter s (range k n))
 unfolding bits ones onesIn filter range
 ones-range k zero s = refl
 ones-range k (suc n) s =
-    ones-step (bits (suc n) (λ i. s (k + i)))
-    ∙ ap₂ (λ (x y : ℕ). x + ones y) (bits-odd n (λ i. s (k + i)) ∙ ap (λ (x : ℕ). bit (s x)) (add-zero k)) (bits-half n (λ i. s (k + i)))
+    ones-more n (λ i. s (k + i))
+    ∙ ap (λ (x : ℕ). bit (s x) + ones (bits n (λ i. s (k + suc i)))) (add-zero k)
     ∙ ap (λ (x : ℕ). bit (s k) + x)
     (ap ones (bits-ext n (λ i. s (k + suc i)) (λ i. s (suc k + i)) (λ i _. ap s (add-suc k i ∙ sym (suc-add k i)))) ∙ ones-range (suc k) n s)
     ∙ sym (length-consIf (s k) k (filter s (range (suc k) n)))
@@ -247,14 +270,23 @@ ones-range k (suc n) s =
 pub ones-bits : (n : ℕ) (s : ℕ → Bool) → ones (bits n s) ≡ length (filter s (range 0 n))
 ones-bits n s = ap ones (bits-ext n s (λ i. s (0 + i)) (λ i _. ap s (sym (zero-add i)))) ∙ ones-range 0 n s
 
--- ---- the low three digits of a byte
-
-seven : (c : ℕ) → c < 3 → has 7 c ≡ true
-unfolding has
-seven = below 3 (has 7) refl
-
-pub low-three : {r x : ℕ} → r ≡ x → bitAnd r 7 ≡ bits 3 (has x)
-low-three {r} {x} e =
-    ap (λ (y : ℕ). bitAnd y 7) e
-    ∙ bits-has 3 (bitAnd x 7) (lt-of-le-of-lt (and-le-r x 7) (lit< tt))
-    ∙ bits-ext 3 (has (bitAnd x 7)) (has x) (λ c h. has-and x 7 c ∙ ap (λ (b : Bool). has x c && b) (seven c h) ∙ and-one (has x c))
+-- a set without a part of it
+pub ones-less : (n : ℕ) (s r : ℕ → Bool) → ((c : ℕ) → c < n → r c ≡ true → s c ≡ true)
+    → ones (bits n (λ c. unlike (s c) (r c))) + ones (bits n r) ≡ ones (bits n s)
+unfolding bits ones onesIn
+ones-less zero s r h = refl
+ones-less (suc n) s r h =
+    omega (
+      arith,
+      ones-more n (λ c. unlike (s c) (r c)),
+      ones-more n r,
+      ones-more n s,
+      ones-less n (next s) (next r) (λ c l. h (suc c) (omega arith)),
+      one (s 0) (r 0) (h 0 (omega arith)),
+    )
+  where
+    one : (p q : Bool) → (q ≡ true → p ≡ true) → bit (unlike p q) + bit q ≡ bit p
+    one true true f = refl
+    one true false f = refl
+    one false true f = absurd (true≢false (sym (f refl)))
+    one false false f = refl

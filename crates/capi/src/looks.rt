@@ -13,7 +13,7 @@ ghost use Rattle.format.specs.Layer.{readLayer};
 ghost use Rattle.format.specs.Written.{write};
 ghost use Rattle.replies.specs.Reply.{returned, writtenOut};
 ghost use Rattle.replies.specs.Structs.{recordIn};
-ghost use Rattle.local_test.specs.Block.{asTest};
+ghost use Rattle.local_test.specs.Answers.{asTest};
 ghost use Rattle.look_replies.specs.Looks.{crossingStruct, pointsStruct, readStruct, layerStruct, writeStruct};
 use local_test::Local;
 use look_replies::CrossingAnswer;
@@ -82,10 +82,10 @@ pub extern "C" fn wattlerugby_write_6(
     look_replies::write_answer(writing::write(sides, allowed, values, file))
 }
 
-// The kept voxels are the bits of one number.
+// The kept voxels are the bits of one number, from which the block is made.
 #[no_mangle]
 pub extern "C" fn wattlerugby_local_test_9(kept: u32) -> Local
     ensures { λ r. ⌜ asTest r ≡ test (has kept) ⌝ }
 {
-    local_test::local_test_of(kept)
+    local_test::local_test(touched_cells::block_of(kept))
 }

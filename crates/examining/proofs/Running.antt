@@ -118,7 +118,7 @@ module _ (s : Sides) (mk : Marked) (dist : List ℤ) (limit : ℕ) (before offse
   module _ (status offsets tree : List ℕ) (examined removed last : ℕ)
       (k : Running s mk dist limit before offsets0 tree0 status offsets tree examined removed last) where
     first-is : (c : Choice) → Best mk dist status c → firstOf s (sooner mk dist) (isPending status) ≡ chosen c
-    first-is c b = sym (b .rule s (sym (k .work .body .statuses)))
+    first-is c b = sym (b .rule s (sym (k .work .body .statuses .lent)))
 
     abbrev reached : Count
     reached = record { examined = examined; removed = removed; last = last }
@@ -142,7 +142,7 @@ module _ (s : Sides) (mk : Marked) (dist : List ℤ) (limit : ℕ) (before offse
 
     module _ (i : ℕ) (b : Best mk dist status (At i)) where
       pub running-below : i < size s
-      running-below = let h = b .inside i refl in omega (arith, k .work .body .statuses)
+      running-below = let h = b .inside i refl in omega (arith, k .work .body .statuses .lent)
 
       pub running-step :
           (after offsets1 tree1 : List ℕ) (one now : ℕ)
@@ -201,5 +201,5 @@ tallied s mk dist limit before after offsets tree c p face w l r e f =
       rule = ap (λ (f : ℕ). progress (c .examined) (c .removed) f after) f ∙ r .rule;
       up-to = r .up-to;
       fewer = r .fewer;
-      left = e ∙ ap (λ (n : ℕ). any (isPending after) (range 0 n)) (l ∙ w .body .statuses);
+      left = e ∙ ap (λ (n : ℕ). any (isPending after) (range 0 n)) (l ∙ w .body .statuses .lent);
     }

@@ -1,27 +1,30 @@
 -- A body whose pending voxels are kept stays one.
-use mathlib.Core.Path.{_≡_, sym, ap, ap₂, _∙_}
+use mathlib.Core.Path.{_≡_, refl, sym, ap, ap₂, _∙_, subst}
 use mathlib.Core.Logic.{inl, inr}
 use mathlib.Core.Bool.{Bool, true, false, not, cond, _&&_}
 use mathlib.Core.List.{List}
-use Prim.Native.Nat.{ℕ, suc, _+_, _<_}
+use Prim.Native.Nat.{ℕ, suc, _+_, _-_, _/_, _%_, _≤_, _<_}
 use native.Mathlib.Omega.{arith}
-use borrow.Author.Tests.{ne-eqb}
+use native.Mathlib.Decide.{ℕ-discrete, decLt}
+use borrow.Author.Tests.{eqb-false, ne-eqb}
 use lib.Dec.{eqb, lit<}
 use lib.IntN.{ℤ}
-use lib.ListN.{length, set}
+use lib.ListN.{length, set, List·getD-eq-default}
+use lib.Seq.{getD-set-same, getD-set-other}
 use Rattle.cells.specs.Cells.{Test, test}
 use Rattle.closed_sets.proofs.EveryBlock.{test-ext}
 use Rattle.prelude.proofs.Bools.{and-true, true-and, and-one, or-true, not-both}
+use Rattle.prelude.proofs.Ranges.{getD-map-range}
 use Rattle.rules.specs.declared.Sides.{Sides}
-use Rattle.rules.specs.Grid.{size, touch, neighbourhood}
-use Rattle.rules.specs.Status.{statusOf, keptByte, pendingByte, isKept, isPending, testAt, rested, without, goes, examinedAs, examine, latest}
+use Rattle.rules.specs.Grid.{size, voxels, touch, neighbourhood}
+use Rattle.rules.specs.Status.{statusOf, keptByte, pendingByte, isKept, isPending, testAt, woken, rested, removable, statusWithout, without, goes, examinedAs, examine, latest}
 use Rattle.rules.specs.Marks.{Marked}
 use Rattle.rules.specs.Machine.{mayGo}
 use Rattle.rules.specs.Fit.{Known, FitVoxels}
 use Rattle.rules.proofs.Topology.Surface.{omit}
 use Rattle.rules.proofs.Topology.Around.{place-low}
 use Rattle.rules.proofs.Topology.Steps.{length-without, kept-without, pending-without, length-stayed, kept-stayed, pending-stayed}
-use Rattle.neighbourhood.specs.Neighbourhood.{Inner, around}
+use Rattle.neighbourhood.specs.Neighbourhood.{Inner, Few, around}
 use Rattle.neighbourhood.proofs.Interior.{around-middle, around-apart}
 use Rattle.neighbourhood.proofs.Gathering.{neighbourhood-around}
 use Rattle.neighbourhood.proofs.Bodies.{kept-inner, fit-body}
@@ -38,12 +41,47 @@ pub fit-workable : (s : Sides) (dist : List ℤ) (status : List ℕ) → FitVoxe
 unfolding isKept isPending
 fit-workable s dist status f = record { body = fit-body s status dist f; pending = λ i e. known-kept (statusOf status i) (f .known i) e }
 
+-- a byte of two bits that was made pending
+woken-few : (x : ℕ) → x ≤ 3 → woken x ≤ 3
+unfolding woken pendingByte
+woken-few x h = go (eqb (x / 2 % 2) 1) refl
+  where
+    go : (t : Bool) → eqb (x / 2 % 2) 1 ≡ t → cond t x (x + 2) ≤ 3
+    go true e = h
+    go false e = let n = eqb-false (x / 2 % 2) 1 e in omega arith
+
 module _ (s : Sides) (status : List ℕ) (w : Workable s status) where
   pub pending-inner : (i : ℕ) → i < size s → isPending status i ≡ true → Inner s i
   pending-inner i h p = kept-inner s status (w .body) i h (w .pending i p)
 
   abbrev lent : length status ≡ size s
-  lent = w .body .statuses
+  lent = w .body .statuses .lent
+
+  abbrev few : Few status
+  few = w .body .statuses .few
+
+  few-without : (free : ℕ → Bool) (i : ℕ) → Few (without s free status i)
+  unfolding without voxels statusWithout
+  few-without free i j =
+      elim (decLt j (size s)) [
+        | yes h ↦ subst (λ (x : ℕ). x ≤ 3) (sym (getD-map-range (statusWithout s free status i) 0 (size s) j h))
+            (byte (eqb j i) (removable free status j && touch s i j) (statusOf status j) (few j))
+        | no n ↦ subst (λ (x : ℕ). x ≤ 3) (sym (List·getD-eq-default (without s free status i) 0 (omega (arith, length-without s free status lent i)))) (omega arith)
+      ]
+    where
+      byte : (e t : Bool) (x : ℕ) → x ≤ 3 → cond e 0 (cond t (woken x) x) ≤ 3
+      byte true t x h = omega arith
+      byte false true x h = woken-few x h
+      byte false false x h = h
+
+  few-rested : (i : ℕ) → i < size s → Few (set status i (rested (statusOf status i)))
+  unfolding rested
+  few-rested i h j =
+      elim (ℕ-discrete j i) [
+        | yes e ↦ (let f = few i in subst (λ (x : ℕ). x ≤ 3) (sym (ap (statusOf (set status i (statusOf status i - 2))) e
+            ∙ getD-set-same status i (statusOf status i - 2) 0 (omega (arith, lent)))) (omega arith))
+        | no n ↦ subst (λ (x : ℕ). x ≤ 3) (sym (getD-set-other status i j (statusOf status i - 2) 0 n)) (few j)
+      ]
 
   pub workable-without : (free : ℕ → Bool) (i : ℕ) → Workable s (without s free status i)
   unfolding omit
@@ -54,7 +92,7 @@ module _ (s : Sides) (status : List ℕ) (w : Workable s status) where
         body =
             record {
               sides = w .body .sides;
-              statuses = length-without s free status lent i;
+              statuses = record { lent = length-without s free status lent i; few = few-without free i };
               border = λ j h e. (λ n. kept n j) ∙ ap (λ (t : Bool). t && not (eqb j i)) (w .body .border j h e);
             };
         pending = λ j e. (λ n. kept n j)
@@ -74,7 +112,7 @@ module _ (s : Sides) (status : List ℕ) (w : Workable s status) where
           body =
               record {
                 sides = w .body .sides;
-                statuses = length-stayed s status lent i h p;
+                statuses = record { lent = length-stayed s status lent i h p; few = few-rested i h };
                 border = λ j l e. (λ n. kept n j) ∙ w .body .border j l e;
               };
           pending = λ j e. (λ n. kept n j) ∙ w .pending j (and-true (isPending status j) (not (eqb j i)) ((λ n. sym waiting n j) ∙ e) .0);

@@ -10,7 +10,7 @@ use Rattle.rules.specs.Grid.{size}
 use Rattle.rules.specs.Status.{isKept, isPending, anyPending, testAt, goes, examine, progress, latest, carving}
 use Rattle.rules.specs.Marks.{Marked}
 use Rattle.rules.specs.Machine.{mayGo, sooner}
-use Rattle.neighbourhood.specs.Neighbourhood.{Inner, Body}
+use Rattle.neighbourhood.specs.Neighbourhood.{Inner, Statuses, Body}
 use Rattle.waking.specs.Waking.{Woken, Callable}
 use Rattle.pending.specs.Index.{Room, Index}
 use Rattle.examining.specs.declared.Count.{Count}
@@ -59,7 +59,7 @@ faceAfter s status removed last = latest 6 removed (testAt s status last .face)
 
 -- the last voxel removed, if any was, is off the border
 pub record LastAt (s : Sides) (status : List ℕ) (removed last : ℕ) : Type 0 where
-  pub statuses : length status ≡ size s
+  pub statuses : Statuses s status
   pub voxel : (removed ≡ 0 → ⊥) → Inner s last
 
 pub record Run (s : Sides) (m : Marked) (dist : List ℤ) (limit : ℕ) (before after offsets tree : List ℕ) (c : Count) : Type 0 where

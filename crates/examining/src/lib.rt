@@ -9,6 +9,7 @@ ghost use Rattle.rules.specs.Status.{isPending, rested, latest};
 ghost use Rattle.rules.specs.Marks.{marked};
 ghost use Rattle.rules.specs.Machine.{mayGo};
 ghost use Rattle.bits.specs.Bits.{bits};
+ghost use Rattle.touched_cells.specs.Block.{Rows, codeIn};
 ghost use Rattle.neighbourhood.specs.Neighbourhood.{firstAround};
 ghost use Rattle.waking.specs.Waking.{idleBit, Only, AtBits, fromVoxel};
 ghost use Rattle.pending.specs.Index.{Index};
@@ -79,7 +80,7 @@ fn wake(
     }
 }
 
-// Wakes the voxels around voxel i, whose neighbourhood was code.
+// Wakes the voxels around voxel i, whose neighbourhood was the block.
 fn wake_around(
     s: Sides,
     dist: &[i32],
@@ -88,15 +89,15 @@ fn wake_around(
     offsets: &mut [u8],
     tree: &mut [u64],
     i: usize,
-    code: u64,
+    block: [[u8; 3]; 3],
 )
-    requires { ⌜ Leaving s (marked (now marks)) (now dist) (now status) (now offsets) (now tree) i ⌝ }
+    requires { ⌜ Leaving s (marked (now marks)) (now dist) (now status) (now offsets) (now tree) i × Rows block ⌝ }
     ensures { λ _. ⌜
-        Roused (AtBits (mayGo (marked (now (marks .entry))) (now (dist .entry))) (bits 54 (idleBit code)) (fromVoxel (s .a) (s .a * s .b) (firstAround s i)))
+        Roused (AtBits (mayGo (marked (now (marks .entry))) (now (dist .entry))) (bits 54 (idleBit (codeIn block))) (fromVoxel (s .a) (s .a * s .b) (firstAround s i)))
         (marked (now (marks .entry))) (now (dist .entry)) (now (status .entry)) (now (status .exit)) (now (offsets .exit)) (now (tree .exit)) ⌝ }
 {
     let at = neighbourhood::first_around(s, i);
-    let idle = waking::idle_bits(code);
+    let idle = waking::idle_bits(block);
     wake(dist, marks, status, offsets, tree, s.a, s.a * s.b, at, idle);
 }
 
@@ -126,13 +127,13 @@ fn examine(
     ensures { λ r. ⌜ Examined s (marked (now (marks .entry))) (now (dist .entry)) (now (status .entry)) (now (status .exit)) (now (offsets .exit))
         (now (tree .exit)) i r ⌝ }
 {
-    let code = neighbourhood::gather(s, status, i);
-    let passes = local_test::passes(neighbourhood::kept_bits(code));
+    let block = neighbourhood::gather(s, status, i);
+    let passes = local_test::passes(block);
     let gone = passes & may_go(dist, marks, i);
     let x = status[i];
     pending::clear(dist, marks, status, offsets, tree, i, left(gone, x));
     if gone {
-        wake_around(s, dist, marks, status, offsets, tree, i, code);
+        wake_around(s, dist, marks, status, offsets, tree, i, block);
         return 1;
     }
     0

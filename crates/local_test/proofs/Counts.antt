@@ -1,27 +1,22 @@
--- The test of a block from the bits of its touched cells: kinds by masked counts of ones, groups by the rank.
+-- The kinds of a block's touched cells, by masked counts of ones.
 use mathlib.Core.Path.{_≡_, refl, sym, ap, _∙_, subst}
 use mathlib.Core.Bool.{Bool, true, false, _&&_}
 use mathlib.Core.List.{List, [], _∷_, _++_}
-use Prim.Native.Nat.{ℕ, _+_, _≤_, _<_}
+use Prim.Native.Nat.{ℕ, _+_, _≤_}
 use native.Mathlib.Nat.{lt-of-le-of-lt}
-use native.Mathlib.Omega.{arith}
-use lib.Dec.{eqb, lit<}
+use lib.Dec.{eqb}
 use lib.Bits.{bitAnd, and-le-l}
 use lib.Count.{ones, ones-le}
 use lib.ListN.{length}
 use Rattle.cells.specs.Groups.{any, consIf, filter}
 use Rattle.cells.specs.Cells.{contains, positions, touched, dimension, countOf, testOf, test}
-use Rattle.closed_sets.specs.Rank.{rankBy, rank}
 use Rattle.prelude.specs.Lists.{range}
 use Rattle.prelude.proofs.Lists.{filter-append}
-use Rattle.closed_sets.proofs.EveryBlock.{place-lt, test-ext, euler, k-by-rank}
-use Rattle.bits.specs.Bits.{has, bits}
-use Rattle.bits.proofs.Bits.{bits-lt, has-bits, bits-and, ones-bits}
-
--- ---- the test goes by the bits of the kept voxels
-
-pub test-of-bits : (kept : ℕ → Bool) {x : ℕ} → x ≡ bits 27 kept → test (has x) ≡ test kept
-test-of-bits kept e = ap (λ (x : ℕ). test (has x)) e ∙ test-ext (has (bits 27 kept)) kept (λ v m. has-bits 27 kept v (place-lt v m))
+use Rattle.closed_sets.proofs.EveryBlock.{euler, k-few}
+use Rattle.bits.specs.Bits.{bits, spaced}
+use Rattle.bits.proofs.Bits.{bits-lt, ones-bits}
+use Rattle.bits.proofs.Spaced.{spaced-and, ones-spaced}
+use Rattle.local_test.specs.Touched.{TouchedBy}
 
 -- ---- counts of ones
 
@@ -52,62 +47,52 @@ filter-both s q (c ∷ cs) = ap (consIf (s c && q c) c) (filter-both s q cs) ∙
     split true = refl
     split false = refl
 
-countOf-ones : (d : ℕ) (s : ℕ → Bool) {mask : ℕ} → mask ≡ bits 27 (isOf d) → s 13 ≡ false
-    → ones (bitAnd (bits 27 s) mask) ≡ countOf d (filter s positions)
+-- the cells of a set that have dimension d
+countOf-ones : (d : ℕ) (s : ℕ → Bool) {mask : ℕ} → mask ≡ bits 54 (spaced (isOf d)) → s 13 ≡ false
+    → ones (bitAnd (bits 54 (spaced s)) mask) ≡ countOf d (filter s positions)
 unfolding countOf
 countOf-ones d s e m =
-    ap (λ (x : ℕ). ones (bitAnd (bits 27 s) x)) e
-    ∙ ap ones (bits-and 27 s (isOf d))
+    ap (λ (x : ℕ). ones (bitAnd (bits 54 (spaced s)) x)) e
+    ∙ ap ones (spaced-and 54 s (isOf d))
+    ∙ ones-spaced 27 (λ c. s c && isOf d c)
     ∙ ones-positions (λ c. s c && isOf d c) (ap (λ (b : Bool). b && isOf d 13) m)
     ∙ ap length (filter-both s (isOf d) positions)
 
-pub corner-mask : 0o505000505 ≡ bits 27 (isOf 0)
-unfolding bits dimension
+pub corner-mask : 0x11011000011011 ≡ bits 54 (spaced (isOf 0))
+unfolding bits spaced dimension
 corner-mask = refl
 
-pub edge-mask : 0o252505252 ≡ bits 27 (isOf 1)
-unfolding bits dimension
+pub edge-mask : 0x04444440444444 ≡ bits 54 (spaced (isOf 1))
+unfolding bits spaced dimension
 edge-mask = refl
 
-pub face-mask : 0o020252020 ≡ bits 27 (isOf 2)
-unfolding bits dimension
+face-mask : 0x00100111100100 ≡ bits 54 (spaced (isOf 2))
+unfolding bits spaced dimension
 face-mask = refl
 
 -- ---- the test
 
 -- of the touched cells t
 pub record Counted (kept : ℕ → Bool) (t : ℕ) : Type 0 where
-  pub corners : ones (bitAnd t 0o505000505) ≡ test kept .corners
-  pub edges : ones (bitAnd t 0o252505252) ≡ test kept .edges
-  pub faces : ones (bitAnd t 0o020252020) ≡ test kept .faces
-  pub groups : test kept .k + rank (has t) ≡ ones (bitAnd t 0o505000505)
+  pub corners : ones (bitAnd t 0x11011000011011) ≡ test kept .corners
+  pub edges : ones (bitAnd t 0x04444440444444) ≡ test kept .edges
+  pub faces : ones (bitAnd t 0x00100111100100) ≡ test kept .faces
   pub law : test kept .m + test kept .corners + test kept .faces ≡ test kept .k + 1 + test kept .edges
-  pub few-corners : ones (bitAnd t 0o505000505) ≤ 27
-  pub few-edges : ones (bitAnd t 0o252505252) ≤ 27
+  pub few-groups : test kept .k ≤ 8
+  pub few-edges : ones (bitAnd t 0x04444440444444) ≤ 54
 
-few : (s : ℕ → Bool) (mask : ℕ) → ones (bitAnd (bits 27 s) mask) ≤ 27
-few s mask = ones-le 27 (bitAnd (bits 27 s) mask) (lt-of-le-of-lt (and-le-l (bits 27 s) mask) (bits-lt 27 s))
-
-rank-ext : (s s′ : ℕ → Bool) → ((c : ℕ) → c < 27 → s c ≡ s′ c) → rank s ≡ rank s′
-unfolding rank
-rank-ext s s′ h = λ i.
-    rankBy (h 1 (lit< tt) i) (h 3 (lit< tt) i) (h 9 (lit< tt) i) (h 7 (lit< tt) i) (h 5 (lit< tt) i) (h 17 (lit< tt) i)
-    (h 19 (lit< tt) i) (h 23 (lit< tt) i) (h 11 (lit< tt) i) (h 25 (lit< tt) i) (h 21 (lit< tt) i) (h 15 (lit< tt) i)
-
-at-bits : (kept : ℕ → Bool) → Counted kept (bits 27 (touched kept))
+at-bits : (kept : ℕ → Bool) → Counted kept (bits 54 (spaced (touched kept)))
 unfolding test testOf
 at-bits kept =
-    let corners-are = countOf-ones 0 (touched kept) corner-mask (touched-middle kept) in
+    let t = bits 54 (spaced (touched kept)) in
     record {
-      corners = corners-are;
+      corners = countOf-ones 0 (touched kept) corner-mask (touched-middle kept);
       edges = countOf-ones 1 (touched kept) edge-mask (touched-middle kept);
       faces = countOf-ones 2 (touched kept) face-mask (touched-middle kept);
-      groups =
-          omega (arith, k-by-rank kept, corners-are, rank-ext (has (bits 27 (touched kept))) (touched kept) (has-bits 27 (touched kept)));
       law = euler kept;
-      few-corners = few (touched kept) 0o505000505;
-      few-edges = few (touched kept) 0o252505252;
+      few-groups = k-few kept;
+      few-edges = ones-le 54 (bitAnd t 0x04444440444444) (lt-of-le-of-lt (and-le-l t 0x04444440444444) (bits-lt 54 (spaced (touched kept))));
     }
 
-pub counted : (kept : ℕ → Bool) (t : ℕ) → t ≡ bits 27 (touched kept) → Counted kept t
+pub counted : (kept : ℕ → Bool) (t : ℕ) → TouchedBy kept t → Counted kept t
 counted kept t p = subst (λ (t : ℕ). Counted kept t) (sym p) (at-bits kept)

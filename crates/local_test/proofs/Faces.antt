@@ -3,9 +3,8 @@ use mathlib.Core.Path.{_≡_, refl, sym, ap, ap₂, _∙_}
 use mathlib.Core.Bool.{Bool, true, false, not, cond, _&&_}
 use mathlib.Core.List.{List, [], _∷_}
 use Prim.Native.Nat.{ℕ, zero, suc, _+_, _*_, _/_, _%_, _^_, _<_}
-use native.Mathlib.Nat.{lt-of-le-of-lt, div-one}
 use native.Mathlib.Omega.{arith}
-use lib.Bits.{bitAnd, and-le-r}
+use lib.Bits.{bitAnd}
 use lib.Count.{trailingZeros, under}
 use lib.Dec.{ltb, lit<}
 use lib.ListN.{length}
@@ -15,10 +14,11 @@ use Rattle.cells.specs.Cells.{bit, touched, numberedFaces, before, test}
 use Rattle.cells.specs.Faces.{faceAt}
 use Rattle.cells.proofs.Faces.{before-ext, face-before}
 use Rattle.closed_sets.proofs.EveryBlock.{all-in}
-use Rattle.prelude.proofs.Bools.{and-comm}
 use Rattle.prelude.proofs.Lists.{Mem}
-use Rattle.bits.specs.Bits.{has, bits}
-use Rattle.bits.proofs.Bits.{has-and, has-shr, has-bits, bits-has, bits-ext}
+use Rattle.bits.specs.Bits.{has, bits, spaced}
+use Rattle.bits.proofs.Bits.{has-shr, bits-ext, masked}
+use Rattle.bits.proofs.Spaced.{has-spaced}
+use Rattle.local_test.specs.Touched.{TouchedBy, cellsOf}
 
 -- ---- one more than a number has its lowest 1 where the number has its lowest 0
 
@@ -43,47 +43,48 @@ trailing (suc d) p (c ∷ cs) h = go (p c) (trailing d p cs (omega arith))
         let odd : (digits p cs * 2 + 0 + 1) % 2 ≡ 1 = omega arith in
         ap (λ (m : ℕ). under m (trailingZeros d ((digits p cs * 2 + 0 + 1) / 2))) odd
 
--- ---- the faces by their numbers: each mask has its cells at their numbers
+-- ---- the faces by their numbers
 
--- what a mask leaves of the cells, moved down by j
-masked : (t j mask : ℕ) → mask < 2 ^ 6 → bitAnd (t / 2 ^ j) mask ≡ bits 6 (λ c. has mask c && has t (j + c))
-masked t j mask h =
-    bits-has 6 (bitAnd (t / 2 ^ j) mask) (lt-of-le-of-lt (and-le-r (t / 2 ^ j) mask) h)
-    ∙ bits-ext 6 (has (bitAnd (t / 2 ^ j) mask)) (λ c. has mask c && has t (j + c))
-    (λ c l. has-and (t / 2 ^ j) mask c ∙ ap (λ (b : Bool). b && has mask c) (has-shr t j c) ∙ and-comm (has t (j + c)) (has mask c))
+-- bit n of the cells moved down by j
+one-bit : (t j mask : ℕ) → mask < 2 ^ 6 → bitAnd (t / 2 ^ j) mask ≡ bits 6 (λ c. has mask c && has t (j + c))
+one-bit t j mask h =
+    masked 6 (t / 2 ^ j) mask h
+    ∙ bits-ext 6 (λ c. has mask c && has (t / 2 ^ j) c) (λ c. has mask c && has t (j + c)) (λ c _. ap (λ (b : Bool). has mask c && b) (has-shr t j c))
 
 pub record ByNumber (t : ℕ) : Type 0 where
-  pub low-x : bitAnd (t / 2 ^ 12) 1 ≡ bit (has t 12)
-  pub high-x-and-y : bitAnd (t / 2 ^ 13) 10 ≡ bit (has t 14) * 2 + bit (has t 16) * 8
-  pub low-y : bitAnd (t / 2 ^ 8) 4 ≡ bit (has t 10) * 4
-  pub low-z : bitAnd t 16 ≡ bit (has t 4) * 16
-  pub high-z : bitAnd (t / 2 ^ 17) 32 ≡ bit (has t 22) * 32
-  pub all : bits 6 (λ n. has t (faceAt n))
-      ≡ bit (has t 12) + bit (has t 14) * 2 + bit (has t 10) * 4 + bit (has t 16) * 8 + bit (has t 4) * 16 + bit (has t 22) * 32
+  pub low-x : bitAnd (t / 2 ^ 24) 1 ≡ bit (has t 24)
+  pub high-x : bitAnd (t / 2 ^ 27) 2 ≡ bit (has t 28) * 2
+  pub low-y : bitAnd (t / 2 ^ 18) 4 ≡ bit (has t 20) * 4
+  pub high-y : bitAnd (t / 2 ^ 29) 8 ≡ bit (has t 32) * 8
+  pub low-z : bitAnd (t / 2 ^ 4) 16 ≡ bit (has t 8) * 16
+  pub high-z : bitAnd (t / 2 ^ 39) 32 ≡ bit (has t 44) * 32
+  pub all : bits 6 (λ n. cellsOf t (faceAt n))
+      ≡ bit (has t 24) + bit (has t 28) * 2 + bit (has t 20) * 4 + bit (has t 32) * 8 + bit (has t 8) * 16 + bit (has t 44) * 32
 
 pub by-number : (t : ℕ) → ByNumber t
 unfolding has bits
 by-number t =
     record {
-      low-x = masked t 12 1 (lit< tt) ∙ omega arith;
-      high-x-and-y = masked t 13 10 (lit< tt) ∙ omega arith;
-      low-y = masked t 8 4 (lit< tt) ∙ omega arith;
-      low-z = ap (λ (x : ℕ). bitAnd x 16) (sym (div-one t)) ∙ masked t 0 16 (lit< tt) ∙ omega arith;
-      high-z = masked t 17 32 (lit< tt) ∙ omega arith;
+      low-x = one-bit t 24 1 (lit< tt) ∙ omega arith;
+      high-x = one-bit t 27 2 (lit< tt) ∙ omega arith;
+      low-y = one-bit t 18 4 (lit< tt) ∙ omega arith;
+      high-y = one-bit t 29 8 (lit< tt) ∙ omega arith;
+      low-z = one-bit t 4 16 (lit< tt) ∙ omega arith;
+      high-z = one-bit t 39 32 (lit< tt) ∙ omega arith;
       all = omega arith;
     }
 
-pub faces-trailing : (t : ℕ) {x : ℕ} → x ≡ bits 6 (λ n. has t (faceAt n)) + 1 → trailingZeros 32 x ≡ before (λ c. not (has t c)) numberedFaces
+pub faces-trailing : (t : ℕ) {x : ℕ} → x ≡ bits 6 (λ n. cellsOf t (faceAt n)) + 1 → trailingZeros 64 x ≡ before (λ c. not (cellsOf t c)) numberedFaces
 unfolding bits digits
-faces-trailing t e = ap (trailingZeros 32) e ∙ trailing 32 (has t) numberedFaces (omega arith)
+faces-trailing t e = ap (trailingZeros 64) e ∙ trailing 64 (cellsOf t) numberedFaces (omega arith)
 
 -- ---- the face of the test, from the touched cells t
 
-pub face-of : (kept : ℕ → Bool) (t : ℕ) → t ≡ bits 27 (touched kept) → before (λ c. not (has t c)) numberedFaces ≡ test kept .face
+pub face-of : (kept : ℕ → Bool) (t : ℕ) → TouchedBy kept t → before (λ c. not (cellsOf t c)) numberedFaces ≡ test kept .face
 face-of kept t e =
-    ap (λ (x : ℕ). before (λ c. not (has x c)) numberedFaces) e
-    ∙ before-ext (λ c. not (has (bits 27 (touched kept)) c)) (λ c. not (touched kept c)) numberedFaces
-    (λ c m. ap not (has-bits 27 (touched kept) c (low c m)))
+    ap (λ (x : ℕ). before (λ c. not (cellsOf x c)) numberedFaces) e
+    ∙ before-ext (λ c. not (cellsOf (bits 54 (spaced (touched kept))) c)) (λ c. not (touched kept c)) numberedFaces
+    (λ c m. ap not (has-spaced 27 (touched kept) c (low c m)))
     ∙ sym (face-before kept)
   where
     low : (c : ℕ) → Mem c numberedFaces → c < 27

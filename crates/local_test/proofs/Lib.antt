@@ -1,5 +1,4 @@
-pub mod Sources
-pub mod Spread
 pub mod Counts
+pub mod Corners
 pub mod Pass
 pub mod Faces

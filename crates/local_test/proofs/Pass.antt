@@ -1,21 +1,23 @@
 -- The pass by a count of ones, where the touched cells differ from the edges, and by k.
-use mathlib.Core.Path.{_≡_, refl, sym, ap, _∙_}
+use mathlib.Core.Path.{_≡_, refl, sym, ap, ap₂, _∙_}
 use mathlib.Core.Bool.{Bool, true, false, not, _&&_, _||_, true≢false}
 use mathlib.Core.List.{List, [], _∷_}
 use Prim.Native.Nat.{ℕ, _+_}
 use native.Mathlib.Omega.{arith}
 use lib.Dec.{eqb}
-use lib.Bits.{bitXor}
+use lib.Bits.{bitAnd, bitXor}
 use lib.Count.{ones}
 use lib.ListN.{length}
 use borrow.Author.Tests.{eqb-true, eq-eqb}
 use Rattle.cells.specs.Groups.{any, filter}
 use Rattle.cells.specs.Cells.{bit, positions, touched, dimension, countOf, testOf, test, passes}
-use Rattle.prelude.proofs.Bools.{and-true, true-and, both-ways}
+use Rattle.prelude.proofs.Bools.{and-true, and-one, true-and, both-ways}
 use Rattle.prelude.proofs.Lists.{Mem, here, there}
 use Rattle.closed_sets.proofs.EveryBlock.{all-in, euler}
-use Rattle.bits.specs.Bits.{bits}
-use Rattle.bits.proofs.Bits.{bits-xor, unlike, length-consIf}
+use Rattle.bits.specs.Bits.{bits, spaced}
+use Rattle.bits.proofs.Bits.{bits-ext, unlike, length-consIf}
+use Rattle.bits.proofs.Spaced.{spaced-and, spaced-xor, ones-spaced}
+use Rattle.local_test.specs.Touched.{TouchedBy}
 use Rattle.local_test.proofs.Counts.{touched-middle, ones-positions, isOf, filter-both, edge-mask}
 
 -- ---- a sum over cells, from the sum at each
@@ -84,15 +86,27 @@ size-both : (s : ℕ → Bool) (d : ℕ) → size (λ c. s c && isOf d c) positi
 unfolding size countOf
 size-both s d = ap length (filter-both s (isOf d) positions)
 
-ones-unlike : (s : ℕ → Bool) → s 13 ≡ false → ones (bitXor (bits 27 s) 0o252505252) ≡ size (λ c. unlike (s c) (isOf 1 c)) positions
+abbrev allCells : ℕ
+allCells = 0x15555555555555
+
+all-mask : allCells ≡ bits 54 (spaced (λ c. true))
+unfolding bits spaced
+all-mask = refl
+
+-- the count of the code, of a set of cells
+abbrev count : ℕ → ℕ
+count t = ones (bitAnd (bitXor t 0x04444440444444) allCells)
+
+ones-unlike : (s : ℕ → Bool) → s 13 ≡ false → count (bits 54 (spaced s)) ≡ size (λ c. unlike (s c) (isOf 1 c)) positions
 unfolding size dimension
 ones-unlike s e =
-    ap (λ (x : ℕ). ones (bitXor (bits 27 s) x)) edge-mask
-    ∙ ap ones (bits-xor 27 s (isOf 1))
+    ap ones (ap₂ bitAnd (ap (bitXor (bits 54 (spaced s))) edge-mask ∙ spaced-xor 54 s (isOf 1)) all-mask ∙ spaced-and 54 _ _)
+    ∙ ones-spaced 27 (λ c. unlike (s c) (isOf 1 c) && true)
+    ∙ ap ones (bits-ext 27 (λ c. unlike (s c) (isOf 1 c) && true) (λ c. unlike (s c) (isOf 1 c)) (λ c _. and-one (unlike (s c) (isOf 1 c))))
     ∙ ones-positions (λ c. unlike (s c) (isOf 1 c)) (ap (λ (b : Bool). unlike b (isOf 1 13)) e)
 
 -- there are 12 edges, so the touched ones count against the corners and the faces
-unlike-edges : (kept : ℕ → Bool) → ones (bitXor (bits 27 (touched kept)) 0o252505252) + test kept .edges ≡ test kept .corners + test kept .faces + 12
+unlike-edges : (kept : ℕ → Bool) → count (bits 54 (spaced (touched kept))) + test kept .edges ≡ test kept .corners + test kept .faces + 12
 unfolding test testOf
 unlike-edges kept =
     let s = touched kept in
@@ -124,11 +138,9 @@ two-counts x v e f k m p q =
     true-and (eqb x 13) (eqb k 1) (eq-eqb x 13 (omega arith)) (g .0))
 
 -- k is the groups of touched cells, however it was found
-pub pass-by-counts : (kept : ℕ → Bool) (t k : ℕ) → t ≡ bits 27 (touched kept) → k ≡ test kept .k
-    → (eqb (ones (bitXor t 0o252505252)) 13 && eqb k 1) ≡ passes (test kept)
+pub pass-by-counts : (kept : ℕ → Bool) (t k : ℕ) → TouchedBy kept t → k ≡ test kept .k → (eqb (count t) 13 && eqb k 1) ≡ passes (test kept)
 unfolding passes
 pass-by-counts kept t k p e =
-    let x : ones (bitXor t 0o252505252) + test kept .edges ≡ test kept .corners + test kept .faces + 12 =
-    ap (λ (t : ℕ). ones (bitXor t 0o252505252) + test kept .edges) p ∙ unlike-edges kept in
-    ap (λ (k : ℕ). eqb (ones (bitXor t 0o252505252)) 13 && eqb k 1) e
-    ∙ two-counts (ones (bitXor t 0o252505252)) (test kept .corners) (test kept .edges) (test kept .faces) (test kept .k) (test kept .m) (euler kept) x
+    let x : count t + test kept .edges ≡ test kept .corners + test kept .faces + 12 = ap (λ (t : ℕ). count t + test kept .edges) p ∙ unlike-edges kept in
+    ap (λ (k : ℕ). eqb (count t) 13 && eqb k 1) e
+    ∙ two-counts (count t) (test kept .corners) (test kept .edges) (test kept .faces) (test kept .k) (test kept .m) (euler kept) x

@@ -2,21 +2,24 @@
 use mathlib.Core.Path.{_≡_, refl, sym, ap, ap₂, _∙_}
 use mathlib.Core.Bool.{Bool, true, false, _&&_}
 use mathlib.Core.List.{List}
-use Prim.Native.Nat.{ℕ, _+_, _*_, _/_, _%_, _≤_, _<_}
+use Prim.Native.Nat.{ℕ, zero, suc, _+_, _*_, _/_, _%_, _≤_, _<_}
 use native.Mathlib.Omega.{arith}
 use native.Mathlib.Nat.{div-one}
-use borrow.Author.Tests.{eqb-true, eq-eqb, ne-eqb, le-leb}
+use borrow.Author.Tests.{eq-eqb, ne-eqb, le-leb}
 use lib.Bits.{bitAnd}
-use lib.Dec.{eqb, leb}
-use Rattle.cells.specs.Cells.{test}
+use lib.Dec.{eqb, leb, lit<}
+use lib.ListN.{getD}
+use Rattle.cells.specs.Cells.{bit, test}
+use Rattle.closed_sets.proofs.EveryBlock.{place-lt, test-ext}
 use Rattle.prelude.proofs.Bools.{true-and}
 use Rattle.rules.specs.declared.Sides.{Sides}
 use Rattle.rules.specs.Grid.{voxel, index, reaches, neighbour, neighbourhoodOf, neighbourhood}
 use Rattle.rules.specs.Status.{statusOf, keptByte, pendingByte, isKept, isPending, testAt}
 use Rattle.bits.specs.Bits.{has, bits}
-use Rattle.bits.proofs.Bits.{has-and, bits-ext, has-bits, below}
-use Rattle.local_test.proofs.Counts.{test-of-bits}
-use Rattle.neighbourhood.specs.Neighbourhood.{Inner, offset, firstAround, around, rowBit, layerBit, cubeBit, statusBit, codeOf, keptOf}
+use Rattle.bits.proofs.Bits.{has-and, bits-lt, bits-has, bits-ext, has-bits}
+use Rattle.touched_cells.specs.Block.{rowIn, Rows, keptIn, blockBit, codeIn, keptOf}
+use Rattle.touched_cells.proofs.Blocks.{kept-in-code}
+use Rattle.neighbourhood.specs.Neighbourhood.{Inner, Few, offset, firstAround, around, rowBit, rowAt, layerAt, cubeAt, statusBit, codeOf, Gathered}
 use Rattle.neighbourhood.proofs.Interior.{interior, around-index}
 
 -- ---- the bits of a status
@@ -42,32 +45,74 @@ pub kept-and : (x y : ℕ) {p : Bool} → keptByte y ≡ p → keptByte (bitAnd 
 kept-and x y e =
     sym (kept-bit (bitAnd x y)) ∙ has-and x y 0 ∙ ap₂ _&&_ (kept-bit x) (kept-bit y ∙ e)
 
--- ---- rows of layers, layers of the neighbourhood: positions
+-- ---- what is gathered
 
--- a number below 54 in the digits of both
-same-digits : (c : ℕ) → c < 54 → (c % 18 % 6 / 2 ≡ c / 2 % 3) × (c % 18 / 6 ≡ c / 2 / 3 % 3)
-same-digits c h =
-    (eqb-true _ _ (below 54 (λ c. eqb (c % 18 % 6 / 2) (c / 2 % 3)) refl c h), eqb-true _ _ (below 54 (λ c. eqb (c % 18 / 6) (c / 2 / 3 % 3)) refl c h))
+two-bits : (x : ℕ) → x ≤ 3 → x ≡ bit (has x 0) + 2 * bit (has x 1)
+unfolding bits
+two-bits x h = bits-has 2 x (omega arith) ∙ omega arith
 
-cube-bit : (status : List ℕ) (a l at c : ℕ) → c < 54 → cubeBit status a l at c ≡ has (statusOf status (at + offset a l (c / 2))) (c % 2)
-unfolding cubeBit layerBit rowBit
-cube-bit status a l at c h =
-    let d = same-digits c h in
-    let z : c / 18 ≡ c / 2 / 9 = omega arith in
-    let b : c % 18 % 6 % 2 ≡ c % 2 = omega arith in
-    let y = ap (λ (n : ℕ). a * n) (d .1) in
-    let lz = ap (λ (n : ℕ). l * n) z in
-    let e : at + l * (c / 18) + a * (c % 18 / 6) + c % 18 % 6 / 2 ≡ at + offset a l (c / 2) =
-    summed at (l * (c / 18)) (a * (c % 18 / 6)) (c % 18 % 6 / 2) lz y (d .0) ∙ omega arith in
-    ap (λ (n : ℕ). has (statusOf status n) (c % 18 % 6 % 2)) e ∙ ap (has (statusOf status (at + offset a l (c / 2)))) b
-  where
-    summed : (at x y z : ℕ) {x' y' z' : ℕ} → x ≡ x' → y ≡ y' → z ≡ z' → at + x + y + z ≡ at + x' + y' + z'
-    summed at x y z e f g = λ i. at + e i + f i + g i
+pub row-sum : (status : List ℕ) (at : ℕ) → Few status
+    → statusOf status at + 4 * (statusOf status (at + 1) + 4 * statusOf status (at + 2)) ≡ rowAt status at
+unfolding bits rowBit
+row-sum status at few =
+    let e : at ≡ at + 0 = omega arith in
+    let x = statusOf status in
+    ap (λ (i : ℕ). x i + 4 * (x (at + 1) + 4 * x (at + 2))) e
+    ∙ omega (
+      arith,
+      two-bits (x (at + 0)) (few (at + 0)),
+      two-bits (x (at + 1)) (few (at + 1)),
+      two-bits (x (at + 2)) (few (at + 2)),
+    )
 
-pub gathered : (s : Sides) (status : List ℕ) (i : ℕ) → bits 54 (cubeBit status (s .a) (s .a * s .b) (firstAround s i)) ≡ codeOf s status i
+module _ (status : List ℕ) (a l at : ℕ) where
+  layer-lt : (at y : ℕ) → getD (layerAt status a at) y 0 < 64
+  layer-lt at zero = bits-lt 6 (rowBit status at)
+  layer-lt at (suc zero) = bits-lt 6 (rowBit status (at + a))
+  layer-lt at (suc (suc zero)) = bits-lt 6 (rowBit status (at + 2 * a))
+  layer-lt at (suc (suc (suc y))) = lit< tt
+
+  cube-lt : (z y : ℕ) → rowIn (cubeAt status a l at) z y < 64
+  cube-lt zero = layer-lt at
+  cube-lt (suc zero) = layer-lt (at + l)
+  cube-lt (suc (suc zero)) = layer-lt (at + 2 * l)
+  cube-lt (suc (suc (suc z))) = λ y. lit< tt
+
+  pub cube-rows : Rows (cubeAt status a l at)
+  cube-rows = record { few = cube-lt }
+
+  layer-row : (at y : ℕ) → y < 3 → getD (layerAt status a at) y 0 ≡ rowAt status (at + a * y)
+  layer-row at zero h = ap (rowAt status) (omega arith)
+  layer-row at (suc zero) h = ap (rowAt status) (omega arith)
+  layer-row at (suc (suc zero)) h = ap (rowAt status) (omega arith)
+  layer-row at (suc (suc (suc y))) h = let e : ⊥ = omega arith in absurd e
+
+  cube-row : (z y : ℕ) → z < 3 → y < 3 → rowIn (cubeAt status a l at) z y ≡ rowAt status (at + l * z + a * y)
+  cube-row zero y k h = layer-row at y h ∙ ap (rowAt status) (omega arith)
+  cube-row (suc zero) y k h = layer-row (at + l) y h ∙ ap (rowAt status) (omega arith)
+  cube-row (suc (suc zero)) y k h = layer-row (at + 2 * l) y h ∙ ap (rowAt status) (omega arith)
+  cube-row (suc (suc (suc z))) y k h = let e : ⊥ = omega arith in absurd e
+
+  cube-bit : (c : ℕ) → c < 54 → blockBit (cubeAt status a l at) c ≡ has (statusOf status (at + offset a l (c / 2))) (c % 2)
+  unfolding blockBit rowBit
+  cube-bit c h =
+      let z : c / 18 ≡ c / 2 / 9 = omega arith in
+      let y : c / 6 % 3 ≡ c / 2 / 3 % 3 = omega arith in
+      let x : c % 6 / 2 ≡ c / 2 % 3 = omega arith in
+      let b : c % 6 % 2 ≡ c % 2 = omega arith in
+      let e : at + l * (c / 2 / 9) + a * (c / 2 / 3 % 3) + c / 2 % 3 ≡ at + offset a l (c / 2) = omega arith in
+      ap (λ (r : ℕ). has r (c % 6)) (cube-row (c / 18) (c / 6 % 3) (omega arith) (omega arith))
+      ∙ has-bits 6 (rowBit status (at + l * (c / 18) + a * (c / 6 % 3))) (c % 6) (omega arith)
+      ∙ (λ i. has (statusOf status (at + l * z i + a * y i + x i)) (b i))
+      ∙ ap (λ (n : ℕ). has (statusOf status n) (c % 2)) e
+
+pub gathered : (s : Sides) (status : List ℕ) (i : ℕ) → Gathered s status i (cubeAt status (s .a) (s .a * s .b) (firstAround s i))
 unfolding statusBit around
 gathered s status i =
-    bits-ext 54 (cubeBit status (s .a) (s .a * s .b) (firstAround s i)) _ (λ c h. cube-bit status (s .a) (s .a * s .b) (firstAround s i) c h)
+    record {
+      rows = cube-rows status (s .a) (s .a * s .b) (firstAround s i);
+      code = bits-ext 54 (blockBit (cubeAt status (s .a) (s .a * s .b) (firstAround s i))) _ (cube-bit status (s .a) (s .a * s .b) (firstAround s i));
+    }
 
 -- ---- a code at a position
 
@@ -112,9 +157,13 @@ module _ (s : Sides) (i : ℕ) (n : Inner s i) where
       (reach (s .c) (v .z) (p / 9) (k .z-low) (k .z-high) (omega arith))
       ∙ ap found (around-index s i n p)
 
-  pub code-test : (status : List ℕ) {x : ℕ} → x ≡ bits 27 (keptOf (codeOf s status i)) → test (has x) ≡ testAt s status i
+  -- the test of a gathered block is the voxel's
+  pub block-test : (status : List ℕ) (block : List (List ℕ)) → Gathered s status i block → test (keptIn block) ≡ testAt s status i
   unfolding testAt
-  code-test status e =
-      let kept = neighbourhood s (isKept status) i in
-      test-of-bits kept
-      (e ∙ bits-ext 27 (keptOf (codeOf s status i)) kept (λ p h. code-kept s status i p h ∙ sym (neighbourhood-around (isKept status) p h)))
+  block-test status block g =
+      test-ext (keptIn block) (neighbourhood s (isKept status) i) (λ p m.
+      let h = place-lt p m in
+      sym (kept-in-code block p h)
+      ∙ ap (λ (code : ℕ). keptOf code p) (g .code)
+      ∙ code-kept s status i p h
+      ∙ sym (neighbourhood-around (isKept status) p h))

@@ -1,45 +1,36 @@
-// The neighbourhood of an inner voxel, read once: two bits a voxel, from which the local test takes the kept ones.
+// The neighbourhood of an inner voxel, read once into a block, an array of three layers of three rows, which the local test is given by value.
 ghost use mathlib.Core.Path.{_≡_};
 ghost use Prim.Native.Nat.{_+_, _*_, _<_};
 ghost use lib.ListN.{length};
 ghost use Rattle.cells.specs.Cells.{passes};
-ghost use Rattle.rules.specs.Grid.{size};
 ghost use Rattle.rules.specs.Status.{testAt};
-ghost use Rattle.bits.specs.Bits.{has, bits};
-ghost use Rattle.local_test.specs.Block.{GroupsOf};
-ghost use Rattle.neighbourhood.specs.Neighbourhood.{Inner, firstAround, Room, rowBit, layerBit, cubeBit, codeOf, keptOf};
+ghost use Rattle.local_test.specs.Answers.{GroupsOf};
+ghost use Rattle.neighbourhood.specs.Neighbourhood.{Inner, Few, Statuses, firstAround, Room, rowAt, layerAt, cubeAt, Gathered};
 use local_test::Groups;
 use rules::Sides;
 
-// What a status says of its voxel: bit 0 that it is kept, bit 1 that it is pending.
-fn two_bits(x: u8) -> u64
-    ensures { λ r. ⌜ r ≡ bits 2 (has x) ⌝ }
+// A row of three voxels from voxel at on, two bits each: bit 0 of a status says kept, bit 1 pending. The sum puts them side by side.
+fn row(status: &[u8], at: usize) -> u8
+    requires { ⌜ (at + 2 < length (now status)) × Few (now status) ⌝ }
+    ensures { λ r. ⌜ r ≡ rowAt (now (status .entry)) at ⌝ }
 {
-    (x & 3) as u64
+    status[at] + 4 * (status[at + 1] + 4 * status[at + 2])
 }
 
-fn row_bits(status: &[u8], at: usize) -> u64
-    requires { ⌜ at + 2 < length (now status) ⌝ }
-    ensures { λ r. ⌜ r ≡ bits 6 (rowBit (now (status .entry)) at) ⌝ }
+// Three rows, each a voxels after the other.
+fn layer(status: &[u8], a: usize, at: usize) -> [u8; 3]
+    requires { ⌜ (at + 2 * a + 2 < length (now status)) × Few (now status) ⌝ }
+    ensures { λ r. ⌜ r ≡ layerAt (now (status .entry)) a at ⌝ }
 {
-    two_bits(status[at]) | two_bits(status[at + 1]) << 2 | two_bits(status[at + 2]) << 4
+    [row(status, at), row(status, at + a), row(status, at + 2 * a)]
 }
 
-fn layer_bits(status: &[u8], a: usize, at: usize) -> u64
-    requires { ⌜ at + 2 * a + 2 < length (now status) ⌝ }
-    ensures { λ r. ⌜ r ≡ bits 18 (layerBit (now (status .entry)) a at) ⌝ }
+// Three layers, each l voxels after the other.
+fn cube(status: &[u8], a: usize, l: usize, at: usize) -> [[u8; 3]; 3]
+    requires { ⌜ Room a l at (length (now status)) × Few (now status) ⌝ }
+    ensures { λ r. ⌜ r ≡ cubeAt (now (status .entry)) a l at ⌝ }
 {
-    row_bits(status, at) | row_bits(status, at + a) << 6 | row_bits(status, at + 2 * a) << 12
-}
-
-// The 27 voxels from voxel at on.
-fn cube_bits(status: &[u8], a: usize, l: usize, at: usize) -> u64
-    requires { ⌜ Room a l at (length (now status)) ⌝ }
-    ensures { λ r. ⌜ r ≡ bits 54 (cubeBit (now (status .entry)) a l at) ⌝ }
-{
-    layer_bits(status, a, at)
-        | layer_bits(status, a, at + l) << 18
-        | layer_bits(status, a, at + 2 * l) << 36
+    [layer(status, a, at), layer(status, a, at + l), layer(status, a, at + 2 * l)]
 }
 
 // The voxel at position 0 around voxel i.
@@ -51,38 +42,27 @@ pub fn first_around(s: Sides, i: usize) -> usize
 }
 
 // The neighbourhood of voxel i.
-pub fn gather(s: Sides, status: &[u8], i: usize) -> u64
-    requires { ⌜ Inner s i × (length (now status) ≡ size s) ⌝ }
-    ensures { λ r. ⌜ r ≡ codeOf s (now (status .entry)) i ⌝ }
+pub fn gather(s: Sides, status: &[u8], i: usize) -> [[u8; 3]; 3]
+    requires { ⌜ Inner s i × Statuses s (now status) ⌝ }
+    ensures { λ r. ⌜ Gathered s (now (status .entry)) i r ⌝ }
 {
     let at = first_around(s, i);
-    cube_bits(status, s.a, s.a * s.b, at)
-}
-
-// The kept voxels of a neighbourhood: every other bit, moved together.
-pub fn kept_bits(code: u64) -> u32
-    ensures { λ r. ⌜ r ≡ bits 27 (keptOf code) ⌝ }
-{
-    let x1 = code & 0x0015555555555555;
-    let x2 = (x1 | x1 >> 1) & 0x3333333333333333;
-    let x4 = (x2 | x2 >> 2) & 0x0F0F0F0F0F0F0F0F;
-    let x8 = (x4 | x4 >> 4) & 0x00FF00FF00FF00FF;
-    let x16 = (x8 | x8 >> 8) & 0x0000FFFF0000FFFF;
-    ((x16 | x16 >> 16) & 0x7FFFFFF) as u32
+    cube(status, s.a, s.a * s.b, at)
 }
 
 // k, m and the face of the local test of voxel i.
 pub fn groups_at(s: Sides, status: &[u8], i: usize) -> Groups
-    requires { ⌜ Inner s i × (length (now status) ≡ size s) ⌝ }
+    requires { ⌜ Inner s i × Statuses s (now status) ⌝ }
     ensures { λ r. ⌜ GroupsOf (testAt s (now (status .entry)) i) r ⌝ }
 {
-    local_test::groups_of(kept_bits(gather(s, status, i)))
+    local_test::groups_of(gather(s, status, i))
 }
 
-// Whether voxel i passes it.
+// Whether voxel i passes it. It goes by the groups, so that the test that only says whether is called in one place, by carve, and set in place there.
 pub fn passes_at(s: Sides, status: &[u8], i: usize) -> bool
-    requires { ⌜ Inner s i × (length (now status) ≡ size s) ⌝ }
+    requires { ⌜ Inner s i × Statuses s (now status) ⌝ }
     ensures { λ r. ⌜ r ≡ passes (testAt s (now (status .entry)) i) ⌝ }
 {
-    local_test::passes(kept_bits(gather(s, status, i)))
+    let t = groups_at(s, status, i);
+    (t.k == 1) & (t.m == 1)
 }

@@ -8,7 +8,7 @@ use Rattle.cells.specs.Cells.{Test}
 use Rattle.closed_sets.proofs.EveryBlock.{k-few, m-few}
 use Rattle.prelude.proofs.Integers.{difference-size}
 use Rattle.local_test.specs.declared.Groups.{Groups}
-use Rattle.local_test.specs.Block.{GroupsOf}
+use Rattle.local_test.specs.Answers.{GroupsOf}
 use Rattle.rules.specs.Grid.{neighbourhood}
 use Rattle.rules.specs.Status.{isKept, testAt}
 use Rattle.rules.specs.Machine.{State}

@@ -10,7 +10,7 @@ use lib.Dec.{eqb}
 use lib.IntN.{ℤ, pos, _-ℤ_}
 use Rattle.cells.specs.Cells.{Test}
 use Rattle.local_test.specs.declared.Groups.{Groups}
-use Rattle.local_test.specs.Block.{GroupsOf}
+use Rattle.local_test.specs.Answers.{GroupsOf}
 use Rattle.prelude.proofs.Bools.{and-true}
 use Rattle.rules.specs.declared.Record.{Record}
 use Rattle.rules.specs.Answer.{done, Outcome, outcome, untouched, Buffers, buffers, Opening}

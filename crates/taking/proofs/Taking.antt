@@ -5,7 +5,7 @@ use mathlib.Core.List.{List}
 use Prim.Native.Nat.{ℕ}
 use lib.IntN.{pos}
 use Rattle.local_test.specs.declared.Groups.{Groups}
-use Rattle.local_test.specs.Block.{GroupsOf}
+use Rattle.local_test.specs.Answers.{GroupsOf}
 use Rattle.rules.specs.declared.Record.{Record}
 use Rattle.rules.specs.Answer.{done, outcome, buffers}
 use Rattle.rules.specs.Status.{testAt, without}

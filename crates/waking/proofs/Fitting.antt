@@ -6,7 +6,7 @@ use Rattle.rules.specs.Grid.{size}
 use Rattle.rules.specs.Status.{isKept}
 use Rattle.rules.specs.Machine.{State}
 use Rattle.rules.specs.Fit.{FitState}
-use Rattle.neighbourhood.proofs.Bodies.{kept-inner, fit-body}
+use Rattle.neighbourhood.proofs.Bodies.{kept-inner, fit-statuses, fit-body}
 use Rattle.waking.specs.Waking.{Removable}
 
 module _ (g : State) (f : FitState g) where
@@ -15,5 +15,5 @@ module _ (g : State) (f : FitState g) where
       record {
         voxel = kept-inner _ _ (fit-body _ _ (g .dist) (f .voxels)) i h k;
         distances = f .voxels .lent .distances;
-        statuses = f .voxels .lent .statuses;
+        statuses = fit-statuses _ _ (g .dist) (f .voxels);
       }

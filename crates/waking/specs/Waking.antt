@@ -11,7 +11,7 @@ use Rattle.rules.specs.declared.Sides.{Sides}
 use Rattle.rules.specs.Grid.{size, isNegative}
 use Rattle.rules.specs.Status.{statusOf, woken}
 use Rattle.bits.specs.Bits.{has}
-use Rattle.neighbourhood.specs.Neighbourhood.{Inner, offset, Room}
+use Rattle.neighbourhood.specs.Neighbourhood.{Inner, Statuses, offset, Room}
 
 -- ---- idle positions: kept and not pending, the middle left out
 
@@ -62,4 +62,4 @@ pub record Callable (a l at x n : ℕ) : Type 0 where
 pub record Removable (s : Sides) (dist : List ℤ) (status : List ℕ) (i : ℕ) : Type 0 where
   pub voxel : Inner s i
   pub distances : length dist ≡ size s
-  pub statuses : length status ≡ size s
+  pub statuses : Statuses s status

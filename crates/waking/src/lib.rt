@@ -6,14 +6,17 @@ ghost use Rattle.rules.specs.Status.{without};
 ghost use Rattle.rules.specs.Marks.{marked};
 ghost use Rattle.rules.specs.Machine.{mayGo};
 ghost use Rattle.bits.specs.Bits.{bits};
+ghost use Rattle.touched_cells.specs.Block.{Rows, codeIn};
 ghost use Rattle.neighbourhood.specs.Neighbourhood.{offset};
 ghost use Rattle.waking.specs.Waking.{idleBit, wokenIf, Woken, Only, AtBits, fromVoxel, Position, Callable, Removable};
 use rules::Sides;
 
 // The positions that can wake, two bits apart: kept and not pending; the middle one never does.
-pub fn idle_bits(code: u64) -> u64
-    ensures { λ r. ⌜ r ≡ bits 54 (idleBit code) ⌝ }
+pub fn idle_bits(block: [[u8; 3]; 3]) -> u64
+    requires { ⌜ Rows block ⌝ }
+    ensures { λ r. ⌜ r ≡ bits 54 (idleBit (codeIn block)) ⌝ }
 {
+    let code = touched_cells::code_of(block);
     let kept = code & 0x0015555551555555;
     kept ^ (kept & code >> 1)
 }

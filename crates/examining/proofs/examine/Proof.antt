@@ -10,8 +10,8 @@ use Rattle.rules.specs.Marks.{marked}
 use Rattle.rules.specs.Machine.{mayGo}
 use Rattle.rules.proofs.Topology.Bytes.{rested-pending}
 use Rattle.bits.specs.Bits.{bits}
-use Rattle.neighbourhood.specs.Neighbourhood.{Inner, keptOf}
-use Rattle.neighbourhood.proofs.Gathering.{code-test}
+use Rattle.neighbourhood.specs.Neighbourhood.{Inner}
+use Rattle.neighbourhood.proofs.Gathering.{block-test}
 use Rattle.waking.specs.Waking.{idleBit}
 use Rattle.waking.proofs.Removal.{removed-from}
 use Rattle.examining.proofs.Calling.{pending-below, pending-two}
@@ -22,6 +22,10 @@ use Rattle.examining.proofs.examine.Tie as tie
 abbrev start : tie.After-gather → tie.Start
 start c = c .before .before .before .before .before .before
 
+-- from the answer whether the voxel may go to the neighbourhood that was tested
+abbrev tested : tie.After-may-go → tie.After-gather
+tested c = c .before .before
+
 -- the voxel lies off the border
 inner : (c : tie.Start) → Inner (c .args .s) (c .args .i)
 inner c = let p = c .pre in pending-inner (c .args .s) (c .args .status .now) (p .work) (c .args .i) (p .below) (p .pending)
@@ -29,33 +33,28 @@ inner c = let p = c .pre in pending-inner (c .args .s) (c .args .status .now) (p
 gather-requires : tie.Need-gather-requires
 gather-requires c κs = let s = c .before .before .before .before .before in (inner s, s .pre .work .body .statuses)
 
-kept-bits-requires : tie.Need-kept-bits-requires
-kept-bits-requires c κs = search needs
-
 passes-requires : tie.Need-passes-requires
-passes-requires c κs = search needs
+passes-requires c κs = c .gather .ensures .rows
 
 -- the test of what was gathered is the voxel's
 passing :
     (c : tie.After-passes)
-    → let a = start (c .before .before) .args in c .passes .result ≡ passes (testAt (a .s) (a .status .now) (a .i))
+    → let a = start (c .before) .args in c .passes .result ≡ passes (testAt (a .s) (a .status .now) (a .i))
 passing c =
-    let k = c .before in
-    let g = k .before in
+    let g = c .before in
     let s = start g in
     let a = s .args in
-    c .passes .ensures
-    ∙ ap passes (code-test (a .s) (a .i) (inner s) (a .status .now) (k .kept-bits .ensures ∙ ap (λ (x : ℕ). bits 27 (keptOf x)) (g .gather .ensures)))
+    c .passes .ensures ∙ ap passes (block-test (a .s) (a .i) (inner s) (a .status .now) _ (g .gather .ensures))
 
 may-go-requires : tie.Need-may-go-requires
 may-go-requires c κs =
-    let p = start (c .before .before) .pre in
-    omega (arith, p .below, p .index .lent .same, p .work .body .statuses)
+    let p = start (c .before) .pre in
+    omega (arith, p .below, p .index .lent .same, p .work .body .statuses .lent)
 
 -- it goes, as the rule says
 going :
     (c : tie.After-may-go)
-    → let a = start (c .before .before .before) .args in
+    → let a = start (tested c) .args in
     (c .before .passes .result && c .may-go .result) ≡ goes (a .s) (mayGo (marked (a .marks .now)) (a .dist .now)) (a .status .now) (a .i)
 unfolding goes
 going c = ap₂ _&&_ (passing (c .before)) (c .may-go .ensures)
@@ -72,7 +71,7 @@ asked c = c .before .before .before .before .before .before
 
 left-requires : tie.Need-left-requires
 left-requires c κs =
-    let s = start (c .before .before .before .before .before .before .before) in
+    let s = start (c .before .before .before .before .before .before) in
     pending-two (s .args .status .now) (s .args .i) (s .pre .pending)
 
 -- a byte that is left is not pending
@@ -85,7 +84,7 @@ clear-requires : tie.Need-clear-requires
 unfolding isPending
 clear-requires c κs =
     let p = c .before .before .before .before .before in
-    let s = start (p .before .before .before) in
+    let s = start (tested p) in
     let a = s .args in
     record {
       index = s .pre .index;
@@ -97,8 +96,12 @@ clear-requires c κs =
 wake-around-requires : tie.Need-wake-around-requires
 wake-around-requires c κs =
     let k = cleared (c .before .before .before .before) in
-    let s = start (asked k .before .before .before) in
-    record { index = k .clear .ensures .index; statuses = k .clear .kept .1 .1 .0 ∙ s .pre .work .body .statuses; voxel = inner s }
+    let g = tested (asked k) in
+    let s = start g in
+    (
+      record { index = k .clear .ensures .index; statuses = k .clear .kept .1 .1 .0 ∙ s .pre .work .body .statuses .lent; voxel = inner s },
+      g .gather .ensures .rows,
+    )
 
 same-length : tie.Need-same-length
 same-length c = search needs
@@ -115,13 +118,13 @@ returns c =
     let t = w .before .before .before .before in
     let k = cleared (t .before) in
     let p = asked k in
-    let g = p .before .before .before in
+    let g = tested p in
     let s = start g in
     let a = s .args in
     let byte = k .before .left .ensures ∙ ap (λ (b : Bool). cond b 0 (rested (statusOf (a .status .now) (a .i)))) (t .if1 .taken) in
     gone-examined (a .s) (marked (a .marks .now)) (a .dist .now) (a .status .now) _ _ _ (a .i) _ (going p) (t .if1 .taken)
-    (removed-from (a .s) (mayGo (marked (a .marks .now)) (a .dist .now)) (a .status .now) (a .i) (inner s) (s .pre .work .body .statuses)
-    (ap (λ (x : ℕ). bits 54 (idleBit x)) (g .gather .ensures)) refl (written-as (k .clear .ensures) byte)
+    (removed-from (a .s) (mayGo (marked (a .marks .now)) (a .dist .now)) (a .status .now) (a .i) (inner s) (s .pre .work .body .statuses .lent)
+    (ap (λ (x : ℕ). bits 54 (idleBit x)) (g .gather .ensures .code)) refl (written-as (k .clear .ensures) byte)
     (w .wake-around .ensures .woken)) (w .wake-around .ensures .index)
 
 same-length-4 : tie.Need-same-length-4
@@ -137,7 +140,7 @@ returns-2 : tie.Need-returns-2
 returns-2 c =
     let k = cleared (c .before) in
     let p = asked k in
-    let a = start (p .before .before .before) .args in
+    let a = start (tested p) .args in
     let byte = k .before .left .ensures ∙ ap (λ (b : Bool). cond b 0 (rested (statusOf (a .status .now) (a .i)))) (c .if1 .left) in
     rest-examined (a .s) (marked (a .marks .now)) (a .dist .now) (a .status .now) _ _ _ (a .i) _ (going p) (c .if1 .left)
     (written-as (k .clear .ensures) byte) (k .clear .ensures .index)
@@ -147,7 +150,6 @@ examine-spec =
     tie.close
     (tie.spec
     gather-requires
-    kept-bits-requires
     passes-requires
     may-go-requires
     slice-read-x

@@ -3,6 +3,7 @@ use mathlib.Core.Path.{sym, subst, subst₂}
 use Prim.Native.Nat.{ℕ, _*_, _^_, _<_}
 use native.Mathlib.Omega.{arith}
 use borrow.Author.Needs.{needs}
+use Rattle.touched_cells.specs.Block.{codeIn}
 use Rattle.neighbourhood.specs.Neighbourhood.{Room}
 use Rattle.neighbourhood.proofs.Interior.{layer-small, room}
 use Rattle.waking.proofs.Idle.{idle-few}
@@ -22,7 +23,7 @@ idle-bits-requires c κs = search needs
 mul-wake : tie.Need-mul-wake
 mul-wake c =
     let s = start (c .before .before .before .before) in
-    record { fits = let b = layer-small _ _ (s .pre .voxel) in omega arith }
+    record { fits = let b = layer-small _ _ (s .pre .0 .voxel) in omega arith }
 
 wake-requires : tie.Need-wake-requires
 wake-requires c κs =
@@ -30,12 +31,12 @@ wake-requires c κs =
     let s = start d in
     let a = s .args in
     record {
-      index = s .pre .index;
+      index = s .pre .0 .index;
       bits =
           record {
-            room = subst₂ (λ (m n : ℕ). Room (a .s .a) (a .s .a * a .s .b) m n) (sym (d .before .first-around .ensures)) (sym (s .pre .statuses))
-                (room (a .s) (a .i) (s .pre .voxel));
-            few = subst (λ (n : ℕ). n < 2 ^ 54) (sym (d .idle-bits .ensures)) (idle-few (a .code));
+            room = subst₂ (λ (m n : ℕ). Room (a .s .a) (a .s .a * a .s .b) m n) (sym (d .before .first-around .ensures)) (sym (s .pre .0 .statuses))
+                (room (a .s) (a .i) (s .pre .0 .voxel));
+            few = subst (λ (n : ℕ). n < 2 ^ 54) (sym (d .idle-bits .ensures)) (idle-few (codeIn (a .block)));
           };
     }
 

@@ -31,7 +31,7 @@ held c =
     let l = a .s .a * a .s .b in
     subst (λ (n : ℕ). Holding (keyAt (marked (a .marks .now)) (a .dist .now) (a .status .now) (a .s .a) l) (1 + a .s .a + l) (n - (1 + a .s .a + l))
     (c .highest .result))
-    (start c .pre .body .statuses) (c .highest .ensures)
+    (start c .pre .body .statuses .lent) (c .highest .ensures)
 
 mul-l : tie.Need-mul-l
 mul-l c = record { fits = let y = layers _ _ _ _ (c .before .before .before .pre) in let b = y .layer in omega arith }
@@ -41,7 +41,7 @@ highest-requires c κs =
     let s = c .before .before .before in
     let a = s .args in
     let p = s .pre in
-    let e = p .body .statuses in (
+    let e = p .body .statuses .lent in (
       subst (Layers (a .s .a) (a .s .a * a .s .b)) (sym e) (layers (a .s) (a .dist .now) (a .marks .now) (a .status .now) p),
       (p .lent .0 ∙ sym e, p .lent .1 ∙ sym e),
     )
@@ -66,7 +66,7 @@ first-of-requires c κs =
     let r = h .highest .result in
     let g = held h in
     let y = layers (a .s) (a .dist .now) (a .marks .now) (a .status .now) p in
-    let e = p .body .statuses in (
+    let e = p .body .statuses .lent in (
       record {
         span = record { one = y .one; row = y .row; low = omega (arith, g .low); order = g .span; high = omega (arith, g .high, y .ends, e) };
         greatest = g .greatest;

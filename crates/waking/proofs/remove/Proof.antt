@@ -8,6 +8,7 @@ use Rattle.rules.specs.Marks.{marked}
 use Rattle.rules.specs.Machine.{mayGo}
 use Rattle.rules.specs.Grid.{size}
 use Rattle.bits.specs.Bits.{bits}
+use Rattle.touched_cells.specs.Block.{codeIn}
 use Rattle.neighbourhood.specs.Neighbourhood.{Room}
 use Rattle.neighbourhood.proofs.Interior.{layer-small, room}
 use Rattle.waking.specs.Waking.{idleBit}
@@ -23,7 +24,7 @@ gather-requires : tie.Need-gather-requires
 gather-requires c κs = search needs
 
 idle-bits-requires : tie.Need-idle-bits-requires
-idle-bits-requires c κs = search needs
+idle-bits-requires c κs = c .gather .ensures .rows
 
 first-around-requires : tie.Need-first-around-requires
 first-around-requires c κs = search needs
@@ -41,11 +42,10 @@ wake-requires c κs =
     let a = s .args in
     let p = s .pre in
     let d = f .before in
-    let len : length (set (a .status .now) (a .i) 0) ≡ size (a .s) = length-set (a .status .now) (a .i) 0 ∙ p .statuses in
-    let x : d .idle-bits .result ≡ bits 54 (idleBit (d .before .gather .result)) = d .idle-bits .ensures in (
+    let len : length (set (a .status .now) (a .i) 0) ≡ size (a .s) = length-set (a .status .now) (a .i) 0 ∙ p .statuses .lent in (
       record {
         room = subst₂ (λ (m n : ℕ). Room (a .s .a) (a .s .a * a .s .b) m n) (sym (f .first-around .ensures)) (sym len) (room (a .s) (a .i) (p .voxel));
-        few = subst (λ (n : ℕ). n < 2 ^ 54) (sym x) (idle-few (d .before .gather .result));
+        few = subst (λ (n : ℕ). n < 2 ^ 54) (sym (d .idle-bits .ensures)) (idle-few (codeIn (d .before .gather .result)));
       },
       p .distances ∙ sym len,
     )
@@ -60,8 +60,8 @@ returns c =
     let s = start f in
     let a = s .args in
     let d = f .before in
-    removed-from (a .s) (mayGo (marked (a .marks .now)) (a .dist .now)) (a .status .now) (a .i) (s .pre .voxel) (s .pre .statuses)
-    (d .idle-bits .ensures ∙ ap (λ (x : ℕ). bits 54 (idleBit x)) (d .before .gather .ensures)) (f .first-around .ensures) refl (w .wake .ensures)
+    removed-from (a .s) (mayGo (marked (a .marks .now)) (a .dist .now)) (a .status .now) (a .i) (s .pre .voxel) (s .pre .statuses .lent)
+    (d .idle-bits .ensures ∙ ap (λ (x : ℕ). bits 54 (idleBit x)) (d .before .gather .ensures .code)) (f .first-around .ensures) refl (w .wake .ensures)
 
 pub remove-spec : {M : Type 1} → statement M
 remove-spec =
