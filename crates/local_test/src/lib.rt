@@ -96,12 +96,7 @@ fn bare_groups(k: u32, corners: u32, edges: u32, faces: u32) -> u32
 fn face_bits(t: u64) -> u64
     ensures { λ r. ⌜ r ≡ bits 6 (λ n. cellsOf t (faceAt n)) ⌝ }
 {
-    (t >> 24 & 1)
-        + (t >> 27 & 2)
-        + (t >> 18 & 4)
-        + (t >> 29 & 8)
-        + (t >> 4 & 16)
-        + (t >> 39 & 32)
+    (t >> 24 & 1) + (t >> 27 & 2) + (t >> 18 & 4) + (t >> 29 & 8) + (t >> 4 & 16) + (t >> 39 & 32)
 }
 
 // The lowest numbered bare face, or 6. One more than the touched ones has its lowest 1 where their lowest 0 was.

@@ -22,7 +22,11 @@ fn layer(status: &[u8], a: usize, at: usize) -> [u8; 3]
     requires { ⌜ (at + 2 * a + 2 < length (now status)) × Few (now status) ⌝ }
     ensures { λ r. ⌜ r ≡ layerAt (now (status .entry)) a at ⌝ }
 {
-    [row(status, at), row(status, at + a), row(status, at + 2 * a)]
+    [
+        row(status, at),
+        row(status, at + a),
+        row(status, at + 2 * a),
+    ]
 }
 
 // Three layers, each l voxels after the other.
@@ -30,7 +34,11 @@ fn cube(status: &[u8], a: usize, l: usize, at: usize) -> [[u8; 3]; 3]
     requires { ⌜ Room a l at (length (now status)) × Few (now status) ⌝ }
     ensures { λ r. ⌜ r ≡ cubeAt (now (status .entry)) a l at ⌝ }
 {
-    [layer(status, a, at), layer(status, a, at + l), layer(status, a, at + 2 * l)]
+    [
+        layer(status, a, at),
+        layer(status, a, at + l),
+        layer(status, a, at + 2 * l),
+    ]
 }
 
 // The voxel at position 0 around voxel i.

@@ -1,3 +1,4 @@
 pub mod Blocks
 pub mod Sources
 pub mod Spreading
+pub mod Spacing

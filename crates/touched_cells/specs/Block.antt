@@ -37,15 +37,15 @@ codeIn block = bits 54 (blockBit block)
 abbrev pub keptOf : ℕ → ℕ → Bool
 keptOf code p = has code (2 * p)
 
--- ---- kept voxels given as the low 27 bits of one number
+-- ---- a block from its code, and from kept voxels given as the low 27 bits of one number
 
 abbrev pub rowOf : ℕ → ℕ
-rowOf kept = bits 6 (spaced (has kept))
+rowOf code = bits 6 (has code)
 
 abbrev pub layerOf : ℕ → List ℕ
-layerOf kept = rowOf kept ∷ rowOf (kept / 2 ^ 3) ∷ rowOf (kept / 2 ^ 6) ∷ []
+layerOf code = rowOf code ∷ rowOf (code / 2 ^ 6) ∷ rowOf (code / 2 ^ 12) ∷ []
 
 -- a block with just these voxels kept, and none pending
 pub record Unpacked (kept : ℕ) (block : List (List ℕ)) : Type 0 where
   pub rows : Rows block
-  pub same : (p : ℕ) → p < 27 → keptIn block p ≡ has kept p
+  pub code : codeIn block ≡ bits 54 (spaced (has kept))

@@ -2,7 +2,7 @@
 // A row is one byte: the statuses of its three voxels, two bits each, the lower for kept and the upper for pending.
 ghost use mathlib.Core.Path.{_≡_};
 ghost use Rattle.cells.specs.Cells.{touched};
-ghost use Rattle.bits.specs.Bits.{bits, spaced};
+ghost use Rattle.bits.specs.Bits.{has, bits, spaced};
 ghost use Rattle.touched_cells.specs.Block.{LayerRows, Rows, layerBit, codeIn, keptIn, keptOf, rowOf, layerOf, Unpacked};
 
 fn wide(x: u8) -> u64
@@ -49,22 +49,34 @@ pub fn touched(block: [[u8; 3]; 3]) -> u64
     spread(code_of(block))
 }
 
-// A row of which the low three bits say what is kept.
-fn row_of(kept: u32) -> u8
-    ensures { λ r. ⌜ r ≡ rowOf kept ⌝ }
+// The low 27 bits, two apart: each step moves the upper half of every group up.
+fn spaced_bits(kept: u32) -> u64
+    ensures { λ r. ⌜ r ≡ bits 54 (spaced (has kept)) ⌝ }
 {
-    ((kept & 1) + 2 * (kept & 2) + 4 * (kept & 4)) as u8
+    let x = kept as u64 & 0x7FFFFFF;
+    let x16 = (x | x << 16) & 0x0000FFFF0000FFFF;
+    let x8 = (x16 | x16 << 8) & 0x00FF00FF00FF00FF;
+    let x4 = (x8 | x8 << 4) & 0x0F0F0F0F0F0F0F0F;
+    let x2 = (x4 | x4 << 2) & 0x3333333333333333;
+    (x2 | x2 << 1) & 0x15555555555555
 }
 
-fn layer_of(kept: u32) -> [u8; 3]
-    ensures { λ r. ⌜ r ≡ layerOf kept ⌝ }
+fn row_of(code: u64) -> u8
+    ensures { λ r. ⌜ r ≡ rowOf code ⌝ }
 {
-    [row_of(kept), row_of(kept >> 3), row_of(kept >> 6)]
+    (code & 63) as u8
+}
+
+fn layer_of(code: u64) -> [u8; 3]
+    ensures { λ r. ⌜ r ≡ layerOf code ⌝ }
+{
+    [row_of(code), row_of(code >> 6), row_of(code >> 12)]
 }
 
 // The block whose kept voxels are the low 27 bits of one number, as C hands them over.
 pub fn block_of(kept: u32) -> [[u8; 3]; 3]
     ensures { λ r. ⌜ Unpacked kept r ⌝ }
 {
-    [layer_of(kept), layer_of(kept >> 9), layer_of(kept >> 18)]
+    let code = spaced_bits(kept);
+    [layer_of(code), layer_of(code >> 18), layer_of(code >> 36)]
 }

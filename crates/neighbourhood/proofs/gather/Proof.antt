@@ -20,8 +20,7 @@ cube-requires : tie.Need-cube-requires
 cube-requires c κs =
     let f = c .before in
     let p = f .before .before in
-    let s = p .args .s in
-    (
+    let s = p .args .s in (
       subst₂ (λ (m n : ℕ). Room (s .a) (s .a * s .b) m n) (sym (f .first-around .ensures)) (sym (p .pre .1 .lent)) (room s (p .args .i) (p .pre .0)),
       p .pre .1 .few,
     )

@@ -8,6 +8,9 @@ use Rattle.touched_cells.proofs.Blocks.{unpacked}
 use Rattle.touched_cells.proofs.block_of.Statement.{statement}
 use Rattle.touched_cells.proofs.block_of.Tie as tie
 
+spaced-bits-requires : tie.Need-spaced-bits-requires
+spaced-bits-requires c κs = search needs
+
 layer-of-requires : tie.Need-layer-of-requires
 layer-of-requires c κs = search needs
 
@@ -21,9 +24,10 @@ returns : tie.Need-returns
 returns c =
     let l2 = c .before in
     let l1 = l2 .before in
-    let kept = l1 .before .args .kept in
-    subst (λ (b : List (List ℕ)). Unpacked kept b)
-    (λ i. sym (l1 .layer-of .ensures) i ∷ sym (l2 .layer-of2 .ensures) i ∷ sym (c .layer-of3 .ensures) i ∷ []) (unpacked kept)
+    let b = l1 .before in
+    let kept = b .before .args .kept in
+    subst (λ (block : List (List ℕ)). Unpacked kept block)
+    (λ i. sym (l1 .layer-of .ensures) i ∷ sym (l2 .layer-of2 .ensures) i ∷ sym (c .layer-of3 .ensures) i ∷ []) (unpacked kept (b .spaced-bits .ensures))
 
 pub block-of-spec : {M : Type 1} → statement M
-block-of-spec = tie.close (tie.spec layer-of-requires layer-of-requires-2 layer-of-requires-3 returns)
+block-of-spec = tie.close (tie.spec spaced-bits-requires layer-of-requires layer-of-requires-2 layer-of-requires-3 returns)
