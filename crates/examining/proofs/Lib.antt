@@ -1,3 +1,2 @@
 pub mod Working
-pub mod Calling
 pub mod Running

@@ -19,7 +19,8 @@ use Rattle.pending.specs.declared.Choice.the-variants.{Nothing, At}
 use Rattle.pending.specs.Index.{chosen, Best, Index}
 use Rattle.examining.specs.declared.Count.{Count}
 use Rattle.neighbourhood.specs.Neighbourhood.{Inner}
-use Rattle.examining.specs.Examining.{Workable, Examined, faceAfter, Run, Tallied}
+use Rattle.last_removal.specs.LastRemoval.{faceAfter}
+use Rattle.examining.specs.Examining.{Workable, Examined, Run, Tallied}
 use Rattle.examining.proofs.Working.{pending-inner, workable-examine, face-examined}
 
 -- ---- the rule, a step at a time

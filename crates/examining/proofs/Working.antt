@@ -6,14 +6,14 @@ use mathlib.Core.List.{List}
 use Prim.Native.Nat.{ℕ, suc, _+_, _-_, _/_, _%_, _≤_, _<_}
 use native.Mathlib.Omega.{arith}
 use native.Mathlib.Decide.{ℕ-discrete, decLt}
-use borrow.Author.Tests.{eqb-false, ne-eqb}
-use lib.Dec.{eqb, lit<}
+use borrow.Author.Tests.{ltb-true, ltb-false, eqb-true, eqb-false, ne-eqb}
+use lib.Dec.{eqb, ltb, lit<}
 use lib.IntN.{ℤ}
 use lib.ListN.{length, set, List·getD-eq-default}
 use lib.Seq.{getD-set-same, getD-set-other}
 use Rattle.cells.specs.Cells.{Test, test}
 use Rattle.closed_sets.proofs.EveryBlock.{test-ext}
-use Rattle.prelude.proofs.Bools.{and-true, true-and, and-one, or-true, not-both}
+use Rattle.prelude.proofs.Bools.{two, and-true, true-and, and-one, or-true, not-both}
 use Rattle.prelude.proofs.Ranges.{getD-map-range}
 use Rattle.rules.specs.declared.Sides.{Sides}
 use Rattle.rules.specs.Grid.{size, voxels, touch, neighbourhood}
@@ -23,13 +23,25 @@ use Rattle.rules.specs.Machine.{mayGo}
 use Rattle.rules.specs.Fit.{Known, FitVoxels}
 use Rattle.rules.proofs.Topology.Surface.{omit}
 use Rattle.rules.proofs.Topology.Around.{place-low}
-use Rattle.rules.proofs.Topology.Steps.{length-without, kept-without, pending-without, length-stayed, kept-stayed, pending-stayed}
+use Rattle.rules.proofs.Topology.Steps.{pending-beyond, length-without, kept-without, pending-without, length-stayed, kept-stayed, pending-stayed}
 use Rattle.neighbourhood.specs.Neighbourhood.{Inner, Few, around}
 use Rattle.neighbourhood.proofs.Interior.{around-middle, around-apart}
 use Rattle.neighbourhood.proofs.Gathering.{neighbourhood-around}
 use Rattle.neighbourhood.proofs.Bodies.{kept-inner, fit-body}
 use Rattle.pending.specs.Index.{Index, Written}
-use Rattle.examining.specs.Examining.{Workable, Examined, faceAfter}
+use Rattle.last_removal.specs.LastRemoval.{faceAfter}
+use Rattle.examining.specs.Examining.{Workable, Examined}
+
+pub pending-below : (status : List ℕ) (i : ℕ) → isPending status i ≡ true → i < length status
+pending-below status i e =
+    elim (two (ltb i (length status))) [
+      | inl t ↦ ltb-true i (length status) t
+      | inr t ↦ not-both (isPending status i) e (pending-beyond status i (ltb-false i (length status) t))
+    ]
+
+pub pending-two : (status : List ℕ) (i : ℕ) → isPending status i ≡ true → 2 ≤ statusOf status i
+unfolding isPending pendingByte
+pending-two status i e = let h = eqb-true (statusOf status i / 2 % 2) 1 e in omega arith
 
 known-kept : (x : ℕ) → Known x → pendingByte x ≡ true → keptByte x ≡ true
 unfolding keptByte pendingByte

@@ -6,7 +6,9 @@ ghost use lib.ListN.{length, getD};
 ghost use mir.Syntax.{w32};
 ghost use mir.Val.{SFits};
 ghost use Rattle.rules.specs.Grid.{distanceAt};
-ghost use Rattle.rules.specs.Status.{woken};
+ghost use Rattle.rules.specs.Status.{isPending, woken};
+ghost use Rattle.cells.specs.Groups.{any};
+ghost use Rattle.rules.specs.Grid.{range};
 ghost use Rattle.rules.specs.Marks.{marked};
 ghost use Rattle.keys.specs.Key.{most, Lent, keyAt, voxelOf, greatest, stretches};
 ghost use Rattle.offsets.specs.Offsets.{offsetOf, Held, heldKey, heldGroup, groups, Offsets};
@@ -148,4 +150,16 @@ pub fn best(dist: &[i32], marks: &[u8], status: &[u8], offsets: &[u8], tree: &[u
         return Choice::Nothing;
     }
     Choice::At(voxel(dist, w))
+}
+
+// Whether any voxel is pending.
+pub fn any_pending(dist: &[i32], marks: &[u8], status: &[u8], offsets: &[u8], tree: &[u64]) -> bool
+    requires { ⌜ Index (marked (now marks)) (now dist) (now status) (now offsets) (now tree) ⌝ }
+    ensures { λ r. ⌜ r ≡ any (isPending (now (status .entry))) (range 0 (length (now (status .entry)))) ⌝ }
+{
+    let next = best(dist, marks, status, offsets, tree);
+    match next {
+        Choice::Nothing => false,
+        Choice::At(_) => true,
+    }
 }

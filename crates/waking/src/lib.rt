@@ -29,6 +29,16 @@ pub fn offset(a: usize, l: usize, p: usize) -> usize
     p % 3 + a * (p / 3 % 3) + l * (p / 9)
 }
 
+// Whether voxel j may go: it is outside S and not pinned.
+pub fn may_go(dist: &[i32], marks: &[u8], j: usize) -> bool
+    requires { ⌜ j < length (now dist) ⌝ }
+    ensures { λ r. ⌜ r ≡ mayGo (marked (now (marks .entry))) (now (dist .entry)) j ⌝ }
+{
+    let d = dist[j];
+    let p = marks::pinned(marks, j);
+    !((d < 0) | p)
+}
+
 // Bit 1 is set where the distance is not negative and the voxel is not pinned.
 fn woken_status(d: i32, pinned: bool, x: u8) -> u8
     ensures { λ r. ⌜ r ≡ wokenIf d pinned x ⌝ }

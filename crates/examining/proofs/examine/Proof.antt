@@ -14,8 +14,7 @@ use Rattle.neighbourhood.specs.Neighbourhood.{Inner}
 use Rattle.neighbourhood.proofs.Gathering.{block-test}
 use Rattle.waking.specs.Waking.{idleBit}
 use Rattle.waking.proofs.Removal.{removed-from}
-use Rattle.examining.proofs.Calling.{pending-below, pending-two}
-use Rattle.examining.proofs.Working.{pending-inner, written-as, gone-examined, rest-examined}
+use Rattle.examining.proofs.Working.{pending-below, pending-two, pending-inner, written-as, gone-examined, rest-examined}
 use Rattle.examining.proofs.examine.Statement.{statement}
 use Rattle.examining.proofs.examine.Tie as tie
 
@@ -97,8 +96,7 @@ wake-around-requires : tie.Need-wake-around-requires
 wake-around-requires c κs =
     let k = cleared (c .before .before .before .before) in
     let g = tested (asked k) in
-    let s = start g in
-    (
+    let s = start g in (
       record { index = k .clear .ensures .index; statuses = k .clear .kept .1 .1 .0 ∙ s .pre .work .body .statuses .lent; voxel = inner s },
       g .gather .ensures .rows,
     )
