@@ -94,7 +94,7 @@ unfolding bits spaced
 all-mask = refl
 
 -- the count of the code, of a set of cells
-abbrev count : ℕ → ℕ
+abbrev pub count : ℕ → ℕ
 count t = ones (bitAnd (bitXor t 0x04444440444444) allCells)
 
 ones-unlike : (s : ℕ → Bool) → s 13 ≡ false → count (bits 54 (spaced s)) ≡ size (λ c. unlike (s c) (isOf 1 c)) positions

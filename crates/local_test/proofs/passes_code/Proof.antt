@@ -1,12 +1,13 @@
 -- `local_test::passes_code` meets its contract: a count of ones and k decide, and the first is enough where it fails.
 use mathlib.Core.Path.{_≡_, refl, sym, ap, _∙_}
 use mathlib.Core.Bool.{Bool, _&&_}
+use native.Mathlib.Omega.{arith}
 use borrow.Author.Needs.{needs}
 use borrow.Author.Tests.{eq-eqb, ne-eqb}
 use lib.Dec.{eqb}
 use Rattle.cells.specs.Cells.{test}
 use Rattle.touched_cells.specs.Block.{keptOf}
-use Rattle.local_test.proofs.Pass.{pass-by-counts}
+use Rattle.local_test.proofs.Pass.{count, pass-by-counts}
 use Rattle.local_test.proofs.passes_code.Statement.{statement}
 use Rattle.local_test.proofs.passes_code.Tie as tie
 
@@ -18,7 +19,7 @@ returns : tie.Need-returns
 returns c =
     let t = c .before in
     let kept = keptOf (t .before .args .code) in
-    ap (λ (b : Bool). b && eqb (test kept .k) 1) (sym (ne-eqb _ 13 (c .if1 .taken)))
+    ap (λ (b : Bool). b && eqb (test kept .k) 1) (sym (ne-eqb (count (t .spread .result)) 13 (λ e. omega (arith, c .if1 .taken))))
     ∙ pass-by-counts kept (t .spread .result) (test kept .k) (t .spread .ensures) refl
 
 touched-groups-requires : tie.Need-touched-groups-requires
@@ -29,7 +30,7 @@ returns-2 c =
     let e = c .before in
     let t = e .before in
     let kept = keptOf (t .before .args .code) in
-    ap (λ (b : Bool). b && eqb (c .touched-groups .result) 1) (sym (eq-eqb _ 13 (e .if1 .left)))
+    ap (λ (b : Bool). b && eqb (c .touched-groups .result) 1) (sym (eq-eqb (count (t .spread .result)) 13 (omega (arith, e .if1 .left))))
     ∙ pass-by-counts kept (t .spread .result) (c .touched-groups .result) (t .spread .ensures) (c .touched-groups .ensures kept (t .spread .ensures))
 
 pub passes-code-spec : {M : Type 1} → statement M
