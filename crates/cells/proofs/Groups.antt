@@ -264,6 +264,3 @@ module _ {A : Type 0} (joined : A → A → Bool) (turn : (x y : A) → joined x
   -- an element is in one group only
   pub group-same : (i j : ℕ) (x : A) → At (groups joined xs) i x → At (groups joined xs) j x → i ≡ j
   group-same i j x a b = group-joined joined turn member xs are all i j x x a b (self x)
-
-  pub linked-same : (i j : ℕ) {x y : A} → Linked member joined x y → At (groups joined xs) i x → At (groups joined xs) j y → i ≡ j
-  linked-same i j {x} {y} l a b = group-same i j y (linked-group joined turn member xs are all i l a) b

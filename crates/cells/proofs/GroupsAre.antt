@@ -1,9 +1,10 @@
--- The groups of a list of numbers are the classes of its members; k and m count the groups of touched and of bare cells.
+-- The groups of a list of numbers are the classes of its members, and as many where no element is in two of them; k and m count the groups of
+-- touched and of bare cells.
 use mathlib.Core.Path.{_≡_, refl, sym, ap₂, _∙_, subst}
-use mathlib.Core.Logic.{inl, inr}
+use mathlib.Core.Logic.{_⊎_, inl, inr}
 use mathlib.Core.Bool.{Bool, true, false, not, _&&_}
 use mathlib.Core.List.{List, [], _∷_}
-use Prim.Native.Nat.{ℕ, zero, suc, _/_, _%_, _≤_, _<_}
+use Prim.Native.Nat.{ℕ, zero, suc, _/_, _%_, _<_}
 use native.Mathlib.Omega.{arith}
 use native.Mathlib.Decide.{decLt}
 use lib.Dec.{eqb}
@@ -12,11 +13,13 @@ use borrow.Author.Tests.{eqb-true, eq-eqb, ne-eqb}
 use Rattle.cells.specs.Groups.{any, filter, groups}
 use Rattle.cells.specs.Linked.{Linked, OnePiece}
 use Rattle.cells.specs.Cells.{contains, spans, joined, positions, touched, groupCount, testOf, test}
-use Rattle.cells.specs.Classes.{among, together, Classes, Counted, Symmetric, Reflexive, GroupsAreClasses, cells, TestCounts}
-use Rattle.prelude.proofs.Bools.{and-true, true-and, or-true, true-or, both-ways, two}
+use Rattle.cells.specs.Classes.{among, together, Classes, Counted, Symmetric, Reflexive, EachOnce, GroupsAreClasses, GroupsAreCounted}
+use Rattle.cells.specs.Classes.{cells, TestCounts}
+use Rattle.prelude.proofs.Bools.{and-true, true-and, or-true, true-or, both-ways, not-both}
 use Rattle.prelude.proofs.Lists.{Mem, here, there, any-true, true-any, false-any, filter-mem, mem-filter}
 use Rattle.cells.proofs.Chains.{first-member}
-use Rattle.cells.proofs.Groups.{At, at-lt, group-filled, group-of, group-member, group-linked, linked-group, linked-same, group-one}
+use Rattle.cells.proofs.Groups.{At, at-lt, group-filled, group-of, group-member, group-linked, linked-group, group-same, group-one}
+use Rattle.cells.proofs.GroupsSize.{Distinct, distinct-same, groups-distinct}
 
 -- ---- members of a list of numbers, as a test
 
@@ -45,7 +48,7 @@ mem-getD d x (y ∷ l) (there m) = let r = mem-getD d x l m in (suc (r .0), (let
 
 -- ---- the groups of members
 
-module _ (joined : ℕ → ℕ → Bool) (turn : Symmetric joined) (self : Reflexive joined) (member : ℕ → Bool) (xs : List ℕ)
+module _ (joined : ℕ → ℕ → Bool) (turn : Symmetric joined) (member : ℕ → Bool) (xs : List ℕ)
     (are : (x : ℕ) → Mem x xs → member x ≡ true) (all : (x : ℕ) → member x ≡ true → Mem x xs) where
   pub groups-classes : Classes member joined (groups joined xs)
   groups-classes = record { members = members; filled = filled; linked = linked; whole = whole }
@@ -92,12 +95,17 @@ module _ (joined : ℕ → ℕ → Bool) (turn : Symmetric joined) (self : Refle
           at-any (λ g. among g x && among g y) (r .0) x (r .1)
           (true-and (among g x) (among g y) (mem-among g x (r .1)) (mem-among g y (linked-group joined turn member xs are all (r .0) l (r .1))))
 
-  pub groups-counted : Counted member joined (length (groups joined xs))
-  groups-counted =
+  -- an element is in one group only
+  abbrev pub OneGroup : Type 0
+  OneGroup = (i j x : ℕ) → At (groups joined xs) i x → At (groups joined xs) j x → i ≡ j
+
+  pub groups-counted : OneGroup → Counted member joined (length (groups joined xs))
+  groups-counted same =
       record {
         pick = λ i. pick i (decLt i n);
         picked = λ i h. group-member joined turn member xs are all i (pick i (decLt i n)) (at i h (decLt i n));
-        apart = λ i j h k l. linked-same joined turn self member xs are all i j l (at i h (decLt i n)) (at j k (decLt j n));
+        apart = λ i j h k l.
+            same i j (pick j (decLt j n)) (linked-group joined turn member xs are all i l (at i h (decLt i n))) (at j k (decLt j n));
         reach = λ x m.
             let r = group-of joined turn member xs are all x m in
             let h = at-lt (groups joined xs) (r .0) x (r .1) in
@@ -116,8 +124,18 @@ module _ (joined : ℕ → ℕ → Bool) (turn : Symmetric joined) (self : Refle
       at i h (no k) = absurd (k h)
 
 pub groups-are-classes : GroupsAreClasses
-groups-are-classes joined turn self xs =
-    (groups-classes joined turn self (among xs) xs (mem-among xs) (among-mem xs), groups-counted joined turn self (among xs) xs (mem-among xs) (among-mem xs))
+groups-are-classes joined turn xs = groups-classes joined turn (among xs) xs (mem-among xs) (among-mem xs)
+
+each-once : (xs : List ℕ) → EachOnce xs → Distinct xs
+each-once [] o = tt
+each-once (x ∷ xs) o = (λ m. not-both (among xs x) (mem-among xs x m) (o .0), each-once xs (o .1))
+
+pub groups-are-counted : GroupsAreCounted
+groups-are-counted joined turn xs h = groups-counted joined turn (among xs) xs (mem-among xs) (among-mem xs) (one h)
+  where
+    one : (Reflexive joined) ⊎ (EachOnce xs) → OneGroup joined turn (among xs) xs (mem-among xs) (among-mem xs)
+    one (inl self) = group-same joined turn self (among xs) xs (mem-among xs) (among-mem xs)
+    one (inr once) = distinct-same (groups joined xs) (groups-distinct joined xs (each-once xs once))
 
 -- ---- cells
 
@@ -148,7 +166,9 @@ module _ (p : ℕ → Bool) where
 
   pub cells-counted : Counted (cells p) joined (groupCount (filter p positions))
   unfolding groupCount
-  cells-counted = groups-counted joined joined-turn joined-self (cells p) (filter p positions) are all
+  cells-counted =
+      groups-counted joined joined-turn (cells p) (filter p positions) are all
+      (group-same joined joined-turn joined-self (cells p) (filter p positions) are all)
 
   -- one group: any two of the cells are linked
   pub cells-one-piece : groupCount (filter p positions) ≡ 1 → OnePiece (cells p) joined

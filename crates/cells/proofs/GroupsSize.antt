@@ -94,6 +94,14 @@ module _ {A : Type 0} where
   distinct-at (g ∷ gs) zero d = append-distinct g (flat gs) d .0
   distinct-at (g ∷ gs) (suc i) d = distinct-at gs i (append-distinct g (flat gs) d .1)
 
+  -- an element of such groups is in one of them only
+  pub distinct-same : (gs : List (List A)) → Distinct (flat gs) → (i j : ℕ) (x : A) → At gs i x → At gs j x → i ≡ j
+  distinct-same [] d i j x a b = absurd (mem-none a)
+  distinct-same (g ∷ gs) d zero zero x a b = refl
+  distinct-same (g ∷ gs) d zero (suc j) x a b = absurd (append-distinct g (flat gs) d .2 x a (flat-at gs j x b))
+  distinct-same (g ∷ gs) d (suc i) zero x a b = absurd (append-distinct g (flat gs) d .2 x b (flat-at gs i x a))
+  distinct-same (g ∷ gs) d (suc i) (suc j) x a b = ap suc (distinct-same gs (append-distinct g (flat gs) d .1) i j x a b)
+
 module _ {A : Type 0} (joined : A → A → Bool) where
   -- the groups reached, and then the others
   split : A → List (List A) → List A

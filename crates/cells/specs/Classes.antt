@@ -1,7 +1,8 @@
 -- What groups are: the classes of a list's members, two members being in one class exactly if a chain of members links them.
 use mathlib.Core.Path.{_≡_}
+use mathlib.Core.Logic.{_⊎_}
 use mathlib.Core.Bool.{Bool, true, false, not, _&&_}
-use mathlib.Core.List.{List}
+use mathlib.Core.List.{List, [], _∷_}
 use Prim.Native.Nat.{ℕ, _<_}
 use lib.Dec.{eqb}
 use lib.ListN.{length}
@@ -39,11 +40,20 @@ Symmetric joined = (x y : ℕ) → joined x y ≡ true → joined y x ≡ true
 abbrev pub Reflexive : (ℕ → ℕ → Bool) → Type 0
 Reflexive joined = (x : ℕ) → joined x x ≡ true
 
--- the groups of a list are the classes of its members, and their number is the number of classes
+-- no element stands in the list twice
+abbrev pub EachOnce : List ℕ → Type 0
+EachOnce [] = Unit {0}
+EachOnce (x ∷ xs) = (among xs x ≡ false) × (EachOnce xs)
+
+-- the groups of a list are the classes of its members, for whatever is joined both ways: also where nothing is joined to itself, as by faces
 abbrev pub GroupsAreClasses : Type 0
-GroupsAreClasses =
-    (joined : ℕ → ℕ → Bool) → Symmetric joined → Reflexive joined → (xs : List ℕ)
-    → (Classes (among xs) joined (groups joined xs)) × (Counted (among xs) joined (length (groups joined xs)))
+GroupsAreClasses = (joined : ℕ → ℕ → Bool) → Symmetric joined → (xs : List ℕ) → Classes (among xs) joined (groups joined xs)
+
+-- and their number is the number of classes, where an element is joined to itself or stands in the list once
+abbrev pub GroupsAreCounted : Type 0
+GroupsAreCounted =
+    (joined : ℕ → ℕ → Bool) → Symmetric joined → (xs : List ℕ) → (Reflexive joined) ⊎ (EachOnce xs)
+    → Counted (among xs) joined (length (groups joined xs))
 
 -- and there is one such number
 abbrev pub CountedOnce : Type 0

@@ -15,15 +15,16 @@ use Rattle.prelude.proofs.Lists.{Mem, any-true, true-any, any-false, false-any,
 use Rattle.prelude.proofs.Ranges.{getD-map-range, length-map-range, is-map-range}
 use Rattle.cells.proofs.Chains.{append, reverse, first-member, follow}
 use Rattle.cells.proofs.Groups.{at-lt, group-of, group-member, group-linked, linked-group}
-use Rattle.cells.proofs.GroupsAre.{mem-getD, getD-mem}
+use Rattle.cells.proofs.GroupsAre.{mem-getD, getD-mem, groups-classes, groups-counted}
+use Rattle.cells.proofs.GroupsSize.{distinct-filter, distinct-same, groups-distinct}
 use Rattle.rules.specs.declared.Sides.{Sides}
 use Rattle.rules.specs.Value.{isMissing, beyond, stray}
 use Rattle.rules.specs.Grid.{size, voxels, onBorder, shareFace, missing, measuredNegative, valueAt, isIn}
 use Rattle.rules.specs.Fill.{gaps, around, enclosed, enclosedGaps, inSome, isFilled, filledIn, filled}
 use Rattle.rules.specs.Meaning.{negative}
-use Rattle.rules.specs.Gaps.{missingAt, InGap, Enclosed, FilledIsEnclosed, FilledValues, OneRound}
+use Rattle.rules.specs.Gaps.{missingAt, InGap, GapsAreClasses, Enclosed, FilledIsEnclosed, FilledValues, OneRound}
 use Rattle.rules.proofs.InsideLeast.{map-mem}
-use Rattle.rules.proofs.Inside.{voxels-mem, mem-voxels, isIn-mem, mem-isIn}
+use Rattle.rules.proofs.Inside.{voxels-mem, mem-voxels, voxels-distinct, isIn-mem, mem-isIn}
 use Rattle.rules.proofs.Fit.{Beginnable, none-stray}
 use Rattle.rules.proofs.Topology.Removal.{face-turn}
 
@@ -148,6 +149,15 @@ module _ (s : Sides) (values : List ℤ) where
       true-any (λ g. isIn g i) (filter (enclosed s values) all) g
       (mem-filter (enclosed s values) all g (getD-mem [] all (k .0) (at-lt all (k .0) i (k .1))) (enclosed-gap (k .0) i (k .1) E))
       (mem-isIn g i (k .1))
+
+pub gaps-are-classes : GapsAreClasses
+unfolding gaps
+gaps-are-classes s values = (
+  groups-classes (shareFace s) (face-turn s) (member s values) (voids s values) (void-member s values) (member-void s values),
+  groups-counted (shareFace s) (face-turn s) (member s values) (voids s values) (void-member s values) (member-void s values)
+      (distinct-same (all s values)
+      (groups-distinct (shareFace s) (voids s values) (distinct-filter (λ i. isMissing (valueAt values i)) (voxels s) (voxels-distinct s)))),
+)
 
 pub filled-is-enclosed : FilledIsEnclosed
 filled-is-enclosed s values i = (filled-enclosed s values i, enclosed-filled s values i)

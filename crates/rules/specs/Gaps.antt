@@ -9,11 +9,12 @@ use lib.ListN.{length}
 use lib.IntN.{ℤ, negsuc}
 use Rattle.cells.specs.Groups.{any}
 use Rattle.cells.specs.Linked.{Linked}
+use Rattle.cells.specs.Classes.{Classes, Counted}
 use Rattle.rules.specs.declared.Sides.{Sides}
 use Rattle.rules.specs.declared.Record.{Record}
 use Rattle.rules.specs.Value.{isMissing}
 use Rattle.rules.specs.Grid.{size, onBorder, shareFace, measuredNegative, valueAt, distanceAt}
-use Rattle.rules.specs.Fill.{isFilled, filled}
+use Rattle.rules.specs.Fill.{gaps, isFilled, filled}
 use Rattle.rules.specs.Marks.{Marked}
 use Rattle.rules.specs.Answer.{done}
 use Rattle.rules.specs.Begin.{isIn, inside, begunOn, begun, begin}
@@ -28,6 +29,12 @@ missingAt s values i = ltb i (size s) && isMissing (valueAt values i)
 -- j is in the gap of i: linked to it by missing voxels, each sharing a face with the next
 abbrev pub InGap : Sides → List ℤ → ℕ → ℕ → Type 0
 InGap s values i j = Linked (missingAt s values) (shareFace s) i j
+
+-- the gaps are the classes of missing voxels that faces link, and as many
+abbrev pub GapsAreClasses : Type 0
+GapsAreClasses =
+    (s : Sides) (values : List ℤ)
+    → (Classes (missingAt s values) (shareFace s) (gaps s values)) × (Counted (missingAt s values) (shareFace s) (length (gaps s values)))
 
 -- the gap of i has no voxel on the border, and each face neighbour of a voxel of it that is not missing, and so none of it, is measured negative
 pub record Enclosed (s : Sides) (values : List ℤ) (i : ℕ) : Type 0 where
