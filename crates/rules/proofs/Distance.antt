@@ -1,4 +1,4 @@
--- The distance of a voxel from S is the number of steps to the nearest voxel of S; at 0 it is in S, at 1 beside it.
+-- Index and coordinates give each other back. The distance of a voxel from S is the number of steps to the nearest voxel of S; at 0 it is in S, at 1 beside it.
 use mathlib.Core.Path.{_≡_, refl, ap, ap₂, sym, _∙_, subst}
 use mathlib.Core.Logic.{_⊎_, inl, inr}
 use mathlib.Core.Bool.{Bool, true, false, cond, _&&_, _||_}
@@ -15,8 +15,9 @@ use Rattle.prelude.proofs.Lists.{Mem, any-true, true-any, filter-mem, mem-filte
 use Rattle.rules.specs.declared.Sides.{Sides}
 use Rattle.rules.specs.Grid.{size, index, voxel, gap, apart, taxicab, shareFace, voxels, measuredNonNegative, amount, valueAt}
 use Rattle.rules.specs.Begin.{greatest, isIn, inside, facing, greatestFacing, distance, workedAt}
-use Rattle.rules.specs.Meaning.{negative, SomeVoxels, Nearest, DistanceIsNearest, DistanceTells, GreatestBeside, GreatestIsBeside}
-use Rattle.rules.proofs.Places.{InGrid, voxel-eq, index-voxel, voxel-in}
+use Rattle.rules.specs.Meaning.{VoxelOfIndex, IndexOfVoxel, negative, SomeVoxels, Nearest, DistanceIsNearest, DistanceTells}
+use Rattle.rules.specs.Meaning.{GreatestBeside, GreatestIsBeside}
+use Rattle.rules.proofs.Places.{InGrid, voxel-eq, index-voxel, voxel-index, index-lt, voxel-in}
 use Rattle.rules.proofs.InsideLeast.{least-le, least-mem, start-le, le-greatest, greatest-is, mem-map, map-mem}
 use Rattle.rules.proofs.Inside.{voxels-mem, mem-voxels, isIn-mem, mem-isIn, negative-lt, inside-some, inside-members}
 
@@ -40,6 +41,12 @@ sides-positive s i h = (go-a (s .a) (s .b) (s .c) i h, go-b (s .a) (s .b) (s .c)
 
 pub voxel-inside : (s : Sides) (i : ℕ) → i < size s → InGrid s (voxel s i)
 voxel-inside s i h = let p = sides-positive s i h in voxel-in s i (p .0) (p .1) h
+
+pub voxel-of-index : VoxelOfIndex
+voxel-of-index s i h = let p = sides-positive s i h in (voxel-inside s i h, index-voxel s i (p .0) (p .1))
+
+pub index-of-voxel : IndexOfVoxel
+index-of-voxel s v g = (index-lt s v g, voxel-index s v (g .x-in) (g .y-in))
 
 -- ---- steps
 

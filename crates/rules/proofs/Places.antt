@@ -10,12 +10,7 @@ use borrow.Author.Tests.{leb-true}
 use Rattle.prelude.proofs.Bools.{and-true}
 use Rattle.rules.specs.declared.Sides.{Sides}
 use Rattle.rules.specs.Grid.{fitSide, fitSides, size, Voxel, index, voxel}
-
--- a voxel of the grid
-pub record InGrid (s : Sides) (v : Voxel) : Type 0 where
-  pub x-in : v .x < s .a
-  pub y-in : v .y < s .b
-  pub z-in : v .z < s .c
+pub use Rattle.rules.specs.Meaning.{InGrid}
 
 -- sides that are fit
 pub record Fit (s : Sides) : Type 0 where

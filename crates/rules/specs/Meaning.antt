@@ -1,5 +1,5 @@
--- Document 01, "Grid and worked distances": what begin's S, its M, its distances and its box are.
--- The statements are proved in proofs/Inside.antt (step 1), Distance.antt (steps 2 and 3) and Boxes.antt (step 4).
+-- Document 01, "Grid and worked distances": that an index tells its voxel, and what begin's S, its M, its distances and its box are.
+-- The statements are proved in proofs/Distance.antt (the index, steps 2 and 3), Inside.antt (step 1) and Boxes.antt (step 4).
 use mathlib.Core.Path.{_≡_}
 use mathlib.Core.Logic.{_⊎_, _↔_}
 use mathlib.Core.Bool.{Bool, true, false, _&&_}
@@ -11,8 +11,22 @@ use lib.IntN.{ℤ}
 use Rattle.cells.specs.Groups.{filter}
 use Rattle.cells.specs.Linked.{Linked}
 use Rattle.rules.specs.declared.Sides.{Sides}
-use Rattle.rules.specs.Grid.{size, voxel, voxels, onBorder, touch, taxicab, measuredNegative, measuredNonNegative, amount, valueAt}
+use Rattle.rules.specs.Grid.{size, Voxel, index, voxel, voxels, onBorder, touch, taxicab, measuredNegative, measuredNonNegative, amount, valueAt}
 use Rattle.rules.specs.Begin.{isIn, inside, facing, greatestFacing, distance, inBox}
+
+-- ---- index and coordinates give each other back
+
+-- a voxel of the grid
+pub record InGrid (s : Sides) (v : Voxel) : Type 0 where
+  pub x-in : v .x < s .a
+  pub y-in : v .y < s .b
+  pub z-in : v .z < s .c
+
+abbrev pub VoxelOfIndex : Type 0
+VoxelOfIndex = (s : Sides) (i : ℕ) → i < size s → (InGrid s (voxel s i)) × (index s (voxel s i) ≡ i)
+
+abbrev pub IndexOfVoxel : Type 0
+IndexOfVoxel = (s : Sides) (v : Voxel) → InGrid s v → (index s v < size s) × (voxel s (index s v) ≡ v)
 
 -- ---- step 1: S
 
