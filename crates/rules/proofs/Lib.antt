@@ -15,6 +15,7 @@ pub mod Demand
 pub mod Pinned
 pub mod Unmarked
 pub mod Gaps
+pub mod Handed
 pub mod NeverUnfit
 pub mod LongRange
 pub mod Latest

@@ -15,6 +15,7 @@ pub mod Body
 pub mod Demand
 pub mod Unmarked
 pub mod Gaps
+pub mod Handed
 pub mod LongRange
 pub mod Slices
 pub mod PinFirst
