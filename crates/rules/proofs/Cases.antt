@@ -16,9 +16,9 @@ use Rattle.rules.specs.Status.{statusWithout, without, goes, examine, ca
 use Rattle.rules.specs.Machine.{isInside, outside, mayGo, farther, sooner, unfitCounts, unfitVoxel, unfit, wrongLength, carved, carve, taken, take}
 use Rattle.rules.specs.Machine.{toOpen, opened, openNext, closed, closedAt, finishedOf, finish}
 use Rattle.rules.specs.Cases.{startWith, carvedWith, start, carvedTo, plainCarve, plainTake, plainOpen, ended}
-use Rattle.rules.specs.Cases.{caseA, plate, valuesC, caseC, layerD, valuesD, caseD, valuesArc, arc, bar, cube}
+use Rattle.rules.specs.Cases.{caseA, plate, valuesC, caseC, layerD, valuesD, caseD, valuesArc, arc, bar, valuesTwo, twoGroups, cube}
 use Rattle.rules.specs.Cases.{wall, walled, hollow, markAt, markD, begunD, threesD, deep, rod, barOf, markBar, block, carvedFace}
-use Rattle.rules.specs.Cases.{CaseA, CaseD, Bar, Numbers, LongTunnels, BehindTheFace, Pinned, Hurried, PinnedAndHurried}
+use Rattle.rules.specs.Cases.{CaseA, CaseD, Bar, Discarded, Numbers, LongTunnels, BehindTheFace, Pinned, Hurried, PinnedAndHurried}
 use Rattle.rules.specs.Cases.{ThreesTakenOff, HurriedDeep, MarksLater, MarkNumbers, WhichSide}
 
 -- ---- all that a case computes with: to unfold `all-rules` is to unfold the rules
@@ -64,7 +64,7 @@ unfolding markAt markD begunD threesD deep rod barOf markBar
 mark-cases = tt
 
 unfoldable worked-cases : Unit {0}
-unfolding case-calls caseA plate valuesC caseC layerD valuesD caseD valuesArc arc bar cube wall walled hollow mark-cases block carvedFace
+unfolding case-calls caseA plate valuesC caseC layerD valuesD caseD valuesArc arc bar valuesTwo twoGroups cube wall walled hollow mark-cases block carvedFace
 worked-cases = tt
 
 unfoldable pub all-rules : Unit {0}
@@ -82,6 +82,10 @@ case-d = record { before = refl; first = refl; second = refl }
 pub the-bar : Bar
 unfolding all-rules
 the-bar = record { stays = refl; pending-refused = refl; not-finished = refl; farthest-opened = refl; earliest-opened = refl }
+
+pub discarded : Discarded
+unfolding all-rules
+discarded = record { first = refl; worked = refl; gone = refl }
 
 pub the-numbers : Numbers
 unfolding all-rules

@@ -13,26 +13,22 @@ use Rattle.rules.specs.Marks.{unmarked, noMarks}
 use Rattle.rules.specs.Status.{statusOf}
 use Rattle.rules.specs.Begin.{newRecord}
 use Rattle.rules.specs.Machine.{State, state, theVoxel}
-use Rattle.rules.specs.Cases.{sides, carvedTo, bar, cube, wall, markAt}
+use Rattle.rules.specs.Cases.{sides, carvedTo, bar, valuesTwo, cube, wall, markAt}
 use Rattle.rules.specs.WrongSteps.{largestBy, lastForemost, firstFailed, WrongStarts, WrongSteps, WrongAnswers}
 use Rattle.rules.proofs.Cases.{all-rules}
 
 -- ---- begin
 
--- 5, 3, 3: -5 in the first and the last of the three inner voxels, and what is given between them
-two-voxels : ℤ → List ℤ
-two-voxels between = set (set (set (replicate 45 (pos 5)) 21 (negsuc 4)) 22 between) 23 (negsuc 4)
-
 pub wrong-starts : WrongStarts
-unfolding all-rules largestBy two-voxels
+unfolding all-rules largestBy
 wrong-starts =
     record {
-      later-of-equals = λ h. true≢false (ap (λ (S : List ℕ). isIn S 21) (h (sides 5 3 3) (two-voxels (pos 5))));
+      later-of-equals = λ h. true≢false (ap (λ (S : List ℕ). isIn S 21) (h (sides 5 3 3) valuesTwo));
       smallest-group = λ h. true≢false (ap (λ (S : List ℕ). isIn S 29) (h (sides 7 3 3) groups-of-two-and-one));
       joined-by-faces = λ h. let z : _≡_ {A = ℕ} 2 1 = ap length (h (sides 4 4 3) edge) in omega arith;
       m-of-zero = λ h. let z : _≡_ {A = ℕ} 1 0 = h (sides 3 3 3) (cube (pos 0) (negsuc 4) (pos 0)) (13 ∷ []) in omega arith;
       m-of-all = λ h. let z : _≡_ {A = ℕ} 5 9 = h (sides 3 3 3) (cube (pos 9) (negsuc 4) (pos 5)) (13 ∷ []) in omega arith;
-      d-from-discarded = λ h. let z : _≡_ {A = ℕ} 2 0 = h (sides 5 3 3) (two-voxels (pos 5)) 23 in omega arith;
+      d-from-discarded = λ h. let z : _≡_ {A = ℕ} 2 0 = h (sides 5 3 3) valuesTwo 23 in omega arith;
       fills-with-the-mark = λ h.
           let z : _≡_ {A = ℕ} 1 2147483648 = ap (λ (v : List ℤ). natAbs (valueAt v 62)) (h (sides 5 5 5) (wall (negsuc 3) (pos 4))) in
           omega arith;

@@ -145,10 +145,25 @@ pub record Bar : Type 0 where
   pub stays : carvedTo 9 (bar (replicate 45 (pos 1))) .rec ≡ count (newRecord (sides 5 3 3) 1) 1 0 0 (pos 0)
   pub pending-refused : plainOpen (bar (replicate 45 (pos 1))) .answer ≡ refused 13
   pub not-finished : finish (bar (replicate 45 (pos 1))) .answer ≡ refused 13
-  -- the greatest distance is opened, and of equals the smallest index
+  -- the greatest distance is opened, though the middle failed first; and of equals the smallest index
   pub farthest-opened :
       map (statusOf (plainOpen (carvedTo 9 (bar (replicate 23 (pos 1) ++ (pos 2 ∷ replicate 21 (pos 1))))) .lent .status)) (21 ∷ 22 ∷ 23 ∷ []) ≡ 1 ∷ 3 ∷ 0 ∷ []
   pub earliest-opened : map (statusOf (plainOpen (carvedTo 9 (bar (replicate 45 (pos 1)))) .lent .status)) (21 ∷ 22 ∷ 23 ∷ []) ≡ 0 ∷ 3 ∷ 1 ∷ []
+
+-- ---- two equal groups, of which the later is discarded: 5, 3, 3, all 5, but -5 in the first and the last of the three inner voxels
+
+unfoldable pub valuesTwo : List ℤ
+valuesTwo = set (set (replicate 45 (pos 5)) 21 (negsuc 4)) 23 (negsuc 4)
+
+unfoldable pub twoGroups : State
+twoGroups = start (sides 5 3 3) 0 valuesTwo
+
+pub record Discarded : Type 0 where
+  -- S holds the smallest index
+  pub first : map (isIn (inside (sides 5 3 3) valuesTwo)) (21 ∷ 23 ∷ []) ≡ true ∷ false ∷ []
+  -- the discarded voxel gets M + 2, and the one behind it M + 3: d is measured to S alone
+  pub worked : map (distanceAt (twoGroups .dist)) (21 ∷ 22 ∷ 23 ∷ 24 ∷ []) ≡ negsuc 4 ∷ pos 5 ∷ pos 7 ∷ pos 8 ∷ []
+  pub gone : map (statusOf (twoGroups .status)) (21 ∷ 22 ∷ 23 ∷ []) ≡ 1 ∷ 0 ∷ 0 ∷ []
 
 -- ---- the numbers of a state, in their order
 
