@@ -5,7 +5,7 @@ use mathlib.Core.List.{List, [], _∷_}
 use Prim.Native.Nat.{ℕ}
 use lib.Dec.{eqb}
 use Rattle.cells.specs.Groups.{any}
-use Rattle.cells.specs.Cells.{dimension, test}
+use Rattle.cells.specs.Cells.{dimension, Test, test}
 
 -- k and m of a block, as a pair of digits
 unfoldable pub km : (ℕ → Bool) → List ℕ
@@ -25,6 +25,10 @@ pub record LocalTests : Type 0 where
   pub five-faces : km (only (4 ∷ 10 ∷ 12 ∷ 14 ∷ 16 ∷ [])) ≡ 1 ∷ 1 ∷ []
   pub eight-corners : km (λ p. eqb (dimension p) 0) ≡ 8 ∷ 1 ∷ []
   pub corners-and-edges : km (λ p. not (eqb (dimension p) 2)) ≡ 1 ∷ 6 ∷ []
+
+-- the test gives no constant
+abbrev pub TestVaries : Type 0
+TestVaries = (c : Test) → ((kept : ℕ → Bool) → test kept ≡ c) → ⊥
 
 -- document 02's CR 8: all neighbours are kept but the one named, and its face is the lowest numbered bare one; all kept, and none
 abbrev pub faceWithout : ℕ → ℕ

@@ -14,6 +14,7 @@ use Rattle.rules.specs.Grid.{fitSides, size}
 use Rattle.rules.specs.Checks.{Check, firstFailing, unless}
 use Rattle.rules.specs.Answer.{Reply, refused, done, Outcome, untouched}
 use Rattle.rules.specs.Cases.{sides}
+use Rattle.rules.proofs.Answers.{answers}
 use Rattle.format.specs.Bytes.{signed, widened, valueOf, unsigned, narrowed, valueBytes}
 use Rattle.format.specs.Layer.{widthAt, readLayer, Part}
 use Rattle.format.specs.Patch.{appliedOf, patchesChecks}
@@ -24,7 +25,8 @@ use Rattle.format.specs.Examples.Patch.{patch}
 use Rattle.format.specs.Examples.File.{header, three, narrow, file, lent, first, above}
 use Rattle.format.specs.Examples.Written.{values, ending, lent as bytesLent}
 use Rattle.format.specs.Wrong.{WrongBytes, readLayerBy, WrongLayers, fourByteValues, earlierStands, WrongPatches}
-use Rattle.format.specs.Wrong.{readBy, unchanged, filledIn, nothing, layersBy, checksBy, WrongReaders, writeBy, WrongWriters, OwnParts}
+use Rattle.format.specs.Wrong.{readBy, unchanged, filledIn, nothing, layersBy, checksBy, WrongReaders, writeBy, WrongWriters}
+use Rattle.format.specs.Wrong.{FileCallsAnswer, OwnParts}
 use Rattle.format.proofs.Examples.File.{reading-rules}
 
 -- the number of a refusal, or 0
@@ -139,6 +141,15 @@ own-reader file lent =
     let header = headerChecks 64 file (length lent) in
     let patches = patchesChecks (size s) file (layersEnd s file) in
     ap (λ (cs : List Check). unless (header ++ (cs ++ patches)) (untouched lent) (accepted file lent)) (own-layers s file (s .c) 0)
+
+pub file-calls-answer : FileCallsAnswer
+unfolding any range fitSides size unless widthAt readLayer reading-rules unsigned narrowed valueBytes widthFor valuesForm layersForm write
+file-calls-answer =
+    record {
+      reads-a-layer = answers _ 0 1 21 refl refl;
+      reads = answers _ (file 0 1 2) [] 21 refl refl;
+      writes = answers _ (bytesLent 70) [] 26 refl refl;
+    }
 
 pub own-parts : OwnParts
 unfolding readLayer readLayerBy write writeBy layersForm

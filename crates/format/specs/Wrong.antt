@@ -11,7 +11,8 @@ use Rattle.rules.specs.declared.Sides.{Sides}
 use Rattle.rules.specs.Value.{missing, stray}
 use Rattle.rules.specs.Grid.{fitSides, size}
 use Rattle.rules.specs.Checks.{Check, _when_, firstFailing, unless}
-use Rattle.rules.specs.Answer.{Reply, refused, done, Outcome, outcome, untouched}
+use Rattle.rules.specs.Answer.{Reply, refused, done, Outcome, outcome, untouched, Answers}
+use Rattle.rules.specs.Cases.{sides}
 use Rattle.format.specs.declared.LayerSpan.{LayerSpan}
 use Rattle.format.specs.Bytes.{byteAt, word, Width, half, signed, widened, valueOf, wordBytes, tagged}
 use Rattle.format.specs.Layer.{narrowKind, wideKind, area, layerLength, widthAt, recordLength, zAt, layerChecks, readLayer, stretch, handedBack}
@@ -19,6 +20,7 @@ use Rattle.format.specs.Patch.{patchLength, indexAt, patchAt, patchCheck
 use Rattle.format.specs.File.{headerLength, sidesIn, allowedIn, fitUpTo, headerChecks, layerStart, orderChecks, rangeChecks, recordChecks}
 use Rattle.format.specs.File.{layersFilled, layersEnd, readChecks, filled, Header, read}
 use Rattle.format.specs.Written.{headerForm, layerValues, widthFor, layerForm, writtenForm, writtenLength, sizeChecks, gridChecks, writeChecks, write}
+use Rattle.format.specs.Examples.File.{narrow, lent}
 
 -- ---- bytes
 
@@ -264,6 +266,13 @@ pub record WrongWriters : Type 0 where
   pub writes-a-byte-past-the-length :
       OtherWriter writeChecks (λ s T values lent. writtenForm s T values ++ (0 ∷ drop 1 (drop (writtenLength s values) lent)))
   pub writes-a-wide-grid-narrow : OtherWidth (λ values. 2)
+
+-- ---- no call on a file always refuses or gives a constant: of each one argument is left open
+
+pub record FileCallsAnswer : Type 0 where
+  pub reads-a-layer : Answers (λ (start : ℕ). readLayer (sides 3 3 3) (narrow 0) start)
+  pub reads : Answers (λ (bytes : List ℕ). read bytes lent .answer)
+  pub writes : Answers (λ (bytes : List ℕ). write (sides 3 3 3) 0 lent bytes .answer)
 
 -- ---- by its own parts each is the rule, so that what tells a wrong one is the part that is wrong
 

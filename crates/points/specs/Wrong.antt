@@ -6,9 +6,10 @@ use Prim.Native.Nat.{ℕ, zero, suc, _*_}
 use lib.Dec.{leb, ltb}
 use Rattle.rules.specs.Grid.{size}
 use Rattle.rules.specs.Checks.{_when_, firstFailing}
+use Rattle.rules.specs.Answer.{Answers}
 use Rattle.rules.specs.Machine.{State, stateChecks, finishedChecks}
 use Rattle.surface.specs.declared.Point.{Point}
-use Rattle.points.specs.Listing.{Walk, walk, pointAt, pointsChecks}
+use Rattle.points.specs.Listing.{Walk, walk, pointAt, pointsChecks, points}
 
 -- points in falling order of position
 abbrev pub behind : Option Point → ℕ → (ℕ → Walk) → Walk
@@ -28,3 +29,7 @@ pub record WrongLists : Type 0 where
   pub position-first :
       ((p : ℕ) (g : State)
       → firstFailing (pointsChecks p g) ≡ firstFailing (stateChecks g ++ (5 when ltb (3 * size (g .rec .sides)) p ∷ finishedChecks g))) → ⊥
+
+-- points does not always refuse or give a constant
+abbrev pub PointsAnswer : Type 0
+PointsAnswer = (g : State) × (Answers (λ (p : ℕ). points p g [] .answer))

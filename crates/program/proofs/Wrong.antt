@@ -1,17 +1,18 @@
 -- Wrong programs are told from the rule by worked files.
 use mathlib.Core.Path.{_≡_, refl, ap, sym, _∙_}
-use mathlib.Core.List.{List}
+use mathlib.Core.List.{List, []}
 use Prim.Native.Nat.{ℕ}
 use native.Mathlib.Omega.{arith}
 use lib.ListN.{replicate, length-replicate}
+use lib.IntN.{pos}
 use Rattle.rules.specs.Cases.{sides, caseD}
 use Rattle.rules.specs.Marks.{noMarks}
 use Rattle.rules.specs.Machine.{State}
-use Rattle.format.specs.Examples.File.{header}
+use Rattle.format.specs.Examples.File.{header, fileD}
 use Rattle.text.specs.Line.{Line, refusedLine, carvedLine}
 use Rattle.program.specs.Program.{fileLine}
-use Rattle.program.specs.Wrong.{lateFor, WrongPrograms}
-use Rattle.program.proofs.Examples.{whole-program, too-long}
+use Rattle.program.specs.Wrong.{lateFor, WrongPrograms, LineAnswers}
+use Rattle.program.proofs.Examples.{whole-program, too-long, examples}
 
 -- the number of a line that tells of a refusal
 number : Line → ℕ
@@ -40,3 +41,16 @@ wrong-programs =
           ap number (sym (too-long long (omega (arith, length-replicate {A = ℕ} 65537 0))) ∙ h long ∙ wrong-mark) in
           omega arith;
     }
+
+pub line-answers : LineAnswers
+unfolding number
+line-answers =
+    record {
+      not-refused = (fileD, λ n e. told (sym (examples .case-d) ∙ e));
+      varies = λ c h.
+          let z : _≡_ {A = ℕ} 0 21 = ap number (sym (examples .case-d) ∙ h fileD ∙ sym (h []) ∙ examples .no-header) in
+          omega arith;
+    }
+  where
+    told : {n : ℕ} → carvedLine 2 2 0 2 (pos 1) ≡ refusedLine n → ⊥
+    told e = let z : _≡_ {A = ℕ} 0 1 = cc in omega arith

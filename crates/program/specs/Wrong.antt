@@ -6,6 +6,7 @@ use Prim.Native.Nat.{ℕ}
 use lib.Dec.{ltb}
 use lib.ListN.{length}
 use Rattle.rules.specs.Grid.{size}
+use Rattle.rules.specs.Answer.{NoConstant}
 use Rattle.rules.specs.Machine.{State, after, carve}
 use Rattle.format.specs.File.{sidesIn, readUpTo}
 use Rattle.text.specs.Line.{Line, refusedLine, carvedLine}
@@ -30,3 +31,8 @@ pub record WrongPrograms : Type 0 where
   pub takes-25 : OtherSide 25
   pub takes-no-24 : OtherSide 23
   pub has-25-last : ((file : List ℕ) → programLine file ≡ lateFor file (fileLine file)) → ⊥
+
+-- nor is the program one that prints the same line for every file, or a refusal
+pub record LineAnswers : Type 0 where
+  pub not-refused : (file : List ℕ) × ((n : ℕ) → programLine file ≡ refusedLine n → ⊥)
+  pub varies : NoConstant programLine

@@ -1,4 +1,5 @@
 pub mod Checks
+pub mod Answers
 pub mod Places
 pub mod Rows
 pub mod Foremost

@@ -13,14 +13,16 @@ use Rattle.rules.specs.Answer.{Reply, refused, done, Outcome, Buffers, C
 use Rattle.rules.specs.Status.{statusOf}
 use Rattle.rules.specs.Marks.{marked, unmarked, noMarks}
 use Rattle.rules.specs.PinFirst.{markedBefore, beginBy, carveBy}
-use Rattle.rules.specs.Machine.{State, theVoxel}
+use Rattle.rules.specs.Begin.{begin}
+use Rattle.rules.specs.Machine.{State, theVoxel, carve, openNext, finish}
 use Rattle.rules.specs.Body as body
 use Rattle.rules.specs.Body.{bodyOf, covered, sum, sum3, corners, edges, faces, cubes, eulerOf}
 use Rattle.rules.specs.Grid.{missing}
 use Rattle.rules.specs.Faces.{facesOf}
-use Rattle.rules.specs.Cases.{sides, carvedTo, valuesD, caseD, bar, cube, wall, markAt, markD, begunD, barOf, markBar}
-use Rattle.rules.specs.Wrong.{carvingBy, onlyClears, byKAlone, dropsFailed, byFaceGroups, invents, WrongMachines}
+use Rattle.rules.specs.Cases.{sides, plainTake, carvedTo, valuesD, caseD, bar, cube, wall, markAt, markD, begunD, barOf, markBar}
+use Rattle.rules.specs.Wrong.{carvingBy, onlyClears, byKAlone, dropsFailed, byFaceGroups, invents, WrongMachines, MachineAnswers}
 use Rattle.rules.specs.Wrong.{fillsBy, walledIn, offBorder, WrongFills, carveOtherwise, WrongMarks, WrongThrees, WrongLast}
+use Rattle.rules.proofs.Answers.{apart, answers}
 use Rattle.rules.proofs.Fill.{filled-is-enclosed}
 use Rattle.rules.proofs.Cases.{all-rules}
 
@@ -30,9 +32,6 @@ numbers-differ m n e f = f (ap natAbs e)
 -- two answers that differ
 same-answer : {A : Type 0} (a b : A) (c : Reply A) → done a ≡ c → done b ≡ c → a ≡ b
 same-answer a b c e f = cc
-
-apart : {A : Type 0} (a : A) (n : ℕ) (c : Reply A) → done a ≡ c → refused n ≡ c → ⊥
-apart a n c e f = let z : _≡_ {A = ℕ} 0 1 = cc in omega arith
 
 pub wrong-machines : WrongMachines
 unfolding all-rules carvingBy onlyClears byKAlone dropsFailed byFaceGroups invents bodyOf body.some covered sum sum3 corners edges faces cubes eulerOf
@@ -44,12 +43,19 @@ wrong-machines =
       face-groups = λ start begun calls same a d. true≢false (d .none-passes same refl 25 refl refl refl);
       invented-euler = λ start begun calls same a d. numbers-differ 2 1 (d .euler-of-body) (λ e. omega arith);
       invented-examination = λ start begun calls a z d. let e : _≡_ {A = ℕ} 1 (a .examined) = d .examinations-count in omega arith;
-      begin-varies = λ c h. let e : _≡_ {A = ℕ} 0 1 = ap (λ (r : Record). r .allowed) (same-answer _ _ c (h 0) (h 1)) in omega arith;
-      begin-accepts = λ n e. apart _ n _ refl (sym e);
-      carve-varies = λ c h. let e : _≡_ {A = ℕ} 0 1 = ap (λ (r : Carving). r .examined) (same-answer _ _ c (h 0) (h 1)) in omega arith;
-      take-varies = λ c h. apart _ 5 c (h 22) (h 48);
-      open-varies = λ c h. apart _ 14 c (h 1) (h 0);
-      finish-varies = λ c h. apart _ 13 c (h 2) (h 0);
+    }
+
+pub machine-answers : MachineAnswers
+unfolding all-rules
+machine-answers =
+    record {
+      begins = answers (λ values. begin (sides 4 4 3) 0 values (noMarks (sides 4 4 3)) (caseD .dist) (caseD .status) .answer) valuesD [] 2 refl refl;
+      carves = answers (λ marks. carve marks 1 caseD .answer) (noMarks (sides 4 4 3)) [] 2 refl refl;
+      takes = answers (λ i. plainTake i caseD .answer) 22 48 5 refl refl;
+      opens = answers (λ marks. openNext marks (carvedTo 9 (bar (replicate 45 (pos 1)))) .answer) (noMarks (sides 5 3 3)) (replicate 45 1) 15 refl refl;
+      finishes = answers (λ limit. finish (carvedTo limit caseD) .answer) 2 0 13 refl refl;
+      begins-otherwise = λ c h. let e : _≡_ {A = ℕ} 0 1 = ap (λ (r : Record). r .allowed) (same-answer _ _ c (h 0) (h 1)) in omega arith;
+      carves-otherwise = λ c h. let e : _≡_ {A = ℕ} 0 1 = ap (λ (r : Carving). r .examined) (same-answer _ _ c (h 0) (h 1)) in omega arith;
     }
 
 pub wrong-fills : WrongFills

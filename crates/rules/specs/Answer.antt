@@ -1,5 +1,6 @@
 -- What a call answers, in document 01's numbers and values, and what each case of an answer's enum stands for.
-use mathlib.Core.Bool.{Bool}
+use mathlib.Core.Path.{_≡_}
+use mathlib.Core.Bool.{Bool, true, false}
 use mathlib.Core.List.{List}
 use Prim.Native.Nat.{ℕ}
 use lib.IntN.{ℤ}
@@ -14,6 +15,10 @@ use Rattle.rules.specs.declared.Finished.{Finished}
 pub data Reply (A : Type 0) : Type 0 where
   refused : ℕ → Reply A
   done : A → Reply A
+
+abbrev pub isDone : {A : Type 0} → Reply A → Bool
+isDone (refused n) = false
+isDone (done a) = true
 
 -- after a call: its answer, and what it was lent
 pub record Outcome (L A : Type 0) : Type 0 where
@@ -78,3 +83,17 @@ openedAnswer (Opened.Refused n) = refused n
 abbrev pub finishedAnswer : Finished → Reply Record
 finishedAnswer (Finished.Closed next) = done next
 finishedAnswer (Finished.Refused n) = refused n
+
+-- ---- a call that is forever refusing, or gives a constant, is none of ours
+
+-- some input is not refused
+abbrev pub Accepts : {I A : Type 0} → (I → Reply A) → Type 0
+Accepts {I} {A} call = (i : I) × ((a : A) × (call i ≡ done a))
+
+-- no answer is that of every input
+abbrev pub NoConstant : {I A : Type 0} → (I → A) → Type 0
+NoConstant {I} {A} call = (c : A) → ((i : I) → call i ≡ c) → ⊥
+
+pub record Answers {I A : Type 0} (call : I → Reply A) : Type 0 where
+  pub accepts : Accepts call
+  pub varies : NoConstant call

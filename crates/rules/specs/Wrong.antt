@@ -18,7 +18,7 @@ use Rattle.rules.specs.Grid.{apart, Voxel, voxel, voxels, onBorder, touc
 use Rattle.rules.specs.Fill.{around, enclosed, inSome}
 use Rattle.rules.specs.Gaps.{Enclosed}
 use Rattle.rules.specs.Checks.{unless}
-use Rattle.rules.specs.Answer.{Reply, refused, done, Outcome, untouched, Buffers, Carving}
+use Rattle.rules.specs.Answer.{Reply, refused, done, Outcome, untouched, Buffers, Carving, isDone, NoConstant, Answers}
 use Rattle.rules.specs.Status.{isKept, isPending, firstOf, testAt, without, statusOf, rested, openable}
 use Rattle.rules.specs.Marks.{Marked, markOf, marked, noMarks}
 use Rattle.rules.specs.PinFirst.{markedBefore, beginBy, carveBy}
@@ -85,10 +85,6 @@ Rejected s values g =
     (start : ℕ → Bool) (begun : State) (calls : List Call) → Unchanged (noMarks s) begun calls → (answers : Sums)
     → Demand s values (noMarks s) start begun calls g answers → ⊥
 
--- a call that always answers the same is not the rule
-abbrev pub NoConstant : {I A : Type 0} → (I → Reply A) → Type 0
-NoConstant {I} {A} call = (c : Reply A) → ((i : I) → call i ≡ c) → ⊥
-
 pub record WrongMachines : Type 0 where
   pub only-clears : Rejected (sides 4 4 3) valuesD (onlyClears caseD)
   pub k-alone : Rejected (sides 5 5 3) valuesC (byKAlone (caseC 0))
@@ -98,12 +94,17 @@ pub record WrongMachines : Type 0 where
   -- counts that the record has and the answers have not
   pub invented-examination : (start : ℕ → Bool) (begun : State) (calls : List Call) (answers : Sums) → answers .examined ≡ 0
       → Demand (sides 4 4 3) valuesD (noMarks (sides 4 4 3)) start begun calls (invents 1 (pos 0) caseD) answers → ⊥
-  pub begin-varies : NoConstant (λ (T : ℕ). begin (sides 4 4 3) T valuesD (noMarks (sides 4 4 3)) (caseD .dist) (caseD .status) .answer)
-  pub begin-accepts : (n : ℕ) → begin (sides 4 4 3) 0 valuesD (noMarks (sides 4 4 3)) (caseD .dist) (caseD .status) .answer ≡ refused n → ⊥
-  pub carve-varies : NoConstant (λ (limit : ℕ). plainCarve limit caseD .answer)
-  pub take-varies : NoConstant (λ (i : ℕ). plainTake i caseD .answer)
-  pub open-varies : NoConstant (λ (T : ℕ). plainOpen (carvedTo 9 (caseC T)) .answer)
-  pub finish-varies : NoConstant (λ (limit : ℕ). finish (carvedTo limit caseD) .answer)
+
+-- no call of the machine always refuses or gives a constant: of each one argument is left open
+pub record MachineAnswers : Type 0 where
+  pub begins : Answers (λ (values : List ℤ). begin (sides 4 4 3) 0 values (noMarks (sides 4 4 3)) (caseD .dist) (caseD .status) .answer)
+  pub carves : Answers (λ (marks : List ℕ). carve marks 1 caseD .answer)
+  pub takes : Answers (λ (i : ℕ). plainTake i caseD .answer)
+  pub opens : Answers (λ (marks : List ℕ). openNext marks (carvedTo 9 (bar (replicate 45 (pos 1)))) .answer)
+  pub finishes : Answers (λ (limit : ℕ). finish (carvedTo limit caseD) .answer)
+  -- nor do two that are done answer the same
+  pub begins-otherwise : NoConstant (λ (T : ℕ). begin (sides 4 4 3) T valuesD (noMarks (sides 4 4 3)) (caseD .dist) (caseD .status) .answer)
+  pub carves-otherwise : NoConstant (λ (limit : ℕ). plainCarve limit caseD .answer)
 
 -- ---- document 02's CR 6: fills by another rule, how missing voxels are joined and which groups of them are filled
 
@@ -204,10 +205,6 @@ pub record WrongThrees : Type 0 where
   pub open-accepts : (n : ℕ) → openNext (markAt (sides 5 3 3) 21 3) (carvedTo 9 (bar (replicate 45 (pos 1)))) .answer ≡ refused n → ⊥
 
 -- ---- document 02's CR 8: the face of another removal
-
-abbrev pub isDone : {A : Type 0} → Reply A → Bool
-isDone (refused n) = false
-isDone (done a) = true
 
 -- a carve that is not refused does not tell that one of the faces of its removals
 abbrev pub OtherLast : (List ℕ → ℕ) → Type 0

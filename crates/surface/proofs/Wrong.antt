@@ -1,5 +1,5 @@
 -- Crossings by another rule give another point, or another number: by computation, each on one input that tells the two apart.
-use mathlib.Core.Path.{_≡_, ap}
+use mathlib.Core.Path.{_≡_, refl, ap}
 use mathlib.Core.Bool.{false}
 use mathlib.Core.Option.{Option, none, some}
 use Prim.Native.Nat.{ℕ}
@@ -9,8 +9,9 @@ use lib.Ieee.{Float, nan, inf, fin}
 use Rattle.rules.specs.Grid.{Voxel}
 use Rattle.rules.specs.Checks.{firstFailing}
 use Rattle.rules.specs.Machine.{State, state, count}
+use Rattle.rules.proofs.Answers.{answers}
 use Rattle.surface.specs.declared.Point.{Point}
-use Rattle.surface.specs.Wrong.{WrongCrossings}
+use Rattle.surface.specs.Wrong.{WrongCrossings, CrossingAnswers}
 use Rattle.surface.proofs.Worked.{rule, grid, caseA}
 
 -- the digits of a point's z
@@ -42,3 +43,7 @@ wrong-crossings =
       axis-before-index = λ h. let z : _≡_ {A = ℕ} 5 6 = h 27 3 caseA in omega arith;
       into-the-next-row = λ h. let z : _≡_ {A = ℕ} 6 0 = h 14 0 caseA in omega arith;
     }
+
+pub crossing-answers : CrossingAnswers
+unfolding rule
+crossing-answers = (caseA, answers _ 13 27 5 refl refl)

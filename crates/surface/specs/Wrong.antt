@@ -8,9 +8,10 @@ use lib.Dec.{leb, ltb}
 use lib.IntN.{ℤ, pos, negsuc}
 use Rattle.rules.specs.Grid.{Voxel, voxel, size}
 use Rattle.rules.specs.Checks.{Check, _when_, firstFailing}
+use Rattle.rules.specs.Answer.{Answers}
 use Rattle.rules.specs.Machine.{State, stateChecks, workingChecks, finishedChecks}
 use Rattle.surface.specs.declared.Point.{Point}
-use Rattle.surface.specs.Surface.{coordinate, side, next, pointFrom, crossingOf, noNext, nextChecks, crossingChecks}
+use Rattle.surface.specs.Surface.{coordinate, side, next, pointFrom, crossingOf, noNext, nextChecks, crossingChecks, crossing}
 
 -- ---- the point
 
@@ -52,3 +53,7 @@ pub record WrongCrossings : Type 0 where
   pub into-the-next-row :
       OtherChecks (λ i axis g. finishedChecks g
       ++ (indexCheck i g ∷ 6 when (ltb 2 axis || ltb (side axis (g .rec .sides)) (coordinate axis (voxel (g .rec .sides) i) + 1)) ∷ []))
+
+-- crossing does not always refuse or give a constant
+abbrev pub CrossingAnswers : Type 0
+CrossingAnswers = (g : State) × (Answers (λ (i : ℕ). crossing i 0 g .answer))
