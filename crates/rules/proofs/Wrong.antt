@@ -1,15 +1,15 @@
 -- What rejects each wrong machine, by computation.
 use mathlib.Core.Path.{_≡_, refl, ap, sym}
 use mathlib.Core.Bool.{Bool, true, true≢false}
-use mathlib.Core.List.{[]}
+use mathlib.Core.List.{List, []}
 use mathlib.Core.Option.{some}
 use Prim.Native.Nat.{ℕ}
 use native.Mathlib.Omega.{arith}
 use lib.Dec.{eqb}
 use lib.ListN.{replicate}
-use lib.IntN.{pos, negsuc, natAbs}
+use lib.IntN.{ℤ, pos, negsuc, natAbs}
 use Rattle.rules.specs.declared.Record.{Record}
-use Rattle.rules.specs.Answer.{Reply, refused, done, Outcome, Buffers, Carving}
+use Rattle.rules.specs.Answer.{Reply, done, Outcome, Buffers, Carving}
 use Rattle.rules.specs.Status.{statusOf}
 use Rattle.rules.specs.Marks.{marked, unmarked, noMarks}
 use Rattle.rules.specs.PinFirst.{markedBefore, beginBy, carveBy}
@@ -17,10 +17,11 @@ use Rattle.rules.specs.Begin.{begin}
 use Rattle.rules.specs.Machine.{State, theVoxel, carve, openNext, finish}
 use Rattle.rules.specs.Body as body
 use Rattle.rules.specs.Body.{bodyOf, covered, sum, sum3, corners, edges, faces, cubes, eulerOf}
-use Rattle.rules.specs.Grid.{missing}
+use Rattle.rules.specs.Grid.{missing, distanceAt}
 use Rattle.rules.specs.Faces.{facesOf}
 use Rattle.rules.specs.Cases.{sides, plainTake, carvedTo, valuesD, caseD, bar, cube, wall, markAt, markD, begunD, barOf, markBar}
 use Rattle.rules.specs.Wrong.{carvingBy, onlyClears, byKAlone, dropsFailed, byFaceGroups, invents, WrongMachines, MachineAnswers}
+use Rattle.rules.specs.Wrong.{beginWriting, takeWriting, WrongRefusals}
 use Rattle.rules.specs.Wrong.{fillsBy, walledIn, offBorder, WrongFills, carveOtherwise, WrongMarks, WrongThrees, WrongLast}
 use Rattle.rules.proofs.Answers.{apart, answers}
 use Rattle.rules.proofs.Fill.{filled-is-enclosed}
@@ -58,6 +59,34 @@ machine-answers =
       carves-otherwise = λ c h. let e : _≡_ {A = ℕ} 0 1 = ap (λ (r : Carving). r .examined) (same-answer _ _ c (h 0) (h 1)) in omega arith;
     }
 
+-- a voxel's status after a call by another rule is another
+differs : {A : Type 0} (i : ℕ) (o p : Outcome Buffers A) → (statusOf (o .lent .status) i ≡ statusOf (p .lent .status) i → ⊥) → o ≡ p → ⊥
+differs {A} i o p f e = f (ap (λ (o : Outcome Buffers A). statusOf (o .lent .status) i) e)
+
+-- 3, 3, 3: values that begin refuses with 4, and distances that it is lent
+abbrev bodiless : List ℤ
+bodiless = replicate 27 (pos 5)
+
+abbrev ones : List ℤ
+ones = replicate 27 (pos 1)
+
+pub wrong-refusals : WrongRefusals
+unfolding all-rules beginWriting takeWriting
+wrong-refusals =
+    record {
+      begin-clears = λ h.
+          differs 0 _ _ (λ e. let z : _≡_ {A = ℕ} 1 0 = e in omega arith) (h (sides 3 3 3) 0 bodiless (noMarks (sides 3 3 3)) ones (replicate 27 1));
+      begin-writes-a-distance = λ h.
+          let z : _≡_ {A = ℕ} 1 0 =
+          ap (λ (o : Outcome Buffers Record). natAbs (distanceAt (o .lent .dist) 0))
+          (h (sides 3 3 3) 0 bodiless (noMarks (sides 3 3 3)) ones (replicate 27 1)) in
+          omega arith;
+      take-removes = λ h.
+          differs 22 _ _ (λ e. let z : _≡_ {A = ℕ} 3 0 = e in omega arith) (h (noMarks (sides 5 3 3)) 22 (bar (replicate 45 (pos 1))));
+      begin-own = λ s T values marks dist status. refl;
+      take-own = λ marks i g. refl;
+    }
+
 pub wrong-fills : WrongFills
 unfolding all-rules fillsBy walledIn offBorder
 wrong-fills =
@@ -74,10 +103,6 @@ wrong-fills =
     }
 
 -- ---- marks read by another rule
-
--- a voxel's status after a call by another rule is another
-differs : {A : Type 0} (i : ℕ) (o p : Outcome Buffers A) → (statusOf (o .lent .status) i ≡ statusOf (p .lent .status) i → ⊥) → o ≡ p → ⊥
-differs {A} i o p f e = f (ap (λ (o : Outcome Buffers A). statusOf (o .lent .status) i) e)
 
 -- another voxel is opened
 opens-another : (i j : ℕ) → (i ≡ j → ⊥) → some i ≡ some j → ⊥

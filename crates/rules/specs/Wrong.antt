@@ -13,21 +13,22 @@ use lib.ListN.{length, set, replicate}
 use Rattle.cells.specs.Groups.{any, filter, groups}
 use Rattle.cells.specs.Cells.{positions, passes}
 use Rattle.rules.specs.declared.Sides.{Sides}
+use Rattle.rules.specs.declared.Record.{Record}
 use Rattle.rules.specs.Value.{isMissing}
 use Rattle.rules.specs.Grid.{apart, Voxel, voxel, voxels, onBorder, touch, shareFace, neighbourhood, measuredNegative, valueAt}
 use Rattle.rules.specs.Fill.{around, enclosed, inSome}
 use Rattle.rules.specs.Gaps.{Enclosed}
 use Rattle.rules.specs.Checks.{unless}
-use Rattle.rules.specs.Answer.{Reply, refused, done, Outcome, untouched, Buffers, Carving, isDone, NoConstant, Answers}
+use Rattle.rules.specs.Answer.{refused, Outcome, untouched, Buffers, buffers, Carving, Removal, isDone, NoConstant, Answers}
 use Rattle.rules.specs.Status.{isKept, isPending, firstOf, testAt, without, statusOf, rested, openable}
 use Rattle.rules.specs.Marks.{Marked, markOf, marked, noMarks}
 use Rattle.rules.specs.PinFirst.{markedBefore, beginBy, carveBy}
-use Rattle.rules.specs.Machine.{State, state, lentTo, outside, mayGo, farther, sooner, count, markedChecks, carved, carve, take, toOpen, openNext}
-use Rattle.rules.specs.Machine.{finish}
-use Rattle.rules.specs.Begin.{isIn, exposed, statusAt, begin}
+use Rattle.rules.specs.Machine.{State, state, lentTo, outside, mayGo, farther, sooner, count, markedChecks, carved, carve, takeChecks, taken, take}
+use Rattle.rules.specs.Machine.{toOpen, openNext, finish}
+use Rattle.rules.specs.Begin.{isIn, exposed, statusAt, beginChecks, begun, begin}
 use Rattle.rules.specs.Demand.{Call, Unchanged, Sums, Demand}
 use Rattle.rules.specs.Faces.{facesOf, lastOr}
-use Rattle.rules.specs.Cases.{sides, plainCarve, plainTake, plainOpen, carvedTo, carvedFace, valuesC, caseC, caseD, valuesD, valuesArc, arc, bar}
+use Rattle.rules.specs.Cases.{sides, plainCarve, plainTake, carvedTo, carvedFace, valuesC, caseC, caseD, valuesD, valuesArc, arc, bar}
 use Rattle.rules.specs.Cases.{markAt, markD}
 
 -- ---- a carve by another rule: whether the voxel goes, and the status bytes after it went
@@ -105,6 +106,39 @@ pub record MachineAnswers : Type 0 where
   -- nor do two that are done answer the same
   pub begins-otherwise : NoConstant (λ (T : ℕ). begin (sides 4 4 3) T valuesD (noMarks (sides 4 4 3)) (caseD .dist) (caseD .status) .answer)
   pub carves-otherwise : NoConstant (λ (limit : ℕ). plainCarve limit caseD .answer)
+
+-- ---- a refusal that has written already
+
+-- begin and take that leave the buffers otherwise where they refuse
+unfoldable pub beginWriting : (Buffers → Buffers) → Sides → ℕ → List ℤ → List ℕ → List ℤ → List ℕ → Outcome Buffers Record
+beginWriting left s T values marks dist status =
+    unless (beginChecks s values marks dist status) (untouched (left (buffers dist status))) (begun s T values (marked marks))
+
+unfoldable pub takeWriting : (Buffers → Buffers) → List ℕ → ℕ → State → Outcome Buffers Removal
+takeWriting left marks i g = unless (takeChecks marks i g) (untouched (left (lentTo g))) (taken (mayGo (marked marks) (g .dist)) i g)
+
+abbrev pub OtherRefusals : (Buffers → Buffers) → Type 0
+OtherRefusals left =
+    ((s : Sides) (T : ℕ) (values : List ℤ) (marks : List ℕ) (dist : List ℤ) (status : List ℕ)
+    → begin s T values marks dist status ≡ beginWriting left s T values marks dist status) → ⊥
+
+-- the status bytes cleared; one voxel gone
+abbrev pub cleared : Buffers → Buffers
+cleared b = buffers (b .dist) (replicate (length (b .status)) 0)
+
+abbrev pub goneFirst : ℕ → Buffers → Buffers
+goneFirst i b = buffers (b .dist) (set (b .status) i 0)
+
+pub record WrongRefusals : Type 0 where
+  -- begin clears the status before it looks for a body; it writes one distance
+  pub begin-clears : OtherRefusals cleared
+  pub begin-writes-a-distance : OtherRefusals (λ b. buffers (set (b .dist) 0 (pos 0)) (b .status))
+  -- take removes the voxel before it tests it
+  pub take-removes : ((marks : List ℕ) (i : ℕ) (g : State) → take marks i g ≡ takeWriting (goneFirst i) marks i g) → ⊥
+  -- with the buffers as they were lent they are the rule's
+  pub begin-own : (s : Sides) (T : ℕ) (values : List ℤ) (marks : List ℕ) (dist : List ℤ) (status : List ℕ)
+      → begin s T values marks dist status ≡ beginWriting (λ b. b) s T values marks dist status
+  pub take-own : (marks : List ℕ) (i : ℕ) (g : State) → take marks i g ≡ takeWriting (λ b. b) marks i g
 
 -- ---- document 02's CR 6: fills by another rule, how missing voxels are joined and which groups of them are filled
 
