@@ -1,20 +1,20 @@
 -- A layer record: what holds where no check fails, and where the layer then lies.
-use mathlib.Core.Path.{_≡_, sym, subst, _∙_}
-use mathlib.Core.Bool.{true}
+use mathlib.Core.Path.{_≡_, ap, sym, subst, _∙_}
+use mathlib.Core.Bool.{true, not}
 use mathlib.Core.List.{List}
 use Prim.Native.Nat.{ℕ, _+_, _*_, _≤_, _<_}
 use native.Mathlib.Omega.{arith}
 use lib.ListN.{length}
-use borrow.Author.Tests.{ltb-false, leb-false}
+use borrow.Author.Tests.{ltb-false, leb-false, le-ltb, lt-leb}
 use Rattle.prelude.proofs.Bools.{not-false}
 use Rattle.rules.specs.declared.Sides.{Sides}
 use Rattle.rules.specs.Grid.{fitSides}
 use Rattle.rules.specs.Checks.{AllHold}
 use Rattle.rules.specs.Answer.{refused, done}
-use Rattle.rules.proofs.Checks.{by-checks}
+use Rattle.rules.proofs.Checks.{by-checks, unless-held}
 use Rattle.format.specs.declared.LayerSpan.{LayerSpan}
 use Rattle.format.specs.Bytes.{Width}
-use Rattle.format.specs.Layer.{area, recordLength, layerChecks, readLayerChecks, layerAt, readLayer, stretch}
+use Rattle.format.specs.Layer.{area, recordLength, layerChecks, readLayerChecks, layerAt, readLayer, stretch, bytesOf}
 use Rattle.format.proofs.WidthAt.{width-is}
 use Rattle.format.proofs.Sizes.{length-part}
 use Rattle.layers.specs.Readable.{Readable}
@@ -33,7 +33,18 @@ pub record Placed (s : Sides) (file : List ℕ) (l : LayerSpan) : Type 0 where
 
 module _ (s : Sides) (file : List ℕ) (start : ℕ) where
   pub readable : fitSides s ≡ true → AllHold (layerChecks s file start) → Readable s file start
-  readable e h = record { fits = e; whole = ltb-false _ _ (h .0); z-below = leb-false _ _ (h .1 .1 .0) }
+  readable e h = record { fits = e; whole = ltb-false _ _ (h .0); marked = not-false _ (h .1 .0); z-below = leb-false _ _ (h .1 .1 .0) }
+
+  -- such a record is read, and its part is the layer's stretch
+  read-done : Readable s file start → readLayer s file start ≡ done (layerAt s file start)
+  unfolding readLayer
+  read-done r =
+      unless-held refused (done (layerAt s file start)) (readLayerChecks s file start)
+      (ap not (r .fits), (le-ltb _ _ (r .whole), (ap not (r .marked), (lt-leb _ _ (r .z-below), tt))))
+
+  pub part-is : Readable s file start → (l : LayerSpan) → l ≡ layerAt s file start → (bytes : List ℕ) → bytes ≡ bytesOf file (readLayer s file start)
+      → bytes ≡ stretch file l
+  part-is r l e bytes f = f ∙ ap (bytesOf file) (read-done r) ∙ ap (stretch file) (sym e)
 
   pub placed : Readable s file start → (l : LayerSpan) → l ≡ layerAt s file start → Placed s file l
   placed r l e =

@@ -103,7 +103,8 @@ pub fn layer_at(sides: Sides, file: &[u8], start: usize) -> LayerSpan
     }
 }
 
-pub fn layer(sides: Sides, file: &[u8], start: usize) -> LayerAnswer
+// z, width and the stretch of a record, or the number.
+fn answer_at(sides: Sides, file: &[u8], start: usize) -> LayerAnswer
     ensures { λ r. ⌜ layerAnswer r ≡ readLayer sides (now (file .entry)) start ⌝ }
 {
     if !sizes::fit_sides(sides) {
@@ -142,11 +143,25 @@ fn part(file: &[u8], answer: LayerAnswer) -> &[u8]
 pub fn read_layer<'a>(sides: Sides, file: &'a [u8], start: usize) -> LayerPart<'a>
     ensures { λ r. ⌜ partOf r ≡ handedBack (now (file .entry)) (readLayer sides (now (file .entry)) start) ⌝ }
 {
-    let answer = layer(sides, file, start);
+    let answer = answer_at(sides, file, start);
     LayerPart {
         values: part(file, answer),
         answer,
     }
+}
+
+// Its answer alone, for who has the file and goes by the stretch.
+pub fn layer(sides: Sides, file: &[u8], start: usize) -> LayerAnswer
+    ensures { λ r. ⌜ layerAnswer r ≡ readLayer sides (now (file .entry)) start ⌝ }
+{
+    read_layer(sides, file, start).answer
+}
+
+// Its part alone, for who has looked at the record.
+pub fn layer_values(sides: Sides, file: &[u8], start: usize) -> &[u8]
+    ensures { λ r. ⌜ now r ≡ bytesOf (now (file .entry)) (readLayer sides (now (file .entry)) start) ⌝ }
+{
+    read_layer(sides, file, start).values
 }
 
 // ---- a record's values
@@ -166,7 +181,7 @@ fn any_stray(bytes: &[u8], width: usize, count: usize) -> bool
     found
 }
 
-// The same of a record's values. No value of two bytes is out of the range.
+// The same of a record's values. No value of two bytes is out of the range, and any other has four.
 pub fn has_stray(sides: Sides, file: &[u8], start: usize) -> bool
     requires { ⌜ Readable sides (now file) start ⌝ }
     ensures { λ r. ⌜ r ≡ any stray (valuesIn sides (now (file .entry)) (layerAt sides (now (file .entry)) start)) ⌝ }
@@ -175,9 +190,8 @@ pub fn has_stray(sides: Sides, file: &[u8], start: usize) -> bool
     if l.width == 2 {
         return false;
     }
-    let from = l.from;
-    let to = l.to;
-    any_stray(&file[from..to], l.width as usize, area(sides))
+    let bytes = layer_values(sides, file, start);
+    any_stray(bytes, 4, area(sides))
 }
 
 // So many bytes each.
@@ -192,18 +206,18 @@ fn fill_layer(bytes: &[u8], width: usize, values: &mut [i32])
     }
 }
 
-// Into the buffer of the whole grid, where they belong; the answer is where the record ends.
+// Into the buffer of the whole grid, where they belong; the answer is where the record ends. The layer is looked at behind its part: there the
+// compiler sees that a width is 2 or 4, and makes a loop of each.
 pub fn fill_record(sides: Sides, file: &[u8], start: usize, values: &mut [i32]) -> usize
     requires { ⌜ (Readable sides (now file) start) × (length (now values) ≡ size sides) ⌝ }
     ensures { λ r. ⌜ (now (values .exit) ≡ withLayer sides (now (file .entry)) (now (values .entry)) (layerAt sides (now (file .entry)) start))
         × (r ≡ start + recordLength sides (now (file .entry)) start) ⌝ }
 {
+    let bytes = layer_values(sides, file, start);
     let l = layer_at(sides, file, start);
-    let from = l.from;
-    let to = l.to;
     let count = area(sides);
     let at = (l.z as usize) * count;
     let end = at + count;
-    fill_layer(&file[from..to], l.width as usize, &mut values[at..end]);
-    to
+    fill_layer(bytes, l.width as usize, &mut values[at..end]);
+    l.to
 }

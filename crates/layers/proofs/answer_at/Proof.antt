@@ -1,4 +1,4 @@
--- `layers::layer` meets its contract.
+-- `layers::answer_at` meets its contract.
 use mathlib.Core.Path.{_≡_, refl, ap, sym, _∙_}
 use mathlib.Core.Bool.{true, not}
 use native.Mathlib.Omega.{arith}
@@ -11,8 +11,8 @@ use Rattle.rules.proofs.Checks.{fails-first, holds-first, call-refused, call-do
 use Rattle.format.specs.Layer.{readLayerChecks, layerAt, readLayer}
 use Rattle.layers.specs.Readable.{Readable}
 use Rattle.layers.proofs.Reading.{readable}
-use Rattle.layers.proofs.layer.Statement.{statement}
-use Rattle.layers.proofs.layer.Tie as tie
+use Rattle.layers.proofs.answer_at.Statement.{statement}
+use Rattle.layers.proofs.answer_at.Tie as tie
 
 fits : (c : tie.Else1) → fitSides (c .before .before .before .args .sides) ≡ true
 fits c = sym (c .before .fit-sides .ensures) ∙ not-false _ (c .if1 .left)
@@ -52,8 +52,8 @@ returns-3 c =
     let e = c .before in
     call-done refused _ _ _ (number (e .before)) refl (e .if2 .left) _ (ap done (c .layer-at .ensures))
 
-pub layer-spec : {M : Type 1} → statement M
-layer-spec =
+pub answer-at-spec : {M : Type 1} → statement M
+answer-at-spec =
     tie.close
     (tie.spec
     fit-sides-requires
