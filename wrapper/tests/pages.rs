@@ -1,10 +1,10 @@
-//! docs/RULES.md and docs/RESULT.md cite definitions as `File.name`: each is in the specs, and each rule cites one. README's picture has the
-//! crates of crates.txt.
+//! docs/RULES.md and docs/RESULT.md cite definitions as `File.name`: each is in the specs, and each rule cites one. What docs/PROOFS.md and
+//! docs/DECISIONS.md cite by a capital is declared somewhere. README's picture has the crates of crates.txt.
 
 mod common;
 
 use common::root;
-use std::collections::HashMap;
+use std::collections::{HashMap, HashSet};
 use std::path::{Path, PathBuf};
 
 fn text(path: &Path) -> String {
@@ -55,6 +55,43 @@ fn every_name_is_in_the_specs() {
         }
     }
     assert!(wrong.is_empty(), "not in the specs:\n{}", wrong.join("\n"));
+}
+
+/// All files below a folder.
+fn below(folder: &Path) -> Vec<PathBuf> {
+    listed(folder).into_iter().flat_map(|path| if path.is_dir() { below(&path) } else { vec![path] }).collect()
+}
+
+/// What the rules, the proofs, the code and the wrapper declare by a capital, and the names of the rules' files.
+fn capitals() -> HashSet<String> {
+    const WORDS: [&str; 7] = ["abbrev", "unfoldable", "pub", "record", "data", "struct", "enum"];
+    let mut names = HashSet::new();
+    for path in below(&root().join("crates")).into_iter().chain(below(&root().join("wrapper/src"))) {
+        let end = path.extension().map(|end| end.to_string_lossy().into_owned()).unwrap_or_default();
+        if !["antt", "rt", "rs"].contains(&end.as_str()) {
+            continue;
+        }
+        names.insert(path.file_stem().expect("a name").to_string_lossy().into_owned());
+        for line in text(&path).lines().filter(|line| WORDS.iter().any(|word| line.trim_start().starts_with(word))) {
+            let name = line.split_whitespace().find(|word| !WORDS.contains(word)).unwrap_or("");
+            names.extend(name.split(|c: char| !c.is_ascii_alphanumeric()).next().map(str::to_string));
+        }
+    }
+    names
+}
+
+#[test]
+fn every_capital_is_declared() {
+    let names = capitals();
+    let capital = |word: &&str| word.starts_with(|c: char| c.is_ascii_uppercase()) && word.chars().all(|c| c.is_ascii_alphanumeric());
+    for page in ["docs/PROOFS.md", "docs/DECISIONS.md"] {
+        let page_text = text(&root().join(page));
+        let cited: Vec<&str> = page_text.split('`').skip(1).step_by(2).filter(capital).collect();
+        assert!(cited.len() > 10, "the names of {page} are read");
+        for word in cited {
+            assert!(names.contains(word), "{page} cites {word}, which nothing declares");
+        }
+    }
 }
 
 #[test]
