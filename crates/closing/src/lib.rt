@@ -18,14 +18,14 @@ use rules::Record;
 pub fn any_pending(status: &[u8]) -> bool
     ensures { λ r. ⌜ r ≡ any (isPending (now (status .entry))) (range 0 (length (now (status .entry)))) ⌝ }
 {
-    loops::joined(status, 0, status.len()) / 2 % 2 == 1
+    status::is_pending(loops::joined(status, 0, status.len()))
 }
 
 // A kept voxel's distance is negative.
 fn closed_value(d: i32, x: u8) -> i32
     ensures { λ r. ⌜ r ≡ closedIf d x ⌝ }
 {
-    if x % 2 == 0 {
+    if !status::is_kept(x) {
         return d;
     }
     if d < 0 {

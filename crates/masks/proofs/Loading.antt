@@ -1,13 +1,13 @@
 -- Bytes side by side in one number, and the pending voxels of the bytes up to the last as the bits of one.
-use mathlib.Core.Path.{_≡_, refl, sym, ap, ap₂, _∙_, subst}
-use mathlib.Core.Bool.{Bool, true, false, _&&_, _||_}
+use mathlib.Core.Path.{_≡_, sym, ap, ap₂, _∙_, subst}
+use mathlib.Core.Bool.{Bool, false, _&&_, _||_}
 use mathlib.Core.List.{List}
 use Prim.Native.Nat.{ℕ, zero, suc, _+_, _-_, _*_, _/_, _%_, _^_, _≤_, _<_}
 use native.Mathlib.Nat.{lt-of-lt-of-le, pow-le-pow-right, div-eq-of-lt}
 use native.Mathlib.Omega.{arith}
 use native.Mathlib.Decide.{decLt}
 use borrow.Author.Tests.{le-leb, lt-leb}
-use lib.Dec.{eqb, leb, lit<}
+use lib.Dec.{eqb, lit<}
 use lib.Arith.{digits-lt}
 use lib.Pow.{shl-exact, pow-add}
 use lib.Bits.{bitOr, or-shifted-r}
@@ -66,15 +66,6 @@ loaded-join w s at x y h X Y =
 
 -- ---- the bytes from j to the last, the last first
 
-two-bits : (y : ℕ) → y < 2 → bit (eqb y 1) ≡ y
-two-bits zero h = refl
-two-bits (suc zero) h = refl
-two-bits (suc (suc y)) h = let z : ⊥ = omega arith in absurd z
-
-pending-bit : (status : List ℕ) (i : ℕ) → bit (isPending status i) ≡ getD status i 0 / 2 % 2
-unfolding isPending pendingByte
-pending-bit status i = two-bits (getD status i 0 / 2 % 2) (omega arith)
-
 pub record Gathering (status : List ℕ) (at m j : ℕ) : Type 0 where
   pub low : at ≤ j
   pub high : j ≤ length status
@@ -93,7 +84,7 @@ module _ (status : List ℕ) (at : ℕ) where
       subst (λ (x : ℕ). x < 2 ^ 63) (sym (G .set)) (lt-of-lt-of-le (bits-lt (length status - j) _) (pow-le-pow-right (lit< tt) u))
 
   pub gathering-step :
-      (m j i v w : ℕ) → i ≡ j - 1 → at < j → v ≡ getD status i 0 / 2 % 2 → w ≡ m * 2 + v → Gathering status at m j
+      (m j i v w : ℕ) → i ≡ j - 1 → at < j → v ≡ bit (isPending status i) → w ≡ m * 2 + v → Gathering status at m j
       → Gathering status at w i
   unfolding bits
   gathering-step m j i v w e l q r G =
@@ -102,7 +93,7 @@ module _ (status : List ℕ) (at : ℕ) where
       let low : i + 0 ≡ i = omega arith in
       let next = bits-ext (length status - j) (λ c. isPending status (i + suc c)) (λ c. isPending status (j + c))
       (λ c _. let z : i + suc c ≡ j + c = omega arith in ap (isPending status) z) in
-      let one : bit (isPending status (i + 0)) ≡ v = ap (λ (x : ℕ). bit (isPending status x)) low ∙ pending-bit status i ∙ sym q in
+      let one : bit (isPending status (i + 0)) ≡ v = ap (λ (x : ℕ). bit (isPending status x)) low ∙ sym q in
       record {
         low = omega arith;
         high = omega arith;

@@ -1,6 +1,6 @@
 // The pending voxels of a stretch of voxels as the bits of one number, read eight bytes at a time.
 ghost use mathlib.Core.Path.{_≡_};
-ghost use Prim.Native.Nat.{ℕ, _+_, _-_, _*_, _/_, _%_, _^_, _≤_, _<_};
+ghost use Prim.Native.Nat.{ℕ, _+_, _-_, _*_, _^_, _≤_, _<_};
 ghost use lib.ListN.{length};
 ghost use Rattle.bits.specs.Bits.{has, bits};
 ghost use Rattle.rules.specs.Status.{isPending};
@@ -74,13 +74,6 @@ fn whole(status: &[u8], at: usize) -> u64
     )
 }
 
-// The pending bit of a status byte.
-fn pending_bit(s: u8) -> u64
-    ensures { λ r. ⌜ r ≡ s / 2 % 2 ⌝ }
-{
-    wide(s) / 2 % 2
-}
-
 // The pending voxels from at to the last, fewer than a stretch has.
 fn rest(status: &[u8], at: usize) -> u64
     requires { ⌜ (at ≤ length (now status)) × (length (now status) < at + 64) ⌝ }
@@ -90,7 +83,7 @@ fn rest(status: &[u8], at: usize) -> u64
     let mut j = status.len();
     while at < j {
         j -= 1;
-        m = m * 2 + pending_bit(status[j]);
+        m = m * 2 + status::pending_bit(status[j]);
     }
     m
 }

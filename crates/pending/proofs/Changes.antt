@@ -4,15 +4,11 @@ use mathlib.Core.Bool.{Bool, true, false, cond}
 use mathlib.Core.List.{List}
 use Prim.Native.Nat.{ℕ, _+_, _-_, _*_, _/_, _%_, _≤_, _<_, max}
 use native.Mathlib.Omega.{arith}
-use borrow.Author.Tests.{eqb-true}
-use lib.Dec.{eqb}
-use lib.Bits.{bitOr}
 use lib.IntN.{ℤ}
 use lib.ListN.{length, getD, set, length-set}
 use lib.Seq.{getD-set-same, getD-set-other}
-use Rattle.bits.proofs.Bits.{below}
 use Rattle.rules.specs.Grid.{distanceAt}
-use Rattle.rules.specs.Status.{statusOf, pendingByte, woken, isPending}
+use Rattle.rules.specs.Status.{pendingByte, isPending}
 use Rattle.rules.specs.Marks.{Marked}
 use Rattle.keys.specs.Key.{Lent, rankBy, rankAt, keyOf, keyAt, voxelKey, width, stretches, stretchKey}
 use Rattle.keys.proofs.Ranks.{key-by}
@@ -23,11 +19,6 @@ use Rattle.offsets.proofs.Offsets.{Named, offset-made}
 use Rattle.pending.proofs.Indexing.{offsets-of, indexed-nodes, offsets-set, indexed-set, indexed-kept, indexed-raised}
 use Rattle.offsets.proofs.Held.{key-inside, key-named, held, held-group}
 use Rattle.pending.proofs.Succession.{stretch-below, own-group, crowning}
-
--- bit 1 set
-pub wake-byte : (x y : ℕ) → x < 256 → y ≡ bitOr x 2 → y ≡ woken x
-unfolding woken pendingByte
-wake-byte x y h e = e ∙ eqb-true _ _ (below 256 (λ x. eqb (bitOr x 2) (woken x)) refl x h)
 
 module _ (m : Marked) (dist : List ℤ) (status : List ℕ) (j s : ℕ) where
   key-other : (i : ℕ) → (i ≡ j → ⊥) → keyAt (m .hurried) dist (set status j s) i ≡ keyAt (m .hurried) dist status i

@@ -6,7 +6,7 @@ ghost use lib.ListN.{length, getD};
 ghost use mir.Syntax.{w32};
 ghost use mir.Val.{SFits};
 ghost use Rattle.rules.specs.Grid.{distanceAt};
-ghost use Rattle.rules.specs.Status.{isPending, woken};
+ghost use Rattle.rules.specs.Status.{isPending};
 ghost use Rattle.cells.specs.Groups.{any};
 ghost use Rattle.rules.specs.Grid.{range};
 ghost use Rattle.rules.specs.Marks.{marked};
@@ -69,13 +69,6 @@ fn refresh(dist: &[i32], marks: &[u8], offsets: &[u8], tree: &mut [u64], k: usiz
     winners::replace(tree, h, k / GROUP, v);
 }
 
-// A status byte made pending.
-fn wake(s: u8) -> u8
-    ensures { λ r. ⌜ r ≡ woken s ⌝ }
-{
-    s | 2
-}
-
 // The index of the lent buffers.
 pub fn build(dist: &[i32], marks: &[u8], status: &[u8], offsets: &mut [u8], tree: &mut [u64])
     requires { ⌜ Room (now dist) (now status) (now offsets) (now tree) ⌝ }
@@ -120,7 +113,7 @@ pub fn raise(
     ensures { λ _. ⌜ Raised (marked (now (marks .entry))) (now (dist .entry)) (now (status .entry)) (now (status .exit)) (now (offsets .exit))
         (now (tree .exit)) j ⌝ }
 {
-    status[j] = wake(status[j]);
+    status[j] = status::woken(status[j]);
     let w = keys::voxel_key(dist, marks, j);
     if w <= offsets::held_key(dist, marks, offsets, j / WIDTH) {
         return;

@@ -1,23 +1,12 @@
--- The loop that counts kept voxels: a status byte's bit 0 says kept.
-use mathlib.Core.Path.{_≡_, refl, ap, sym, _∙_}
-use mathlib.Core.Bool.{Bool, true, false}
+-- The loop that counts kept voxels.
+use mathlib.Core.Path.{_≡_, ap, sym, _∙_}
 use mathlib.Core.List.{List}
-use Prim.Native.Nat.{ℕ, _+_, _%_, _≤_, _<_}
+use Prim.Native.Nat.{ℕ, _+_, _≤_, _<_}
 use native.Mathlib.Omega.{arith}
-use borrow.Author.Tests.{eqb-true, eqb-false}
-use lib.Dec.{eqb}
 use lib.ListN.{length}
 use Rattle.cells.specs.Cells.{bit}
 use Rattle.prelude.proofs.Counts.{counted, counted-none, counted-more}
-use Rattle.rules.specs.Status.{statusOf, keptByte, isKept}
-
-kept-bit : (status : List ℕ) (i : ℕ) → bit (isKept status i) ≡ statusOf status i % 2
-unfolding isKept keptByte
-kept-bit status i = go (eqb (statusOf status i % 2) 1) refl
-  where
-    go : (t : Bool) → eqb (statusOf status i % 2) 1 ≡ t → bit t ≡ statusOf status i % 2
-    go true e = sym (eqb-true (statusOf status i % 2) 1 e)
-    go false e = omega (arith, eqb-false (statusOf status i % 2) 1 e)
+use Rattle.rules.specs.Status.{isKept}
 
 pub record Counting (status : List ℕ) (n i : ℕ) : Type 0 where
   pub within : i ≤ length status
@@ -28,12 +17,12 @@ module _ (status : List ℕ) where
   pub counting-start : Counting status 0 0
   counting-start = record { within = omega arith; below = omega arith; counts = sym (counted-none (isKept status)) }
 
-  pub counting-next : (n m i : ℕ) → i < length status → m ≡ n + statusOf status i % 2 → Counting status n i → Counting status m (i + 1)
-  counting-next n m i h e c =
+  pub counting-next : (n m i : ℕ) → i < length status → m ≡ n + bit (isKept status i) → m ≤ n + 1 → Counting status n i → Counting status m (i + 1)
+  counting-next n m i h e l c =
       record {
         within = omega arith;
         below = omega (arith, c .below);
-        counts = omega (arith, c .counts, counted-more (isKept status) i, kept-bit status i);
+        counts = omega (arith, c .counts, counted-more (isKept status) i);
       }
 
   pub counting-done : (n i : ℕ) → length status ≤ i → Counting status n i → n ≡ counted (isKept status) (length status)

@@ -20,7 +20,7 @@ fn kept_voxels(status: &[u8]) -> u64
     let mut kept = 0;
     let mut i = 0;
     while i < status.len() {
-        kept += (status[i] % 2) as u64;
+        kept += status::kept_bit(status[i]);
         i += 1;
     }
     kept

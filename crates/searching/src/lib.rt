@@ -29,7 +29,7 @@ fn on_surface(status: &[u8], a: usize, l: usize, i: usize) -> bool
 {
     let near = status[i - l]
         & (status[i - a] & (status[i - 1] & (status[i + 1] & (status[i + a] & status[i + l]))));
-    (status[i] % 2 == 1) & !(near % 2 == 1)
+    status::is_kept(status[i]) & !status::is_kept(near)
 }
 
 // The distance of a voxel on the surface, -1 for any other.

@@ -17,7 +17,7 @@ fn voxel_refusal(given: Record, dist: &[i32], marks: &[u8], status: &[u8], index
     if status.len() <= index {
         return 5;
     }
-    if status[index] % 2 == 0 {
+    if !status::is_kept(status[index]) {
         return 10;
     }
     let d = dist[index];

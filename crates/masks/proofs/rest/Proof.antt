@@ -4,6 +4,7 @@ use Prim.Native.Nat.{_+_, _<_}
 use native.Mathlib.Omega.{arith}
 use lib.ListN.{length}
 use borrow.Author.Needs.{needs}
+use Rattle.rules.specs.Status.{isPending}
 use Rattle.masks.proofs.Loading.{Gathering, gathering-start, gathering-small, gathering-step, gathering-done}
 use Rattle.masks.proofs.rest.Statement.{statement}
 use Rattle.masks.proofs.rest.Tie as tie
@@ -40,17 +41,17 @@ pending-bit-requires c κs = search needs
 add-m : tie.Need-add-m Inv-loop μ-loop
 add-m c =
     let m = small (c .before .before) in
-    let b = c .pending-bit .ensures in
-    record { fits = omega arith }
+    record { fits = omega (arith, c .pending-bit .ensures .1) }
 
 loop-less : tie.Need-loop-less Inv-loop μ-loop
 loop-less c = search needs
 
 loop-again : tie.Need-loop-again Inv-loop μ-loop
+unfolding isPending
 loop-again c =
     let i = c .before .before in
     let l = i .before .loop in
-    (l .inv .0, gathering-step _ _ (l .m) (l .j) _ _ _ refl (i .loop-test .taken) (c .pending-bit .ensures) refl (l .inv .1))
+    (l .inv .0, gathering-step _ _ (l .m) (l .j) _ _ _ refl (i .loop-test .taken) (c .pending-bit .ensures .0) (omega arith) (l .inv .1))
 
 returns : tie.Need-returns Inv-loop μ-loop
 returns c =

@@ -15,11 +15,11 @@ use borrow.Author.Needs.{needs}
 use Rattle.pending.proofs.raise.Statement.{statement}
 use Rattle.pending.proofs.raise.Tie as tie
 
-slice-read-wake : tie.Need-slice-read-wake
-slice-read-wake c = search needs
+slice-read-woken : tie.Need-slice-read-woken
+slice-read-woken c = search needs
 
-wake-requires : tie.Need-wake-requires
-wake-requires c κs = search needs
+woken-requires : tie.Need-woken-requires
+woken-requires c κs = search needs
 
 slice-write-status : tie.Need-slice-write-status
 slice-write-status c = search needs
@@ -28,8 +28,8 @@ voxel-key-requires : tie.Need-voxel-key-requires
 voxel-key-requires c κs = search needs
 
 -- the byte is pending
-woken-byte : (c : tie.After-wake) → pendingByte (c .wake .result) ≡ true
-woken-byte c = ap pendingByte (c .wake .ensures) ∙ woken-pending _
+woken-byte : (c : tie.After-woken) → pendingByte (c .woken .result) ≡ true
+woken-byte c = ap pendingByte (c .woken .ensures) ∙ woken-pending _
 
 -- the key that an offset holds is that of its stretch
 key-read : (read held key : ℕ) → read ≡ held → held ≡ key → read ≡ key
@@ -67,7 +67,7 @@ returns c =
     let s = w .before .before .before .before .before .before in
     let a = s .args in
     record {
-      status = ap (set (a .status .now) (a .j)) (w .wake .ensures);
+      status = ap (set (a .status .now) (a .j)) (w .woken .ensures);
       index =
           index-kept (marked (a .marks .now)) _ _ (a .j) _ _ _ (s .pre .0) (s .pre .1) (woken-byte w) _ (v .voxel-key .ensures)
           (subst (λ (x : ℕ). v .voxel-key .result ≤ x) (stretch-now b) (c .if1 .taken));
@@ -89,7 +89,7 @@ lift-requires c κs =
     let s = w .before .before .before .before .before .before in
     let i = s .pre .0 in
     let e = g .count-groups .ensures in
-    (nodes-now (marked (s .args .marks .now)) _ _ (s .args .j) (w .wake .result) _ _ i (s .pre .1) _ e, omega (arith, s .pre .1, i .lent .same))
+    (nodes-now (marked (s .args .marks .now)) _ _ (s .args .j) (w .woken .result) _ _ i (s .pre .1) _ e, omega (arith, s .pre .1, i .lent .same))
 
 same-length-3 : tie.Need-same-length-3
 same-length-3 c = search needs
@@ -111,7 +111,7 @@ returns-2 c =
     let s = w .before .before .before .before .before .before in
     let a = s .args in
     record {
-      status = ap (set (a .status .now) (a .j)) (w .wake .ensures);
+      status = ap (set (a .status .now) (a .j)) (w .woken .ensures);
       index =
           index-raised (marked (a .marks .now)) _ _ (a .j) _ _ _ (s .pre .0) (s .pre .1) (woken-byte w) _ (v .voxel-key .ensures) _ _ _
           (subst (λ (x : ℕ). x < v .voxel-key .result) (stretch-now b) (i .if1 .left)) refl (g .count-groups .ensures) (l .lift .ensures);
@@ -121,8 +121,8 @@ pub raise-spec : {M : Type 1} → statement M
 raise-spec =
     tie.close
     (tie.spec
-    slice-read-wake
-    wake-requires
+    slice-read-woken
+    woken-requires
     slice-write-status
     voxel-key-requires
     held-key-requires

@@ -3,6 +3,7 @@ use Prim.Native.Nat.{_-_}
 use native.Mathlib.Omega.{arith}
 use lib.ListN.{length}
 use borrow.Author.Needs.{needs}
+use Rattle.rules.specs.Status.{isKept}
 use Rattle.rounds.proofs.Counting.{Counting, counting-start, counting-next, counting-done}
 use Rattle.rounds.proofs.kept_voxels.Statement.{statement}
 use Rattle.rounds.proofs.kept_voxels.Tie as tie
@@ -16,11 +17,11 @@ abbrev μ-loop : tie.MeasureT-loop
 loop-holds : tie.Need-loop-holds Inv-loop μ-loop
 loop-holds c = counting-start _
 
-shared-slice-read-kept : tie.Need-shared-slice-read-kept Inv-loop μ-loop
-shared-slice-read-kept c = search needs
+shared-slice-read-kept-bit : tie.Need-shared-slice-read-kept-bit Inv-loop μ-loop
+shared-slice-read-kept-bit c = search needs
 
-cast-kept : tie.Need-cast-kept Inv-loop μ-loop
-cast-kept c = search needs
+kept-bit-requires : tie.Need-kept-bit-requires Inv-loop μ-loop
+kept-bit-requires c κs = search needs
 
 add-kept : tie.Need-add-kept Inv-loop μ-loop
 add-kept c = search needs
@@ -32,7 +33,10 @@ loop-less : tie.Need-loop-less Inv-loop μ-loop
 loop-less c = search needs
 
 loop-again : tie.Need-loop-again Inv-loop μ-loop
-loop-again c = counting-next _ _ _ _ (search needs) (omega arith) (c .before .before .loop .inv)
+unfolding isKept
+loop-again c =
+    let bit = c .kept-bit .ensures in
+    counting-next _ _ _ _ (search needs) (omega (arith, bit .0)) (omega (arith, bit .1)) (c .before .before .before .loop .inv)
 
 returns : tie.Need-returns Inv-loop μ-loop
 returns c = counting-done _ _ _ (search needs) (c .before .loop .inv)
@@ -44,8 +48,8 @@ kept-voxels-spec =
     Inv-loop
     μ-loop
     loop-holds
-    shared-slice-read-kept
-    cast-kept
+    shared-slice-read-kept-bit
+    kept-bit-requires
     add-kept
     add-i
     loop-less

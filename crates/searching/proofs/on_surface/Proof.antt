@@ -1,10 +1,10 @@
 -- `searching::on_surface` meets its contract: bit 0 of the six bytes joined.
 use mathlib.Core.Bool.{Bool, not, _&&_}
-use mathlib.Core.Path.{refl, ap}
+use mathlib.Core.Path.{refl, ap₂, _∙_}
 use Prim.Native.Nat.{ℕ, _+_, _-_}
 use borrow.Author.Needs.{needs}
-use Rattle.rules.specs.Status.{statusOf, keptByte, isKept}
-use Rattle.neighbourhood.proofs.Gathering.{kept-and}
+use Rattle.rules.specs.Status.{statusOf, isKept}
+use Rattle.status.proofs.Bytes.{kept-and}
 use Rattle.searching.specs.Argmax.{enclosed, surfaceAt}
 use Rattle.searching.proofs.on_surface.Statement.{statement}
 use Rattle.searching.proofs.on_surface.Tie as tie
@@ -45,17 +45,34 @@ add-near-3 c = search needs
 shared-slice-read-near-6 : tie.Need-shared-slice-read-near-6
 shared-slice-read-near-6 c = search needs
 
-shared-slice-read-result : tie.Need-shared-slice-read-result
-shared-slice-read-result c = search needs
+shared-slice-read-is-kept : tie.Need-shared-slice-read-is-kept
+shared-slice-read-is-kept c = search needs
+
+is-kept-requires : tie.Need-is-kept-requires
+is-kept-requires c κs = search needs
+
+is-kept-requires-2 : tie.Need-is-kept-requires-2
+is-kept-requires-2 c κs = search needs
+
+-- the places of the reads, back to the entry
+abbrev fifth : tie.After-shared-slice-known8 → tie.After-shared-slice-known5
+fifth c = c .before .before .before
+
+abbrev second : tie.After-shared-slice-known5 → tie.After-shared-slice-known2
+second c = c .before .before .before
+
+abbrev entry : tie.After-shared-slice-known2 → tie.Start
+entry c = c .before .before
 
 returns : tie.Need-returns
-unfolding surfaceAt enclosed isKept keptByte
+unfolding surfaceAt enclosed isKept
 returns c =
-    let a-back = c .before .before .before in
-    let a = a-back .before .before .before .before .args in
+    let k = c .before in
+    let a = entry (second (fifth (k .before))) .args in
     let x : ℕ → ℕ = statusOf (a .status .now) in
     let last = kept-and (x (a .i + 1)) _ (kept-and (x (a .i + a .a)) (x (a .i + a .l)) refl) in
-    ap (λ (t : Bool). keptByte (x (a .i)) && not t) (kept-and (x (a .i - a .l)) _ (kept-and (x (a .i - a .a)) _ (kept-and (x (a .i - 1)) _ last)))
+    let six = kept-and (x (a .i - a .l)) _ (kept-and (x (a .i - a .a)) _ (kept-and (x (a .i - 1)) _ last)) in
+    ap₂ (λ (own near : Bool). own && not near) (k .is-kept .ensures) (c .is-kept2 .ensures ∙ six)
 
 pub on-surface-spec : {M : Type 1} → statement M
 on-surface-spec =
@@ -73,5 +90,7 @@ on-surface-spec =
     shared-slice-read-near-5
     add-near-3
     shared-slice-read-near-6
-    shared-slice-read-result
+    shared-slice-read-is-kept
+    is-kept-requires
+    is-kept-requires-2
     returns)

@@ -8,12 +8,12 @@ use borrow.Author.Tests.{le-leb, lt-leb}
 use lib.Dec.{leb}
 use mir.Syntax.{w32}
 use mir.Val.{SFits}
+use Rattle.prelude.proofs.Bools.{not-true, not-false}
 use Rattle.prelude.proofs.Signs.{held-negative}
 use Rattle.rules.specs.Status.{isKept}
 use Rattle.rules.specs.Machine.{State, state, isInside}
 use Rattle.rules.specs.Checks.{firstFailing}
 use Rattle.rules.specs.Grid.{size, distanceAt}
-use Rattle.neighbourhood.proofs.Gathering.{even-gone, odd-kept}
 use Rattle.waking.proofs.Fitting.{kept-removable}
 use Rattle.taking.proofs.voxel_refusal.Statement.{statement}
 use Rattle.taking.proofs.voxel_refusal.Tie as tie
@@ -29,22 +29,33 @@ returns c =
     let h : size (p .args .given .sides) ≤ p .args .index = omega (arith, c .if1 .taken) in
     simp (le-leb _ _ h)
 
-below : (c : tie.Else1) → let p = c .before .before .before .args in p .index < size (p .given .sides)
-below c = let l = c .before .before .before .pre .fit .voxels .lent .statuses in omega (arith, c .if1 .left)
+-- where the index is that of a voxel
+abbrev entry : tie.Else1 → tie.Start
+entry c = c .before .before .before
 
-within : (c : tie.Else1) → leb (size (c .before .before .before .args .given .sides)) (c .before .before .before .args .index) ≡ false
+below : (c : tie.Else1) → let p = entry c .args in p .index < size (p .given .sides)
+below c = let l = entry c .pre .fit .voxels .lent .statuses in omega (arith, c .if1 .left)
+
+within : (c : tie.Else1) → let p = entry c .args in leb (size (p .given .sides)) (p .index) ≡ false
 within c = lt-leb _ _ (below c)
 
-shared-slice-read-if2 : tie.Need-shared-slice-read-if2
-shared-slice-read-if2 c = search needs
+shared-slice-read-is-kept : tie.Need-shared-slice-read-is-kept
+shared-slice-read-is-kept c = search needs
+
+is-kept-requires : tie.Need-is-kept-requires
+is-kept-requires c κs = search needs
 
 returns-2 : tie.Need-returns-2
 unfolding firstFailing isKept
-returns-2 c = simp (within (c .before .before), even-gone _ (c .if2 .taken))
+returns-2 c = let k = c .before in simp (within (k .before .before), ← k .is-kept .ensures, c .if2 .taken)
 
-kept : (c : tie.Else2) → let a = c .before .before .before .before .before .args in isKept (a .status .now) (a .index) ≡ true
+-- where the voxel is kept
+abbrev voxel : tie.Else2 → tie.Else1
+voxel c = c .before .before .before
+
+kept : (c : tie.Else2) → let a = entry (voxel c) .args in isKept (a .status .now) (a .index) ≡ true
 unfolding isKept
-kept c = odd-kept _ (c .if2 .left)
+kept c = sym (c .before .is-kept .ensures) ∙ not-false _ (c .if2 .left)
 
 mul-d : tie.Need-mul-d
 mul-d c = search needs
@@ -52,14 +63,14 @@ mul-d c = search needs
 shared-slice-copy-out-d : tie.Need-shared-slice-copy-out-d
 shared-slice-copy-out-d c = search needs
 
-sign : (c : tie.After-d) → let a = c .before .before .before .before .before .before .args in SFits w32 (distanceAt (a .dist .now) (a .index))
+sign : (c : tie.After-d) → let a = entry (voxel (c .before)) .args in SFits w32 (distanceAt (a .dist .now) (a .index))
 sign c = sfits-of (c .d .given)
 
 returns-3 : tie.Need-returns-3
 unfolding firstFailing isInside
-returns-3 c = let e = c .before .before in simp (within (e .before .before), kept e, sym (held-negative (sign (c .before))) ∙ c .if3 .taken)
+returns-3 c = let e = c .before .before in simp (within (voxel e), kept e, sym (held-negative (sign (c .before))) ∙ c .if3 .taken)
 
-outer : (c : tie.Else3) → let a = c .before .before .before .before .before .before .before .args in isInside (a .dist .now) (a .index) ≡ false
+outer : (c : tie.Else3) → let a = entry (voxel (c .before .before)) .args in isInside (a .dist .now) (a .index) ≡ false
 unfolding isInside
 outer c = sym (held-negative (sign (c .before))) ∙ c .if3 .left
 
@@ -72,13 +83,14 @@ returns-4 c =
     let p = c .before in
     let o = p .before in
     let e = o .before .before in
-    simp (within (e .before .before), kept e, outer o, ← p .pinned .ensures, c .if4 .taken)
+    simp (within (voxel e), kept e, outer o, ← p .pinned .ensures, c .if4 .taken)
 
 passes-at-requires : tie.Need-passes-at-requires
 passes-at-requires c κs =
-    let e = c .before .before .before .before .before in
-    let b = e .before .before in
-    let s = b .before .before .before in
+    let q = c .before in
+    let e = q .before .before .before .before in
+    let b = voxel e in
+    let s = entry b in
     let r = kept-removable (lent-to s) (s .pre .fit) (s .args .index) (below b) (kept e) in
     (r .voxel, r .statuses)
 
@@ -89,7 +101,7 @@ returns-5 c =
     let q = p .before .before in
     let o = q .before .before in
     let e = o .before .before in
-    simp (within (e .before .before), kept e, outer o, ← q .before .pinned .ensures, q .if4 .left, ← p .passes-at .ensures, c .if5 .taken)
+    simp (within (voxel e), kept e, outer o, ← q .before .pinned .ensures, q .if4 .left, ← p .passes-at .ensures, c .if5 .taken)
 
 returns-6 : tie.Need-returns-6
 unfolding firstFailing
@@ -98,14 +110,15 @@ returns-6 c =
     let q = p .before .before in
     let o = q .before .before in
     let e = o .before .before in
-    simp (within (e .before .before), kept e, outer o, ← q .before .pinned .ensures, q .if4 .left, ← p .passes-at .ensures, c .if5 .left)
+    simp (within (voxel e), kept e, outer o, ← q .before .pinned .ensures, q .if4 .left, ← p .passes-at .ensures, c .if5 .left)
 
 pub voxel-refusal-spec : {M : Type 1} → statement M
 voxel-refusal-spec =
     tie.close
     (tie.spec
     returns
-    shared-slice-read-if2
+    shared-slice-read-is-kept
+    is-kept-requires
     returns-2
     mul-d
     shared-slice-copy-out-d
