@@ -2,7 +2,7 @@
 use rules::Sides;
 ghost use mathlib.Core.Path.{_≡_};
 ghost use mathlib.Core.Bool.{cond, _||_};
-ghost use Prim.Native.Nat.{_≤_, _<_, min, max};
+ghost use Prim.Native.Nat.{_≤_, _<_};
 ghost use lib.Dec.{eqb};
 ghost use lib.ListN.{length};
 ghost use Rattle.loops.specs.InPlace.{Each};
@@ -17,18 +17,6 @@ pub struct Bounds {
     pub y1: usize,
     pub z0: usize,
     pub z1: usize,
-}
-
-fn lower(a: usize, b: usize) -> usize
-    ensures { λ r. ⌜ r ≡ min a b ⌝ }
-{
-    if a < b { a } else { b }
-}
-
-fn higher(a: usize, b: usize) -> usize
-    ensures { λ r. ⌜ r ≡ max a b ⌝ }
-{
-    if a < b { b } else { a }
 }
 
 // The box with the voxels of S in a row taken in.
@@ -46,12 +34,12 @@ fn widened(b: Bounds, d: &[u8], sides: Sides, row: usize) -> Bounds
     let y = row % sides.b;
     let z = row / sides.b;
     Bounds {
-        x0: lower(p - first, b.x0),
-        x1: higher(q - first, b.x1),
-        y0: lower(y, b.y0),
-        y1: higher(y, b.y1),
-        z0: lower(z, b.z0),
-        z1: higher(z, b.z1),
+        x0: numbers::lesser_usize(p - first, b.x0),
+        x1: numbers::greater_usize(q - first, b.x1),
+        y0: numbers::lesser_usize(y, b.y0),
+        y1: numbers::greater_usize(y, b.y1),
+        z0: numbers::lesser_usize(z, b.z0),
+        z1: numbers::greater_usize(z, b.z1),
     }
 }
 

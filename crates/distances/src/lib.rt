@@ -3,19 +3,9 @@ use rules::Sides;
 ghost use mathlib.Core.Path.{_≡_};
 ghost use mathlib.Core.Bool.{Bool};
 ghost use mathlib.Core.List.{List};
-ghost use Prim.Native.Nat.{ℕ, min};
+ghost use Prim.Native.Nat.{ℕ};
 ghost use Rattle.distances.specs.Sweep.{positionOf, Lowered, Apart, Slab, Swept, Both, Whole, Axis, Positioned};
 ghost use Rattle.distances.specs.Work.{Seeded, Measured};
-
-// The lesser of two distances. The store that follows it has no branch, so that a run is done many voxels at a time.
-fn least(v: u8, w: u8) -> u8
-    ensures { λ r. ⌜ r ≡ min v w ⌝ }
-{
-    if w < v {
-        return w;
-    }
-    v
-}
 
 // A run of n voxels: each distance is at most 1 more than the one as far along the run at `from`.
 fn lower(d: &mut [u8], at: usize, from: usize, n: usize)
@@ -24,7 +14,7 @@ fn lower(d: &mut [u8], at: usize, from: usize, n: usize)
 {
     let mut k = 0;
     while k < n {
-        let v = least(d[at + k], d[from + k] + 1);
+        let v = numbers::lesser_u8(d[at + k], d[from + k] + 1);
         d[at + k] = v;
         k += 1;
     }
@@ -51,7 +41,7 @@ fn sweep_row(d: &mut [u8], at: usize, m: usize, down: bool)
     let mut t = 1;
     while t < m {
         let i = position(at, 1, m, down, t);
-        last = least(d[i], last + 1);
+        last = numbers::lesser_u8(d[i], last + 1);
         d[i] = last;
         t += 1;
     }

@@ -14,7 +14,7 @@ fn unfit_counts(given: Record, n: usize) -> bool
 {
     let limit = n as u64;
     let allowed = given.allowed as u32;
-    let euler = sizes::magnitude(given.euler);
+    let euler = numbers::magnitude(given.euler);
     (allowed < given.openings)
         | ((limit < given.removals) | ((27 * limit < given.examinations) | (8 * limit < euler)))
 }

@@ -2,7 +2,7 @@
 use mathlib.Core.Path.{_≡_, refl, sym, ap, _∙_, subst}
 use mathlib.Core.Bool.{Bool, true, false, not, cond, _&&_, _||_}
 use mathlib.Core.List.{List, [], _∷_}
-use Prim.Native.Nat.{ℕ, suc, _+_, _-_, _*_, _^_, _≤_, _<_}
+use Prim.Native.Nat.{ℕ, suc, _+_, _-_, _*_, _^_, _≤_, _<_, max}
 use native.Mathlib.Omega.{arith}
 use native.Mathlib.Decide.{decLt}
 use borrow.Author.Tests.{lt-ltb, le-ltb}
@@ -14,6 +14,7 @@ use mir.Syntax.{w32, w64}
 use mir.Val.{SFits, toZ, ofZ}
 use mir.Facts.{toZ-ofZ}
 use Rattle.prelude.proofs.Signs.{widened}
+use Rattle.numbers.specs.Signed.{greater}
 use Rattle.rules.specs.Grid.{distanceAt}
 use Rattle.rules.specs.Status.{isPending}
 use Rattle.rules.specs.Marks.{Marked, hurriedMark, marked, unmarked}
@@ -80,6 +81,14 @@ compared a b f =
     elim (decLt (rankOf a) (rankOf b)) [
       | yes h ↦ rank-less a b h ∙ sym (lt-ltb (rankOf a) (rankOf b) h)
       | no h ↦ rank-least a b f (omega arith) ∙ sym (le-ltb (rankOf a) (rankOf b) (omega arith))
+    ]
+
+-- so the rank of the greater distance is the greater rank
+pub rank-greater : (a b : ℤ) → SFits w32 a → rankOf (greater a b) ≡ max (rankOf a) (rankOf b)
+rank-greater a b f =
+    elim (decLt (rankOf a) (rankOf b)) [
+      | yes h ↦ ap (λ (t : Bool). rankOf (cond t b a)) (rank-less a b h) ∙ omega arith
+      | no h ↦ ap (λ (t : Bool). rankOf (cond t b a)) (rank-least a b f (omega arith)) ∙ omega arith
     ]
 
 -- ---- the order of ranks is that of the choice: a hurried voxel before all others, and then the greater distance

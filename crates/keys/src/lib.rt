@@ -2,7 +2,7 @@
 // among equal ranks the first met is the one to keep.
 ghost use mathlib.Core.Path.{_≡_};
 ghost use mathlib.Core.Bool.{true, false, cond, _&&_};
-ghost use Prim.Native.Nat.{ℕ, _+_, _-_, _*_, _/_, _%_, _^_, _≤_, _<_, max};
+ghost use Prim.Native.Nat.{ℕ, _+_, _-_, _*_, _/_, _%_, _^_, _≤_, _<_};
 ghost use lib.ListN.{length};
 ghost use Rattle.bits.specs.Bits.{has, bits};
 ghost use Rattle.rules.specs.Grid.{distanceAt};
@@ -68,20 +68,6 @@ pub fn voxel_key(dist: &[i32], marks: &[u8], j: usize) -> u64
     key(rank(distance(dist, j), marks, j), j)
 }
 
-// The greater of two ranks.
-fn greater(g: u64, r: u64) -> u64
-    ensures { λ h. ⌜ h ≡ max g r ⌝ }
-{
-    if g < r { r } else { g }
-}
-
-// The greater of two distances.
-fn farther(g: i32, d: i32) -> i32
-    ensures { λ r. ⌜ rankOf r ≡ max (rankOf g) (rankOf d) ⌝ }
-{
-    if g < d { d } else { g }
-}
-
 // t where it goes ahead of b.
 fn leading(ahead: bool, t: usize, b: usize) -> usize
     ensures { λ i. ⌜ i ≡ cond ahead t b ⌝ }
@@ -102,7 +88,7 @@ fn hurried_scan(dist: &[i32], marks: &[u8], at: usize, set: u64) -> u64
         let t = bits::lowest(m);
         let r = rank(distance(dist, t), marks, at + t);
         b = leading(g < r, t, b);
-        g = greater(g, r);
+        g = numbers::greater_u64(g, r);
         m = m & (m - 1);
     }
     key(g, at + b)
@@ -123,7 +109,7 @@ fn plain_scan(dist: &[i32], at: usize, set: u64) -> u64
         let t = bits::lowest(m);
         let d = distance(dist, t);
         b = leading(g < d, t, b);
-        g = farther(g, d);
+        g = numbers::greater_i32(g, d);
         m = m & (m - 1);
     }
     key(raised(g), at + b)

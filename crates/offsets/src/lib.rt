@@ -68,7 +68,7 @@ fn some_stretches(dist: &[i32], marks: &[u8], offsets: &[u8], first: usize, coun
     let mut g: u64 = 0;
     let mut c: usize = 0;
     while c < count {
-        g = winners::greater(g, held_key(dist, marks, offsets, first + c));
+        g = numbers::greater_u64(g, held_key(dist, marks, offsets, first + c));
         c += 1;
     }
     g

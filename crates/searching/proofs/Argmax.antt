@@ -14,10 +14,11 @@ use mir.Syntax.{w32}
 use mir.Val.{SFits, toZ, ofZ}
 use mir.Facts.{toZ-ofZ}
 use Rattle.prelude.proofs.Bools.{two}
+use Rattle.numbers.specs.Signed.{greater}
 use Rattle.rules.specs.Grid.{isNegative}
 use Rattle.rules.specs.Marks.{Marked}
 use Rattle.searching.specs.declared.Held.{Held}
-use Rattle.searching.specs.Argmax.{surfaceHeight, surfaceKey, heightAt, keyAt, rank, higher, heldOf, Greatest, Holding, Leading}
+use Rattle.searching.specs.Argmax.{surfaceHeight, surfaceKey, heightAt, keyAt, rank, heldOf, Greatest, Holding, Leading}
 use Rattle.searching.specs.Argmax.{Span}
 
 -- one voxel of a stretch
@@ -94,8 +95,7 @@ module _ (f : ℕ → ℕ) (first : ℕ) where
         some = λ p. let w = g .some p in (w .0, w .1, omega (arith, w .2), w .3);
       }
 
-  pub greatest-step : (i : ℕ) (x y : ℤ) → first ≤ i → Greatest f first i (rank x) → f i ≡ rank y → Greatest f first (i + 1) (rank (higher x y))
-  unfolding higher
+  pub greatest-step : (i : ℕ) (x y : ℤ) → first ≤ i → Greatest f first i (rank x) → f i ≡ rank y → Greatest f first (i + 1) (rank (greater x y))
   greatest-step i x y l g e =
       elim (two (ltZ x y)) [
         | inl t ↦
@@ -106,7 +106,7 @@ module _ (f : ℕ → ℕ) (first : ℕ) where
             (greatest-left i (rank x) l (let h = rank-rest x y t in omega arith) g)
       ]
 
-  -- the same as the machine holds it: h is the height of voxel i, and r the higher of the two
+  -- the same as the machine holds it: h is the height of voxel i, and r the greater of the two
   pub greatest-held :
       (i : ℕ) (x h y r : ℤ)
       → first ≤ i
@@ -114,12 +114,12 @@ module _ (f : ℕ → ℕ) (first : ℕ) where
       → SFits w32 h
       → SFits w32 r
       → h ≡ y
-      → r ≡ higher x (toZ w32 (ofZ w32 h))
+      → r ≡ greater x (toZ w32 (ofZ w32 h))
       → Greatest f first i (rank x)
       → f i ≡ rank y
       → SFits w32 (toZ w32 (ofZ w32 r)) × Greatest f first (i + 1) (rank (toZ w32 (ofZ w32 r)))
   greatest-held i x h y r l fx fh fr e q g k =
-      let w : r ≡ higher x y = q ∙ ap (higher x) (toZ-ofZ fh ∙ e) in (
+      let w : r ≡ greater x y = q ∙ ap (greater x) (toZ-ofZ fh ∙ e) in (
         subst (SFits w32) (sym (toZ-ofZ fr)) fr,
         subst (λ (z : ℤ). Greatest f first (i + 1) (rank z)) (sym (toZ-ofZ fr ∙ w)) (greatest-step i x y l g k),
       )

@@ -59,9 +59,6 @@ heightAt m dist status a l i = heightOf (distanceAt dist i) (shownAt m status a 
 unfoldable pub keyAt : Marked → List ℤ → List ℕ → ℕ → ℕ → ℕ → ℕ
 keyAt m dist status a l i = rank (heightAt m dist status a l i)
 
-unfoldable pub higher : ℤ → ℤ → ℤ
-higher x y = cond (ltZ x y) y x
-
 -- ---- the greatest key
 
 -- among first, .., end - 1

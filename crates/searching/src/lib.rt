@@ -5,7 +5,7 @@ ghost use lib.ListN.{length};
 ghost use Rattle.rules.specs.Status.{firstOf, openable};
 ghost use Rattle.rules.specs.Marks.{marked};
 ghost use Rattle.rules.specs.Machine.{mayGo, farther};
-ghost use Rattle.searching.specs.Argmax.{found, surfaceAt, heightOf, surfaceHeight, surfaceKey, heightAt, keyAt, rank, higher};
+ghost use Rattle.searching.specs.Argmax.{found, surfaceAt, heightOf, surfaceHeight, surfaceKey, heightAt, keyAt, rank};
 ghost use Rattle.searching.specs.Argmax.{heldOf, Greatest, Holding, Leading, Lent, Span, Peak, Layers, Searchable};
 use rules::Sides;
 
@@ -42,15 +42,6 @@ fn height(d: i32, surface: bool) -> i32
     -1
 }
 
-fn higher(x: i32, y: i32) -> i32
-    ensures { λ r. ⌜ r ≡ higher x y ⌝ }
-{
-    if x < y {
-        return y;
-    }
-    x
-}
-
 fn surface_height(dist: &[i32], status: &[u8], a: usize, l: usize, i: usize) -> i32
     requires { ⌜ Span a l i (i + 1) (length (now status)) × (length (now dist) ≡ length (now status)) ⌝ }
     ensures { λ r. ⌜ r ≡ surfaceHeight (now (dist .entry)) (now (status .entry)) a l i ⌝ }
@@ -76,7 +67,7 @@ fn plain_greatest(dist: &[i32], status: &[u8], a: usize, l: usize, first: usize,
     let mut best: i32 = -1;
     let mut i = first;
     while i < end {
-        best = higher(best, surface_height(dist, status, a, l, i));
+        best = numbers::greater_i32(best, surface_height(dist, status, a, l, i));
         i += 1;
     }
     best
@@ -98,7 +89,7 @@ fn pinned_greatest(
     let mut best: i32 = -1;
     let mut i = first;
     while i < end {
-        best = higher(best, height_at(dist, marks, status, a, l, i));
+        best = numbers::greater_i32(best, height_at(dist, marks, status, a, l, i));
         i += 1;
     }
     best

@@ -1,8 +1,7 @@
-// The sides of a grid, how many voxels it has, and the size of a signed number.
+// The sides of a grid, and how many voxels it has.
 ghost use mathlib.Core.Path.{_≡_};
 ghost use mathlib.Core.Bool.{true};
 ghost use Prim.Native.Nat.{_≤_};
-ghost use lib.IntN.{natAbs};
 ghost use Rattle.rules.specs.Grid.{fitSide, fitSides, size};
 use rules::Sides;
 
@@ -24,12 +23,4 @@ pub fn voxel_count(s: Sides) -> usize
     ensures { λ r. ⌜ (r ≡ size s) × (r ≤ 262144) ⌝ }
 {
     s.a * s.b * s.c
-}
-
-// |v|, which is 2^31 at most.
-pub fn magnitude(v: i32) -> u64
-    ensures { λ r. ⌜ (r ≡ natAbs v) × (r ≤ 2147483648) ⌝ }
-{
-    let w = v as i64;
-    if v < 0 { (0 - w) as u64 } else { w as u64 }
 }

@@ -149,8 +149,8 @@ fn point_between(
     ensures { λ r. ⌜ r ≡ pointFrom axis higher (voxel sides k) (natAbs inside) (natAbs outside) ⌝ }
 {
     let v = coordinates_of(sides, k);
-    let p = sizes::magnitude(inside);
-    let q = sizes::magnitude(outside);
+    let p = numbers::magnitude(inside);
+    let q = numbers::magnitude(outside);
     point_from(axis, higher, v, p, q)
 }
 

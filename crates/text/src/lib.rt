@@ -62,7 +62,7 @@ fn put_signed(out: &mut [u8], at: usize, n: i32) -> usize
     requires { ⌜ (21 ≤ at) × (at ≤ length (now out)) ⌝ }
     ensures { λ r. ⌜ Before 21 at r (now (out .entry)) (now (out .exit)) (signedNumber n) ⌝ }
 {
-    let start = put_number(out, at, sizes::magnitude(n));
+    let start = put_number(out, at, numbers::magnitude(n));
     if n < 0 { put(out, start, b'-') } else { start }
 }
 

@@ -4,7 +4,6 @@ ghost use mathlib.Core.Bool.{false, cond};
 ghost use Prim.Native.Nat.{_≤_, _<_};
 ghost use lib.Dec.{eqb};
 ghost use lib.IntN.{pos};
-ghost use lib.Signed.{ltZ};
 ghost use lib.ListN.{length};
 ghost use Rattle.prelude.specs.Lists.{any};
 ghost use Rattle.rules.specs.Value.{beyond as beyondOf, stray, measuredNegative};
@@ -51,16 +50,6 @@ fn beside(v: i32, d: u8) -> i32
     0
 }
 
-// The greater of two values. Two selects, and no branch around a store: so a compiler does many voxels at a time.
-fn greater(m: i32, v: i32) -> i32
-    ensures { λ r. ⌜ r ≡ cond (ltZ m v) v m ⌝ }
-{
-    if m < v {
-        return v;
-    }
-    m
-}
-
 // M: the greatest value of a voxel 1 step from S, and at least 1.
 pub fn greatest(values: &[i32], d: &[u8]) -> u32
     requires { ⌜ (length (now d) ≡ length (now values)) × (any stray (now values) ≡ false) ⌝ }
@@ -71,7 +60,7 @@ pub fn greatest(values: &[i32], d: &[u8]) -> u32
     while i < values.len() {
         let v = values[i];
         let w = beside(v, d[i]);
-        m = greater(m, w);
+        m = numbers::greater_i32(m, w);
         i += 1;
     }
     m as u32

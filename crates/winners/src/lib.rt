@@ -4,12 +4,6 @@ ghost use Prim.Native.Nat.{ℕ, _+_, _*_, _%_, _≤_, _<_, max};
 ghost use lib.ListN.{length, getD};
 ghost use Rattle.winners.specs.Tree.{Nodes, Grown, Changed, Crowning};
 
-pub fn greater(x: u64, y: u64) -> u64
-    ensures { λ r. ⌜ r ≡ max x y ⌝ }
-{
-    if x < y { y } else { x }
-}
-
 // Makes the inner nodes of a tree with p leaves.
 pub fn join_nodes(tree: &mut [u64], p: usize)
     requires { ⌜ (1 ≤ p) × (2 * p ≤ length (now tree)) ⌝ }
@@ -18,7 +12,7 @@ pub fn join_nodes(tree: &mut [u64], p: usize)
     let mut i = p;
     while 1 < i {
         i -= 1;
-        tree[i] = greater(tree[2 * i], tree[2 * i + 1]);
+        tree[i] = numbers::greater_u64(tree[2 * i], tree[2 * i + 1]);
     }
 }
 
@@ -38,7 +32,7 @@ pub fn replace(tree: &mut [u64], p: usize, k: usize, v: u64)
     let mut g = v;
     tree[i] = g;
     while 1 < i {
-        g = greater(g, tree[sibling(i)]);
+        g = numbers::greater_u64(g, tree[sibling(i)]);
         i /= 2;
         tree[i] = g;
     }

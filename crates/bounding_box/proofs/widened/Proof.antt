@@ -31,37 +31,37 @@ rem-y c = search needs
 div-z : tie.Need-div-z
 div-z c = search needs
 
-sub-lower : tie.Need-sub-lower
-sub-lower c = search needs
+sub-lesser-usize : tie.Need-sub-lesser-usize
+sub-lesser-usize c = search needs
 
-lower-requires : tie.Need-lower-requires
-lower-requires c κs = search needs
+lesser-usize-requires : tie.Need-lesser-usize-requires
+lesser-usize-requires c κs = search needs
 
-sub-higher : tie.Need-sub-higher
-sub-higher c = search needs
+sub-greater-usize : tie.Need-sub-greater-usize
+sub-greater-usize c = search needs
 
-higher-requires : tie.Need-higher-requires
-higher-requires c κs = search needs
+greater-usize-requires : tie.Need-greater-usize-requires
+greater-usize-requires c κs = search needs
 
-lower-requires-2 : tie.Need-lower-requires-2
-lower-requires-2 c κs = search needs
+lesser-usize-requires-2 : tie.Need-lesser-usize-requires-2
+lesser-usize-requires-2 c κs = search needs
 
-higher-requires-2 : tie.Need-higher-requires-2
-higher-requires-2 c κs = search needs
+greater-usize-requires-2 : tie.Need-greater-usize-requires-2
+greater-usize-requires-2 c κs = search needs
 
-lower-requires-3 : tie.Need-lower-requires-3
-lower-requires-3 c κs = search needs
+lesser-usize-requires-3 : tie.Need-lesser-usize-requires-3
+lesser-usize-requires-3 c κs = search needs
 
-higher-requires-3 : tie.Need-higher-requires-3
-higher-requires-3 c κs = search needs
+greater-usize-requires-3 : tie.Need-greater-usize-requires-3
+greater-usize-requires-3 c κs = search needs
 
 -- where the row's voxels of S have been found
-abbrev ends : tie.After-lower → tie.After-last-of
+abbrev ends : tie.After-lesser-usize → tie.After-last-of
 ends c = c .before .before .before
 
 returns-2 : tie.Need-returns-2
 returns-2 c =
-    let z1 = c .higher3 .ensures in
+    let z1 = c .greater-usize3 .ensures in
     let y = c .before .before in
     let x = y .before .before in
     let q = ends (x .before) in
@@ -69,11 +69,11 @@ returns-2 c =
     taken (p .first-of .result) (q .last-of .result) (p .first-of .ensures) (omega (arith, p .first-of .ensures .high, q .before .if1 .left))
     (q .last-of .ensures)
     (λ i. record {
-      x0 = x .before .lower .ensures i;
-      x1 = x .higher .ensures i;
-      y0 = y .before .lower2 .ensures i;
-      y1 = y .higher2 .ensures i;
-      z0 = c .before .lower3 .ensures i;
+      x0 = x .before .lesser-usize .ensures i;
+      x1 = x .greater-usize .ensures i;
+      y0 = y .before .lesser-usize2 .ensures i;
+      y1 = y .greater-usize2 .ensures i;
+      z0 = c .before .lesser-usize3 .ensures i;
       z1 = z1 i;
     })
 
@@ -88,12 +88,12 @@ widened-spec =
     last-of-requires
     rem-y
     div-z
-    sub-lower
-    lower-requires
-    sub-higher
-    higher-requires
-    lower-requires-2
-    higher-requires-2
-    lower-requires-3
-    higher-requires-3
+    sub-lesser-usize
+    lesser-usize-requires
+    sub-greater-usize
+    greater-usize-requires
+    lesser-usize-requires-2
+    greater-usize-requires-2
+    lesser-usize-requires-3
+    greater-usize-requires-3
     returns-2)

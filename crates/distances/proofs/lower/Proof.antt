@@ -17,21 +17,21 @@ abbrev μ-loop : tie.MeasureT-loop
 loop-holds : tie.Need-loop-holds Inv-loop μ-loop
 loop-holds c = (omega arith, lowered-none _ _ _)
 
-add-least : tie.Need-add-least Inv-loop μ-loop
-add-least c = search needs
+add-lesser-u8 : tie.Need-add-lesser-u8 Inv-loop μ-loop
+add-lesser-u8 c = search needs
 
-slice-read-least : tie.Need-slice-read-least Inv-loop μ-loop
-slice-read-least c = let l = c .before .before in omega (arith, c .before .loop-test .taken, l .before .before .pre .at-in, l .loop .inv .1 .len)
+slice-read-lesser-u8 : tie.Need-slice-read-lesser-u8 Inv-loop μ-loop
+slice-read-lesser-u8 c = let l = c .before .before in omega (arith, c .before .loop-test .taken, l .before .before .pre .at-in, l .loop .inv .1 .len)
 
-add-least-2 : tie.Need-add-least-2 Inv-loop μ-loop
-add-least-2 c = search needs
+add-lesser-u8-2 : tie.Need-add-lesser-u8-2 Inv-loop μ-loop
+add-lesser-u8-2 c = search needs
 
-slice-read-least-2 : tie.Need-slice-read-least-2 Inv-loop μ-loop
-slice-read-least-2 c =
+slice-read-lesser-u8-2 : tie.Need-slice-read-lesser-u8-2 Inv-loop μ-loop
+slice-read-lesser-u8-2 c =
     let l = c .before .before .before in omega (arith, c .before .before .loop-test .taken, l .before .before .pre .from-in, l .loop .inv .1 .len)
 
-add-least-3 : tie.Need-add-least-3 Inv-loop μ-loop
-add-least-3 c =
+add-lesser-u8-3 : tie.Need-add-lesser-u8-3 Inv-loop μ-loop
+add-lesser-u8-3 c =
     let t = c .before .before in
     let l = t .before in
     let s = l .before .before in
@@ -39,8 +39,8 @@ add-least-3 c =
     let f = lowered-far (a .d .now) (a .at) (a .from) (a .n) (s .pre) (l .loop .k) (t .loop-test .taken) (l .loop .d) (l .loop .inv .1) in
     omega (arith, f, s .pre .small (a .from + l .loop .k))
 
-least-requires : tie.Need-least-requires Inv-loop μ-loop
-least-requires c κs = search needs
+lesser-u8-requires : tie.Need-lesser-u8-requires Inv-loop μ-loop
+lesser-u8-requires c κs = search needs
 
 add-d : tie.Need-add-d Inv-loop μ-loop
 add-d c = search needs
@@ -62,8 +62,8 @@ loop-again c =
     let s = l .before .before in
     let a = s .args in (
       omega (arith, t .loop-test .taken),
-      lowered-more (a .d .now) (a .at) (a .from) (a .n) (s .pre) (l .loop .k) (t .loop-test .taken) (l .loop .d) (l .loop .inv .1) (c .least .result)
-          (omega (arith, c .least .ensures)),
+      lowered-more (a .d .now) (a .at) (a .from) (a .n) (s .pre) (l .loop .k) (t .loop-test .taken) (l .loop .d) (l .loop .inv .1) (c .lesser-u8 .result)
+          (omega (arith, c .lesser-u8 .ensures)),
     )
 
 same-length : tie.Need-same-length Inv-loop μ-loop
@@ -83,12 +83,12 @@ lower-spec =
     Inv-loop
     μ-loop
     loop-holds
-    add-least
-    slice-read-least
-    add-least-2
-    slice-read-least-2
-    add-least-3
-    least-requires
+    add-lesser-u8
+    slice-read-lesser-u8
+    add-lesser-u8-2
+    slice-read-lesser-u8-2
+    add-lesser-u8-3
+    lesser-u8-requires
     add-d
     slice-write-d
     add-k

@@ -53,14 +53,14 @@ turn c =
           (q .ensures),
     )
 
-slice-read-least : tie.Need-slice-read-least Inv-loop μ-loop
-slice-read-least c = turn (c .before) .0
+slice-read-lesser-u8 : tie.Need-slice-read-lesser-u8 Inv-loop μ-loop
+slice-read-lesser-u8 c = turn (c .before) .0
 
-add-least : tie.Need-add-least Inv-loop μ-loop
-add-least c = omega (arith, turn (c .before) .1)
+add-lesser-u8 : tie.Need-add-lesser-u8 Inv-loop μ-loop
+add-lesser-u8 c = omega (arith, turn (c .before) .1)
 
-least-requires : tie.Need-least-requires Inv-loop μ-loop
-least-requires c κs = search needs
+lesser-u8-requires : tie.Need-lesser-u8-requires Inv-loop μ-loop
+lesser-u8-requires c κs = search needs
 
 slice-write-d : tie.Need-slice-write-d Inv-loop μ-loop
 slice-write-d c = turn (c .before .before) .0
@@ -78,7 +78,7 @@ loop-again c =
     let s = begun l in
     rowing-more (s .args .m) (s .args .at) (s .args .down) (s .args .d .now) (s .pre) (l .loop .d) (l .loop .t) (l .loop .last) (l .loop .inv)
     (q .before .loop-test .taken)
-    (q .position2 .result) (q .position2 .ensures) (c .least .result) (c .least .ensures)
+    (q .position2 .result) (q .position2 .ensures) (c .lesser-u8 .result) (c .lesser-u8 .ensures)
 
 same-length : tie.Need-same-length Inv-loop μ-loop
 same-length c = c .before .loop .inv .sweeping .len
@@ -100,9 +100,9 @@ sweep-row-spec =
     slice-read-last
     loop-holds
     position-requires-2
-    slice-read-least
-    add-least
-    least-requires
+    slice-read-lesser-u8
+    add-lesser-u8
+    lesser-u8-requires
     slice-write-d
     add-t
     loop-less

@@ -40,8 +40,8 @@ rank-requires c κs = search needs
 leading-requires : tie.Need-leading-requires Inv-loop μ-loop
 leading-requires c κs = search needs
 
-greater-requires : tie.Need-greater-requires Inv-loop μ-loop
-greater-requires c κs = search needs
+greater-u64-requires : tie.Need-greater-u64-requires Inv-loop μ-loop
+greater-u64-requires c κs = search needs
 
 sub-m : tie.Need-sub-m Inv-loop μ-loop
 sub-m c = search needs
@@ -63,7 +63,7 @@ loop-again c =
     let h = marked (a .marks .now) .hurried in
     scanning-step h (a .dist .now) (a .at) _ (l .g) (l .b) (l .m) (n .lowest .result) _ _ _ (l .inv) (n .lowest .ensures)
     (k .rank .ensures .0 ∙ ap (λ (z : ℤ). rankBy h z (a .at + n .lowest .result)) (toZ-ofZ (sfits-of (d .distance .ok)) ∙ d .distance .ensures))
-    (k .rank .ensures .1) (c .before .leading .ensures) (c .greater .ensures)
+    (k .rank .ensures .1) (c .before .leading .ensures) (c .greater-u64 .ensures)
 
 add-key : tie.Need-add-key Inv-loop μ-loop
 add-key c = search needs
@@ -91,7 +91,7 @@ hurried-scan-spec =
     add-rank
     rank-requires
     leading-requires
-    greater-requires
+    greater-u64-requires
     sub-m
     loop-less
     loop-again

@@ -10,7 +10,7 @@ use mir.Facts.{toZ-ofZ}
 use borrow.Author.Needs.{sfits-of, needs}
 use Rattle.rules.specs.Marks.{unmarked}
 use Rattle.keys.specs.Key.{rankOf, keyOf}
-use Rattle.keys.proofs.Ranks.{read-fits, compared, plain-rank}
+use Rattle.keys.proofs.Ranks.{read-fits, compared, rank-greater, plain-rank}
 use Rattle.keys.proofs.Scanning.{Scanning, scanning-none, scanning-first, scanning-step, scanning-done}
 use Rattle.keys.proofs.plain_scan.Statement.{statement}
 use Rattle.keys.proofs.plain_scan.Tie as tie
@@ -50,8 +50,8 @@ distance-requires-2 c κs = c .before .before .loop .inv .0 .left _ (c .lowest2 
 leading-requires : tie.Need-leading-requires Inv-loop μ-loop
 leading-requires c κs = search needs
 
-farther-requires : tie.Need-farther-requires Inv-loop μ-loop
-farther-requires c κs = search needs
+greater-i32-requires : tie.Need-greater-i32-requires Inv-loop μ-loop
+greater-i32-requires c κs = search needs
 
 sub-m-2 : tie.Need-sub-m-2 Inv-loop μ-loop
 sub-m-2 c = search needs
@@ -71,10 +71,10 @@ loop-again c =
     let l = i .loop in
     let t = n .lowest2 .result in
     let r = plain-rank _ (sfits-of (k .distance2 .ok)) (k .distance2 .ensures) in
-    let f = sfits-of (c .farther .ok) in (
+    let f = sfits-of (c .greater-i32 .ok) in (
       scanning-step (unmarked .hurried) (a .dist .now) (a .at) _ (rankOf (toZ w32 (l .g))) (l .b) (l .m) t _ _ _ (l .inv .0) (n .lowest2 .ensures) (r .0) (r .1)
           (c .before .leading .ensures ∙ ap (λ (x : Bool). cond x t (l .b)) (compared (toZ w32 (l .g)) _ (l .inv .1)))
-          (ap rankOf (toZ-ofZ f) ∙ c .farther .ensures),
+          (ap rankOf (toZ-ofZ f ∙ c .greater-i32 .ensures) ∙ rank-greater _ _ (l .inv .1)),
       read-fits f,
     )
 
@@ -110,7 +110,7 @@ plain-scan-spec =
     lowest-requires-2
     distance-requires-2
     leading-requires
-    farther-requires
+    greater-i32-requires
     sub-m-2
     loop-less
     loop-again

@@ -25,8 +25,8 @@ add-held-key c = search needs
 held-key-requires : tie.Need-held-key-requires Inv-loop μ-loop
 held-key-requires c κs = search needs
 
-greater-requires : tie.Need-greater-requires Inv-loop μ-loop
-greater-requires c κs = search needs
+greater-u64-requires : tie.Need-greater-u64-requires Inv-loop μ-loop
+greater-u64-requires c κs = search needs
 
 add-c : tie.Need-add-c Inv-loop μ-loop
 add-c c = search needs
@@ -40,7 +40,7 @@ loop-again c =
     let a = l .before .before .before .args in
     let e = greatest-more (heldKey (marked (a .marks .now) .hurried) (a .dist .now) (a .offsets .now)) (a .first) (l .loop .c) in
     let t = c .before .before .loop-test .taken in
-    (omega arith, omega (arith, c .greater .ensures, c .before .held-key .ensures))
+    (omega arith, omega (arith, c .greater-u64 .ensures, c .before .held-key .ensures))
 
 returns : tie.Need-returns Inv-loop μ-loop
 returns c =
@@ -58,7 +58,7 @@ some-stretches-spec =
     loop-holds
     add-held-key
     held-key-requires
-    greater-requires
+    greater-u64-requires
     add-c
     loop-less
     loop-again

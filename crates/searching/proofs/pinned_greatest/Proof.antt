@@ -36,8 +36,8 @@ height-at-requires c κs =
     let p = l .before .before .before .pre in
     (span-at (p .0) (l .loop .inv .0) (c .loop-test .taken), p .1)
 
-higher-requires : tie.Need-higher-requires Inv-loop μ-loop
-higher-requires c κs = search needs
+greater-i32-requires : tie.Need-greater-i32-requires Inv-loop μ-loop
+greater-i32-requires c κs = search needs
 
 add-i : tie.Need-add-i Inv-loop μ-loop
 add-i c = search needs
@@ -56,8 +56,8 @@ loop-again c =
     let f = keyAt (marked (a .marks .now)) (a .dist .now) (a .status .now) (a .a) (a .l) in
     let y = heightAt (marked (a .marks .now)) (a .dist .now) (a .status .now) (a .a) (a .l) i in
     let g =
-    greatest-held f (a .first) i (toZ w32 (l .loop .best)) (h .height-at .result) y (c .higher .result) (v .0) (v .2) (sfits-of (h .height-at .ok))
-    (sfits-of (c .higher .ok)) (h .height-at .ensures) (c .higher .ensures) (v .3)
+    greatest-held f (a .first) i (toZ w32 (l .loop .best)) (h .height-at .result) y (c .greater-i32 .result) (v .0) (v .2) (sfits-of (h .height-at .ok))
+    (sfits-of (c .greater-i32 .ok)) (h .height-at .ensures) (c .greater-i32 .ensures) (v .3)
     (key-is (marked (a .marks .now)) (a .dist .now) (a .status .now) (a .a) (a .l) i) in
     (omega (arith, v .0), omega (arith, h .before .loop-test .taken), g .0, g .1)
 
@@ -78,7 +78,7 @@ pinned-greatest-spec =
     μ-loop
     loop-holds
     height-at-requires
-    higher-requires
+    greater-i32-requires
     add-i
     loop-less
     loop-again

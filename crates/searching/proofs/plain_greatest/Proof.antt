@@ -30,8 +30,8 @@ surface-height-requires c κs =
     let p = l .before .before .pre in
     (span-at (p .0) (l .loop .inv .0) (c .loop-test .taken), p .1)
 
-higher-requires : tie.Need-higher-requires Inv-loop μ-loop
-higher-requires c κs = search needs
+greater-i32-requires : tie.Need-greater-i32-requires Inv-loop μ-loop
+greater-i32-requires c κs = search needs
 
 add-i : tie.Need-add-i Inv-loop μ-loop
 add-i c = search needs
@@ -50,8 +50,8 @@ loop-again c =
     let f = surfaceKey (a .dist .now) (a .status .now) (a .a) (a .l) in
     let y = surfaceHeight (a .dist .now) (a .status .now) (a .a) (a .l) i in
     let g =
-    greatest-held f (a .first) i (toZ w32 (l .loop .best)) (h .surface-height .result) y (c .higher .result) (v .0) (v .2) (sfits-of (h .surface-height .ok))
-    (sfits-of (c .higher .ok)) (h .surface-height .ensures) (c .higher .ensures) (v .3) (surface-key-is (a .dist .now) (a .status .now) (a .a) (a .l) i) in
+    greatest-held f (a .first) i (toZ w32 (l .loop .best)) (h .surface-height .result) y (c .greater-i32 .result) (v .0) (v .2) (sfits-of (h .surface-height .ok))
+    (sfits-of (c .greater-i32 .ok)) (h .surface-height .ensures) (c .greater-i32 .ensures) (v .3) (surface-key-is (a .dist .now) (a .status .now) (a .a) (a .l) i) in
     (omega (arith, v .0), omega (arith, h .before .loop-test .taken), g .0, g .1)
 
 returns : tie.Need-returns Inv-loop μ-loop
@@ -70,7 +70,7 @@ plain-greatest-spec =
     μ-loop
     loop-holds
     surface-height-requires
-    higher-requires
+    greater-i32-requires
     add-i
     loop-less
     loop-again

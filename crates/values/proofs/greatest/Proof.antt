@@ -45,8 +45,8 @@ shared-slice-read-beside c = search needs
 beside-requires : tie.Need-beside-requires Inv-loop μ-loop
 beside-requires c κs = search needs
 
-greater-requires : tie.Need-greater-requires Inv-loop μ-loop
-greater-requires c κs = search needs
+greater-i32-requires : tie.Need-greater-i32-requires Inv-loop μ-loop
+greater-i32-requires c κs = search needs
 
 add-i : tie.Need-add-i Inv-loop μ-loop
 add-i c = search needs
@@ -64,13 +64,13 @@ loop-again c =
     let i = l .loop .i in
     let x = valueAt (a .values .now) i in
     let is =
-    raised (getD (a .d .now) i 0) x (l .loop .inv .1) (c .greater .ensures)
+    raised (getD (a .d .now) i 0) x (l .loop .inv .1) (c .greater-i32 .ensures)
     (toZ-ofZ (sfits-of (w .beside .ok))
     ∙ w .beside .ensures
     ∙ ap (λ (x : ℤ). cond (eqb (getD (a .d .now) i 0) 1) x (pos 0))
     (toZ-ofZ (sfits-of (v .v .given)) ∙ getD-within (a .values .now) i (pos 0) missing (t .loop-test .taken))) in
     let g = counts (a .values .now) (a .d .now) i in
-    let e : ofZ w32 (c .greater .result) ≡ cond g (max (amount x) (l .loop .m)) (l .loop .m) = ap (ofZ w32) is in
+    let e : ofZ w32 (c .greater-i32 .result) ≡ cond g (max (amount x) (l .loop .m)) (l .loop .m) = ap (ofZ w32) is in
     let known = none-stray (a .values .now) (l .before .before .pre .1) i in (
       omega (arith, t .loop-test .taken),
       subst (λ (m : ℕ). m ≤ 1000000000) (sym e) (in-range g x known (l .loop .inv .1)),
@@ -109,7 +109,7 @@ greatest-spec =
     shared-slice-copy-out-v
     shared-slice-read-beside
     beside-requires
-    greater-requires
+    greater-i32-requires
     add-i
     loop-less
     loop-again

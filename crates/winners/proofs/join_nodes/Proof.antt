@@ -16,29 +16,29 @@ loop-holds c = joining-start _ _ (c .before .pre .0)
 sub-i : tie.Need-sub-i Inv-loop μ-loop
 sub-i c = search needs
 
-mul-greater : tie.Need-mul-greater Inv-loop μ-loop
-mul-greater c = search needs
+mul-greater-u64 : tie.Need-mul-greater-u64 Inv-loop μ-loop
+mul-greater-u64 c = search needs
 
-mul-greater-2 : tie.Need-mul-greater-2 Inv-loop μ-loop
-mul-greater-2 c = search needs
+mul-greater-u64-2 : tie.Need-mul-greater-u64-2 Inv-loop μ-loop
+mul-greater-u64-2 c = search needs
 
-slice-read-greater : tie.Need-slice-read-greater Inv-loop μ-loop
-slice-read-greater c = search needs
+slice-read-greater-u64 : tie.Need-slice-read-greater-u64 Inv-loop μ-loop
+slice-read-greater-u64 c = search needs
 
-mul-greater-3 : tie.Need-mul-greater-3 Inv-loop μ-loop
-mul-greater-3 c = search needs
+mul-greater-u64-3 : tie.Need-mul-greater-u64-3 Inv-loop μ-loop
+mul-greater-u64-3 c = search needs
 
-add-greater : tie.Need-add-greater Inv-loop μ-loop
-add-greater c = search needs
+add-greater-u64 : tie.Need-add-greater-u64 Inv-loop μ-loop
+add-greater-u64 c = search needs
 
-mul-greater-4 : tie.Need-mul-greater-4 Inv-loop μ-loop
-mul-greater-4 c = search needs
+mul-greater-u64-4 : tie.Need-mul-greater-u64-4 Inv-loop μ-loop
+mul-greater-u64-4 c = search needs
 
-slice-read-greater-2 : tie.Need-slice-read-greater-2 Inv-loop μ-loop
-slice-read-greater-2 c = search needs
+slice-read-greater-u64-2 : tie.Need-slice-read-greater-u64-2 Inv-loop μ-loop
+slice-read-greater-u64-2 c = search needs
 
-greater-requires : tie.Need-greater-requires Inv-loop μ-loop
-greater-requires c κs = search needs
+greater-u64-requires : tie.Need-greater-u64-requires Inv-loop μ-loop
+greater-u64-requires c κs = search needs
 
 mul-tree : tie.Need-mul-tree Inv-loop μ-loop
 mul-tree c = search needs
@@ -53,7 +53,7 @@ loop-again : tie.Need-loop-again Inv-loop μ-loop
 loop-again c =
     let l = c .before .before .before .before in
     let s = l .before .before in
-    joining-step _ _ (l .loop .tree) (l .loop .i) _ (s .pre .1) (l .loop .inv) (c .before .before .before .loop-test .taken) (c .greater .ensures)
+    joining-step _ _ (l .loop .tree) (l .loop .i) _ (s .pre .1) (l .loop .inv) (c .before .before .before .loop-test .taken) (c .greater-u64 .ensures)
 
 same-length : tie.Need-same-length Inv-loop μ-loop
 same-length c = c .before .loop .inv .same
@@ -71,14 +71,14 @@ join-nodes-spec =
     μ-loop
     loop-holds
     sub-i
-    mul-greater
-    mul-greater-2
-    slice-read-greater
-    mul-greater-3
-    add-greater
-    mul-greater-4
-    slice-read-greater-2
-    greater-requires
+    mul-greater-u64
+    mul-greater-u64-2
+    slice-read-greater-u64
+    mul-greater-u64-3
+    add-greater-u64
+    mul-greater-u64-4
+    slice-read-greater-u64-2
+    greater-u64-requires
     mul-tree
     slice-write-tree
     loop-less

@@ -30,16 +30,16 @@ loop-holds c =
 sibling-requires : tie.Need-sibling-requires Inv-loop μ-loop
 sibling-requires c κs = search needs
 
-mul-greater : tie.Need-mul-greater Inv-loop μ-loop
-mul-greater c = search needs
+mul-greater-u64 : tie.Need-mul-greater-u64 Inv-loop μ-loop
+mul-greater-u64 c = search needs
 
-slice-read-greater : tie.Need-slice-read-greater Inv-loop μ-loop
-slice-read-greater c =
+slice-read-greater-u64 : tie.Need-slice-read-greater-u64 Inv-loop μ-loop
+slice-read-greater-u64 c =
     let l = c .before .before .before .loop in
     omega (arith, c .before .sibling .ensures, l .inv .room, l .inv .high)
 
-greater-requires : tie.Need-greater-requires Inv-loop μ-loop
-greater-requires c κs = search needs
+greater-u64-requires : tie.Need-greater-u64-requires Inv-loop μ-loop
+greater-u64-requires c κs = search needs
 
 mul-tree-2 : tie.Need-mul-tree-2 Inv-loop μ-loop
 mul-tree-2 c = search needs
@@ -54,8 +54,8 @@ loop-again : tie.Need-loop-again Inv-loop μ-loop
 loop-again c =
     let n = c .before .before in
     let l = n .before .before .loop in
-    rising-step _ _ (l .tree) (l .i) (l .g) (n .sibling .result) (c .greater .result) (l .inv) (n .before .loop-test .taken) (n .sibling .ensures)
-    (omega (arith, c .greater .ensures))
+    rising-step _ _ (l .tree) (l .i) (l .g) (n .sibling .result) (c .greater-u64 .result) (l .inv) (n .before .loop-test .taken) (n .sibling .ensures)
+    (omega (arith, c .greater-u64 .ensures))
 
 same-length : tie.Need-same-length Inv-loop μ-loop
 same-length c = c .before .loop .inv .same ∙ simp length-set
@@ -77,9 +77,9 @@ replace-spec =
     slice-write-tree
     loop-holds
     sibling-requires
-    mul-greater
-    slice-read-greater
-    greater-requires
+    mul-greater-u64
+    slice-read-greater-u64
+    greater-u64-requires
     mul-tree-2
     slice-write-tree-2
     loop-less

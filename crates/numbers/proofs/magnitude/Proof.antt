@@ -1,11 +1,11 @@
--- `sizes::magnitude` meets its contract: each need is a fact of `Signs`.
+-- `numbers::magnitude` meets its contract: each need is a fact of `Signs`.
 use mathlib.Core.Path.{_≡_, sym, _∙_}
 use mathlib.Core.Bool.{true, false}
 use native.Mathlib.Omega.{arith}
-use Rattle.rules.specs.Grid.{isNegative}
+use Rattle.prelude.specs.Integers.{isNegative}
 use Rattle.prelude.proofs.Signs.{held-negative, widened, minus-fits, minus-casts, minus-size, plus-casts, plus-size, size-small}
-use Rattle.sizes.proofs.magnitude.Statement.{statement}
-use Rattle.sizes.proofs.magnitude.Tie as tie
+use Rattle.numbers.proofs.magnitude.Statement.{statement}
+use Rattle.numbers.proofs.magnitude.Tie as tie
 
 below : (c : tie.Then1) → isNegative (c .before .args .v) ≡ true
 below c = sym (held-negative (c .before .fits .v)) ∙ c .if1 .taken

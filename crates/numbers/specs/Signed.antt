@@ -1,0 +1,7 @@
+-- The greater of two signed numbers.
+use mathlib.Core.Bool.{cond}
+use lib.IntN.{ℤ}
+use lib.Signed.{ltZ}
+
+abbrev pub greater : ℤ → ℤ → ℤ
+greater x y = cond (ltZ x y) y x
