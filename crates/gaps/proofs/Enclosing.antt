@@ -34,8 +34,9 @@ use Rattle.floods.specs.Flood.{offsetOf, labelled, nearBy, Taken}
 use Rattle.floods.proofs.Pushes.{label-lt}
 use Rattle.floods.proofs.Positions.{corner, offset-in, at-offset, offset-at, near-position, position-near, positions-in}
 use Rattle.gaps.specs.Work.{Accepted}
-use Rattle.gaps.specs.Gaps.{kindOf, Marked, faces, opens, Reached, Drainable, Drained, settledOf}
-use Rattle.gaps.proofs.Marking.{Kind, negative, missing, other, kind-is}
+use Rattle.labels.specs.Labels.{kindOf, Marked, settledOf}
+use Rattle.labels.proofs.Marking.{Kind, negative, missing, other, kind-is}
+use Rattle.gaps.specs.Gaps.{faces, opens, Reached, Drainable, Drained}
 
 few : (p : ℕ) → Mem p facePositions → p < 27
 few p m = face-taxicab p m .1

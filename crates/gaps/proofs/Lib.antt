@@ -1,4 +1,3 @@
-pub mod Marking
 pub mod Draining
 pub mod Enclosing
 pub mod Accepting

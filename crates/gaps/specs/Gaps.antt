@@ -1,44 +1,21 @@
--- The labels by which gaps are found: from a missing voxel beside which a gap is open, a flood takes all that is linked to it by faces. What is then
+-- How gaps are found, by labels: from a missing voxel beside which a gap is open, a flood takes all that is linked to it by faces. What is then
 -- left of the missing voxels is enclosed.
 use mathlib.Core.Path.{_≡_}
 use mathlib.Core.Logic.{_⊎_}
-use mathlib.Core.Bool.{Bool, true, false, cond}
+use mathlib.Core.Bool.{Bool, true, false}
 use mathlib.Core.List.{List}
 use Prim.Native.Nat.{ℕ, _+_, _-_, _≤_, _<_}
-use lib.Dec.{eqb, ltb}
+use lib.Dec.{eqb}
 use lib.IntN.{ℤ}
 use lib.ListN.{length, getD}
 use Rattle.cells.specs.Linked.{Linked}
-use Rattle.rules.specs.declared.Sides.{Sides}
-use Rattle.rules.specs.Value.{isMissing}
-use Rattle.rules.specs.Grid.{fitSides, size, onBorder, measuredNonNegative, valueAt, facePositions}
+use Rattle.rules.specs.Grid.{facePositions}
 use Rattle.prelude.specs.Lists.{any}
 use Rattle.floods.specs.Flood.{offsetsOf, nearBy, labelled, fillOf, Taken, Flooded}
-
--- ---- before the floods
-
--- 0 a measured negative value, 1 a missing one, 3 any other
-unfoldable pub kindOf : ℤ → ℕ
-kindOf v = cond (measuredNonNegative v) 3 (cond (isMissing v) 1 0)
-
--- a border voxel is no part of an enclosed gap: to a gap beside it, it is as any voxel that is not measured negative
-abbrev pub markOf : Sides → List ℤ → ℕ → ℕ
-markOf s values i = cond (onBorder s i) 3 (kindOf (valueAt values i))
-
-pub record Markable (s : Sides) (values : List ℤ) (n : ℕ) : Type 0 where
-  pub fit : fitSides s ≡ true
-  pub len : length values ≡ size s
-  pub same : n ≡ size s
-
-pub record Marked (s : Sides) (values : List ℤ) (l : List ℕ) : Type 0 where
-  pub len : length l ≡ size s
-  pub is : (k : ℕ) → k < size s → getD l k 0 ≡ markOf s values k
 
 -- the offsets of the six face neighbours
 abbrev pub faces : ℕ → ℕ → List ℕ
 faces a ab = offsetsOf a ab facePositions
-
--- ---- the floods
 
 -- a neighbour of the voxel at base has the label 3
 unfoldable pub opens : List ℕ → ℕ → List ℕ → Bool
@@ -68,9 +45,3 @@ pub record Drained (offsets : List ℕ) (back : ℕ) (l l′ : List ℕ) : Type 
   pub len : length l′ ≡ length l
   pub kept : (v : ℕ) → (getD l′ v 0 ≡ getD l v 0) ⊎ ((Taken l l′ v) × (Reached offsets back l v))
   pub whole : (v : ℕ) → Reached offsets back l v → getD l′ v 0 ≡ 2
-
--- ---- after them
-
--- 1 for a voxel that is measured negative or filled
-abbrev pub settledOf : ℕ → ℕ
-settledOf d = cond (ltb d 2) 1 0

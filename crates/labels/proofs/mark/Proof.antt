@@ -9,9 +9,9 @@ use Rattle.loops.specs.InPlace.{Each}
 use Rattle.loops.specs.Rows.{Row}
 use Rattle.loops.proofs.InPlace.{each-none}
 use Rattle.loops.proofs.Rows.{row-of, rows-all, rows-few, each-row}
-use Rattle.gaps.specs.Gaps.{markOf}
-use Rattle.gaps.proofs.mark.Statement.{statement}
-use Rattle.gaps.proofs.mark.Tie as tie
+use Rattle.labels.specs.Labels.{markOf}
+use Rattle.labels.proofs.mark.Statement.{statement}
+use Rattle.labels.proofs.mark.Tie as tie
 
 abbrev Inv-loop : tie.InvT-loop
 Inv-loop label₀ values sides rows row₀ label row = (row ≤ rows) × Each 0 (λ k d. markOf sides values k) 0 (sides .a * row) label₀ label

@@ -9,9 +9,9 @@ use Rattle.rules.specs.Grid.{missing, valueAt}
 use Rattle.loops.specs.InPlace.{Each}
 use Rattle.loops.proofs.InPlace.{each-none, each-more}
 use Rattle.loops.proofs.Orders.{getD-within}
-use Rattle.gaps.specs.Gaps.{kindOf}
-use Rattle.gaps.proofs.kinds.Statement.{statement}
-use Rattle.gaps.proofs.kinds.Tie as tie
+use Rattle.labels.specs.Labels.{kindOf}
+use Rattle.labels.proofs.kinds.Statement.{statement}
+use Rattle.labels.proofs.kinds.Tie as tie
 
 abbrev Inv-loop : tie.InvT-loop
 Inv-loop label₀ values first end i₀ label i = (first ≤ i) × (i ≤ end) × Each 0 (λ k d. kindOf (valueAt values k)) first i label₀ label

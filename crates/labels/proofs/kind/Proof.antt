@@ -1,9 +1,9 @@
 -- `kind`: a value by its sign, and the missing mark by its bits.
 use mathlib.Core.Path.{sym}
 use Rattle.prelude.proofs.Signs.{sign}
-use Rattle.gaps.proofs.Marking.{kind-missing, kind-negative, kind-other}
-use Rattle.gaps.proofs.kind.Statement.{statement}
-use Rattle.gaps.proofs.kind.Tie as tie
+use Rattle.labels.proofs.Marking.{kind-missing, kind-negative, kind-other}
+use Rattle.labels.proofs.kind.Statement.{statement}
+use Rattle.labels.proofs.kind.Tie as tie
 
 returns : tie.Need-returns
 returns c = let s = c .before .before in sym (kind-missing _ (s .fits .v) (c .if2 .taken))

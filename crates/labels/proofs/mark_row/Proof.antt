@@ -1,9 +1,9 @@
 -- `mark_row`: a row on the border, or the ends of any other and what lies between.
 use native.Mathlib.Omega.{arith}
 use borrow.Author.Needs.{needs}
-use Rattle.gaps.proofs.Marking.{edge-marked, row-marked}
-use Rattle.gaps.proofs.mark_row.Statement.{statement}
-use Rattle.gaps.proofs.mark_row.Tie as tie
+use Rattle.labels.proofs.Marking.{edge-marked, row-marked}
+use Rattle.labels.proofs.mark_row.Statement.{statement}
+use Rattle.labels.proofs.mark_row.Tie as tie
 
 rem-y : tie.Need-rem-y
 rem-y c = search needs

@@ -16,7 +16,7 @@ use Rattle.rules.specs.Grid.{onBorder, measuredNegative, measuredNonNegative, v
 use Rattle.loops.specs.InPlace.{Each}
 use Rattle.loops.proofs.InPlace.{each-as, each-join}
 use Rattle.loops.proofs.Rows.{edge, row-edge, row-first, row-last, row-middle}
-use Rattle.gaps.specs.Gaps.{kindOf, markOf}
+use Rattle.labels.specs.Labels.{kindOf, markOf}
 
 -- ---- a value
 

@@ -6,9 +6,9 @@ use lib.ListN.{length}
 use borrow.Author.Needs.{needs}
 use Rattle.loops.specs.InPlace.{Each}
 use Rattle.loops.proofs.InPlace.{each-none, each-more}
-use Rattle.gaps.specs.Gaps.{settledOf}
-use Rattle.gaps.proofs.settle.Statement.{statement}
-use Rattle.gaps.proofs.settle.Tie as tie
+use Rattle.labels.specs.Labels.{settledOf}
+use Rattle.labels.proofs.settle.Statement.{statement}
+use Rattle.labels.proofs.settle.Tie as tie
 
 abbrev Inv-loop : tie.InvT-loop
 Inv-loop label₀ i₀ label i = (i ≤ length label₀) × Each 0 (λ k d. settledOf d) 0 i label₀ label

@@ -5,8 +5,8 @@ use native.Mathlib.Omega.{arith}
 use Rattle.loops.specs.InPlace.{Each}
 use Rattle.loops.proofs.InPlace.{each-none, each-more}
 use borrow.Author.Needs.{needs}
-use Rattle.gaps.proofs.border.Statement.{statement}
-use Rattle.gaps.proofs.border.Tie as tie
+use Rattle.labels.proofs.border.Statement.{statement}
+use Rattle.labels.proofs.border.Tie as tie
 
 abbrev Inv-loop : tie.InvT-loop
 Inv-loop label₀ first end i₀ label i = (first ≤ i) × (i ≤ end) × Each 0 (λ k d. 3) first i label₀ label

@@ -1,7 +1,7 @@
 -- `settled` is the rule's label.
 use borrow.Author.Tests.{lt-ltb, le-ltb}
-use Rattle.gaps.proofs.settled.Statement.{statement}
-use Rattle.gaps.proofs.settled.Tie as tie
+use Rattle.labels.proofs.settled.Statement.{statement}
+use Rattle.labels.proofs.settled.Tie as tie
 
 returns : tie.Need-returns
 returns c = rw (lt-ltb _ 2 (c .if1 .taken))
