@@ -1,7 +1,5 @@
 // Open, of document 01's carving machine.
 ghost use mathlib.Core.Path.{_≡_};
-ghost use Prim.Native.Nat.{_≤_};
-ghost use lib.IntN.{pos, _-ℤ_};
 ghost use Rattle.rules.specs.Answer.{outcome, buffers, openedAnswer};
 ghost use Rattle.rules.specs.Checks.{firstFailing};
 ghost use Rattle.rules.specs.Machine as machine;
@@ -31,14 +29,6 @@ fn open_refusal(given: Record, dist: &[i32], marks: &[u8], status: &[u8]) -> u8
     0
 }
 
-// k - m, by which an opening changes the Euler number.
-fn change(k: u32, m: u32) -> i32
-    requires { ⌜ (k ≤ 26) × (m ≤ 26) ⌝ }
-    ensures { λ r. ⌜ r ≡ pos k -ℤ pos m ⌝ }
-{
-    (k as i32) - (m as i32)
-}
-
 fn open_at(given: Record, dist: &[i32], marks: &[u8], status: &mut [u8], i: usize) -> Opened
     requires { ⌜ OpensAt (now marks) i (state given (now dist) (now status)) ⌝ }
     ensures { λ r. ⌜
@@ -53,7 +43,7 @@ fn open_at(given: Record, dist: &[i32], marks: &[u8], status: &mut [u8], i: usiz
         k: t.k,
         m: t.m,
         face: t.face,
-        next: counting::counted(given, 0, 1, 1, change(t.k, t.m)),
+        next: counting::counted(given, 0, 1, 1, counting::change(t.k, t.m)),
     }
 }
 

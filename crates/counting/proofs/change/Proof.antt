@@ -1,10 +1,10 @@
--- `opening::change` meets its contract.
+-- `counting::change` meets its contract.
 use mathlib.Core.Path.{_∙_}
 use borrow.Author.Needs.{needs}
 use mir.Facts.{toZ-ofZ}
 use Rattle.counting.proofs.Sums.{difference, difference-fits}
-use Rattle.opening.proofs.change.Statement.{statement}
-use Rattle.opening.proofs.change.Tie as tie
+use Rattle.counting.proofs.change.Statement.{statement}
+use Rattle.counting.proofs.change.Tie as tie
 
 cast-result : tie.Need-cast-result
 cast-result c = search needs
