@@ -75,7 +75,7 @@ fn chosen(d: u8, zero: u8, other: u8) -> u8
     other
 }
 
-// The same for the voxels from first up to end.
+// Puts one value for the voxels of S and another for the others, from first up to end.
 fn span(status: &mut [u8], first: usize, end: usize, zero: u8, other: u8)
     requires { ⌜ (first ≤ end) × (end ≤ length (now status)) ⌝ }
     ensures { λ _. ⌜ Each 0 (λ k d. cond (eqb d 0) zero other) first end (now (status .entry)) (now (status .exit)) ⌝ }

@@ -7,7 +7,7 @@ ghost use Prim.Native.Nat.{ℕ};
 ghost use Rattle.distances.specs.Sweep.{positionOf, Lowered, Apart, Slab, Swept, Both, Whole, Axis, Positioned};
 ghost use Rattle.distances.specs.Work.{Seeded, Measured};
 
-// A run of n voxels: each distance is at most 1 more than the one as far along the run at `from`.
+// Lowers the distances of a run of n voxels: each is then at most 1 more than the one as far along the run at `from`.
 fn lower(d: &mut [u8], at: usize, from: usize, n: usize)
     requires { ⌜ Apart (now d) at from n ⌝ }
     ensures { λ _. ⌜ Lowered at from n (now (d .entry)) (now (d .exit)) ⌝ }
@@ -31,7 +31,7 @@ fn position(at: usize, st: usize, m: usize, down: bool, t: usize) -> usize
     at + t * st
 }
 
-// A row. The distance before is at hand: along a row each waits for the one before it.
+// Sweeps a row. The distance before is at hand: along a row each waits for the one before it.
 fn sweep_row(d: &mut [u8], at: usize, m: usize, down: bool)
     requires { ⌜ Slab (now d) 1 m at ⌝ }
     ensures { λ _. ⌜ Swept 1 m at down (now (d .entry)) (now (d .exit)) ⌝ }
@@ -47,7 +47,7 @@ fn sweep_row(d: &mut [u8], at: usize, m: usize, down: bool)
     }
 }
 
-// A slab of m positions with st voxels at each, run by run.
+// Sweeps a slab of m positions with st voxels at each, run by run.
 fn sweep_runs(d: &mut [u8], at: usize, st: usize, m: usize, down: bool)
     requires { ⌜ Slab (now d) st m at ⌝ }
     ensures { λ _. ⌜ Swept st m at down (now (d .entry)) (now (d .exit)) ⌝ }
@@ -62,7 +62,7 @@ fn sweep_runs(d: &mut [u8], at: usize, st: usize, m: usize, down: bool)
     }
 }
 
-// One way through a slab.
+// Sweeps a slab one way.
 fn sweep(d: &mut [u8], at: usize, st: usize, m: usize, down: bool)
     requires { ⌜ Slab (now d) st m at ⌝ }
     ensures { λ _. ⌜ Swept st m at down (now (d .entry)) (now (d .exit)) ⌝ }
@@ -74,7 +74,7 @@ fn sweep(d: &mut [u8], at: usize, st: usize, m: usize, down: bool)
     sweep_runs(d, at, st, m, down);
 }
 
-// Both ways through a slab.
+// Sweeps a slab up and down.
 fn both(d: &mut [u8], at: usize, st: usize, m: usize)
     requires { ⌜ Slab (now d) st m at ⌝ }
     ensures { λ _. ⌜ Both st m at (now (d .entry)) (now (d .exit)) ⌝ }
@@ -83,7 +83,7 @@ fn both(d: &mut [u8], at: usize, st: usize, m: usize)
     sweep(d, at, st, m, true);
 }
 
-// Both ways along an axis.
+// Sweeps all slabs of an axis up and down.
 fn axis(d: &mut [u8], st: usize, m: usize)
     requires { ⌜ Whole (now d) st m ⌝ }
     ensures { λ _. ⌜ Axis st m (now (d .entry)) (now (d .exit)) ⌝ }

@@ -19,7 +19,7 @@ fn unfit_counts(given: Record, n: usize) -> bool
         | ((limit < given.removals) | ((27 * limit < given.examinations) | (8 * limit < euler)))
 }
 
-// The number of the first check that fails, or 0.
+// The number of the first of checks 1, 2 and 7 that fails, or 0.
 fn refusal(given: Record, dist: &[i32], status: &[u8]) -> u8
     ensures { λ r. ⌜ r ≡ firstFailing (stateChecks (state given (now (dist .entry)) (now (status .entry)))) ⌝ }
 {
@@ -43,7 +43,7 @@ fn refusal(given: Record, dist: &[i32], status: &[u8]) -> u8
     0
 }
 
-// The same, then 8 where the grid is finished: for a call that works on it.
+// Checks 1, 2 and 7, then 8 where the grid is finished: for a call that works on it.
 pub fn working_refusal(given: Record, dist: &[i32], status: &[u8]) -> u8
     ensures { λ r. ⌜ r ≡ firstFailing (workingChecks (state given (now (dist .entry)) (now (status .entry)))) ⌝ }
 {
@@ -57,7 +57,7 @@ pub fn working_refusal(given: Record, dist: &[i32], status: &[u8]) -> u8
     0
 }
 
-// The same, then 9 where the grid is not finished: for a call that looks at its surface.
+// Checks 1, 2 and 7, then 9 where the grid is not finished: for a call that looks at its surface.
 pub fn finished_refusal(given: Record, dist: &[i32], status: &[u8]) -> u8
     ensures { λ r. ⌜ r ≡ firstFailing (finishedChecks (state given (now (dist .entry)) (now (status .entry)))) ⌝ }
 {

@@ -82,7 +82,7 @@ fn record_refusal(sides: Sides, file: &[u8], start: usize, next: usize) -> u8
     0
 }
 
-// That of all layer records, each before the next, then of the patches behind them, in a grid of n voxels.
+// The number that the records are refused with, or 0: each layer record before the next, then the patches behind them, in a grid of n voxels.
 fn records_refusal(sides: Sides, n: usize, file: &[u8]) -> u8
     requires { ⌜ (fitSides sides ≡ true) × (n ≡ size sides) ⌝ }
     ensures { λ r. ⌜ r ≡ firstFailing (recordsChecks sides (now (file .entry))) ⌝ }

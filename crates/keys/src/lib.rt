@@ -94,7 +94,7 @@ fn hurried_scan(dist: &[i32], marks: &[u8], at: usize, set: u64) -> u64
     key(g, at + b)
 }
 
-// The same where none is hurried: distances are compared, which is quicker.
+// The greatest key of the voxels of the bits where none is hurried: distances are compared, which is quicker than ranks.
 fn plain_scan(dist: &[i32], at: usize, set: u64) -> u64
     requires { ⌜ Readable (now dist) at set ⌝ }
     ensures { λ k. ⌜ k ≡ greatest (bitKey (unmarked .hurried) (now (dist .entry)) at set) 0 width ⌝ }
@@ -115,7 +115,7 @@ fn plain_scan(dist: &[i32], at: usize, set: u64) -> u64
     key(raised(g), at + b)
 }
 
-// The same, by the quicker loop where there are no marks.
+// The greatest key of the voxels of the bits, by the quicker loop where there are no marks.
 fn scan(dist: &[i32], marks: &[u8], at: usize, set: u64) -> u64
     requires { ⌜ Readable (now dist) at set ⌝ }
     ensures { λ k. ⌜ k ≡ greatest (bitKey (marked (now (marks .entry)) .hurried) (now (dist .entry)) at set) 0 width ⌝ }

@@ -40,7 +40,7 @@ pub fn area(sides: Sides) -> usize
     sides.a * sides.b
 }
 
-// Of a record whose values have so many bytes.
+// The length of a layer record whose values have width bytes each.
 pub fn layer_length(sides: Sides, width: usize) -> usize
     requires { ⌜ (fitSides sides ≡ true) × (Width width) ⌝ }
     ensures { λ r. ⌜ (r ≡ layerLength sides width) × (r ≤ 16387) ⌝ }
@@ -61,7 +61,7 @@ fn width_at(file: &[u8], start: usize) -> usize
     2
 }
 
-// Of the record that begins at start.
+// The length of the layer record that begins at start.
 pub fn record_length(sides: Sides, file: &[u8], start: usize) -> usize
     requires { ⌜ fitSides sides ≡ true ⌝ }
     ensures { λ r. ⌜ (r ≡ recordLength sides (now (file .entry)) start) × (r ≤ 16387) ⌝ }
@@ -150,14 +150,14 @@ pub fn read_layer<'a>(sides: Sides, file: &'a [u8], start: usize) -> LayerPart<'
     }
 }
 
-// Its answer alone, for who has the file and goes by the stretch.
+// The answer of reading a layer alone, for who has the file and goes by the stretch.
 pub fn layer(sides: Sides, file: &[u8], start: usize) -> LayerAnswer
     ensures { λ r. ⌜ layerAnswer r ≡ readLayer sides (now (file .entry)) start ⌝ }
 {
     read_layer(sides, file, start).answer
 }
 
-// Its part alone, for who has looked at the record.
+// The part of the file alone, for who has looked at the record.
 pub fn layer_values(sides: Sides, file: &[u8], start: usize) -> &[u8]
     ensures { λ r. ⌜ now r ≡ bytesOf (now (file .entry)) (readLayer sides (now (file .entry)) start) ⌝ }
 {
@@ -166,7 +166,7 @@ pub fn layer_values(sides: Sides, file: &[u8], start: usize) -> &[u8]
 
 // ---- a record's values
 
-// Whether one of count values, of so many bytes each, is neither in the range nor the missing mark.
+// Whether one of count values, of width bytes each, is neither in the range nor the missing mark.
 fn any_stray(bytes: &[u8], width: usize, count: usize) -> bool
     requires { ⌜ (Width width) × (length (now bytes) ≡ width * count) ⌝ }
     ensures { λ r. ⌜ r ≡ any stray (valuesOf width count (now (bytes .entry))) ⌝ }
@@ -181,7 +181,7 @@ fn any_stray(bytes: &[u8], width: usize, count: usize) -> bool
     found
 }
 
-// The same of a record's values. No value of two bytes is out of the range, and any other has four.
+// Whether a value of the record at start is neither in the range nor the missing mark. None of two bytes is, and any other has four.
 pub fn has_stray(sides: Sides, file: &[u8], start: usize) -> bool
     requires { ⌜ Readable sides (now file) start ⌝ }
     ensures { λ r. ⌜ r ≡ any stray (valuesIn sides (now (file .entry)) (layerAt sides (now (file .entry)) start)) ⌝ }
@@ -194,7 +194,7 @@ pub fn has_stray(sides: Sides, file: &[u8], start: usize) -> bool
     any_stray(bytes, 4, area(sides))
 }
 
-// So many bytes each.
+// Reads the values of a layer, width bytes each.
 fn fill_layer(bytes: &[u8], width: usize, values: &mut [i32])
     requires { ⌜ (Width width) × (length (now bytes) ≡ width * length (now values)) ⌝ }
     ensures { λ _. ⌜ now (values .exit) ≡ valuesOf width (length (now (values .entry))) (now (bytes .entry)) ⌝ }
@@ -206,8 +206,8 @@ fn fill_layer(bytes: &[u8], width: usize, values: &mut [i32])
     }
 }
 
-// Into the buffer of the whole grid, where they belong; the answer is where the record ends. The layer is looked at behind its part: there the
-// compiler sees that a width is 2 or 4, and makes a loop of each.
+// Reads the values of the record at start into their layer of the grid's buffer; the answer is where the record ends. The layer is looked at
+// behind its part: there the compiler sees that a width is 2 or 4, and makes a loop of each.
 pub fn fill_record(sides: Sides, file: &[u8], start: usize, values: &mut [i32]) -> usize
     requires { ⌜ (Readable sides (now file) start) × (length (now values) ≡ size sides) ⌝ }
     ensures { λ r. ⌜ (now (values .exit) ≡ withLayer sides (now (file .entry)) (now (values .entry)) (layerAt sides (now (file .entry)) start))

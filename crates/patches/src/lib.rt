@@ -28,7 +28,7 @@ fn patch_refusal(n: usize, file: &[u8], start: usize) -> u8
     0
 }
 
-// That of all records from start on, each before the next.
+// The number that the patch records from start on are refused with, each before the next, or 0.
 pub fn patches_refusal(n: usize, file: &[u8], start: usize) -> u8
     ensures { λ r. ⌜ r ≡ firstFailing (patchesChecks n (now (file .entry)) start) ⌝ }
 {
@@ -43,7 +43,7 @@ pub fn patches_refusal(n: usize, file: &[u8], start: usize) -> u8
     0
 }
 
-// Into the values, in file order, of records that were checked.
+// Puts the values of the patch records from start on, which were checked, into the grid's, in file order.
 pub fn apply_patches(file: &[u8], start: usize, values: &mut [i32])
     requires { ⌜ AllHold (patchesChecks (length (now values)) (now file) start) ⌝ }
     ensures { λ _. ⌜ now (values .exit) ≡ patched (now (file .entry)) start (now (values .entry)) ⌝ }

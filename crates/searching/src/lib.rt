@@ -73,7 +73,7 @@ fn plain_greatest(dist: &[i32], status: &[u8], a: usize, l: usize, first: usize,
     best
 }
 
-// The same of the voxels that are not pinned.
+// The greatest height of a stretch's voxels that are not pinned.
 fn pinned_greatest(
     dist: &[i32],
     marks: &[u8],
@@ -95,7 +95,7 @@ fn pinned_greatest(
     best
 }
 
-// The same, where a stretch without marks has the quicker loop.
+// The greatest height of a stretch's voxels that are not pinned: by the quicker loop where the stretch has no marks.
 fn greatest(
     dist: &[i32],
     marks: &[u8],

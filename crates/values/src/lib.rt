@@ -9,7 +9,7 @@ ghost use Rattle.prelude.specs.Lists.{any};
 ghost use Rattle.rules.specs.Value.{beyond as beyondOf, stray, measuredNegative};
 ghost use Rattle.values.specs.Values.{countedAs, greatestBy, workedTo, workedBy, Fillable};
 
-// Measured, and not from -bound to bound.
+// Whether a value is measured and not from -bound to bound.
 pub fn beyond(v: i32, bound: u32) -> bool
     requires { ⌜ bound < 2147483648 ⌝ }
     ensures { λ r. ⌜ r ≡ beyondOf bound v ⌝ }
@@ -18,7 +18,7 @@ pub fn beyond(v: i32, bound: u32) -> bool
     ((high < v) | (high <= !v)) & (v != -2147483648)
 }
 
-// Whether some value is.
+// Whether some value is measured and not from -bound to bound.
 pub fn any_beyond(values: &[i32], bound: u32) -> bool
     requires { ⌜ bound < 2147483648 ⌝ }
     ensures { λ r. ⌜ r ≡ any (beyondOf bound) (now (values .entry)) ⌝ }
@@ -33,7 +33,7 @@ pub fn any_beyond(values: &[i32], bound: u32) -> bool
     found
 }
 
-// Measured and negative: -2,147,483,648 stands for a missing point.
+// Whether a value is measured and negative: -2,147,483,648 stands for a missing point.
 pub fn negative(v: i32) -> bool
     ensures { λ r. ⌜ r ≡ measuredNegative v ⌝ }
 {

@@ -67,7 +67,7 @@ fn write_header(sides: Sides, allowed: u16, file: &mut [u8])
     words::put_word(file, 5, 2, allowed as u32);
 }
 
-// So many bytes each.
+// Writes values, width bytes each.
 fn write_values(width: usize, values: &[i32], bytes: &mut [u8])
     requires { ⌜ (Held width (now values)) × (length (now bytes) ≡ width * length (now values)) ⌝ }
     ensures { λ _. ⌜ now (bytes .exit) ≡ valuesForm width (now (values .entry)) ⌝ }
@@ -91,7 +91,7 @@ fn write_layer(width: usize, z: u8, values: &[i32], bytes: &mut [u8])
     write_values(width, values, &mut bytes[3..end]);
 }
 
-// All records, behind the header.
+// Writes the layer records, behind the header.
 fn write_layers(sides: Sides, width: usize, values: &[i32], file: &mut [u8])
     requires { ⌜ (Room sides (now values) (length (now file))) × (width ≡ widthFor (now values)) ⌝ }
     ensures { λ _. ⌜ now (file .exit)

@@ -50,8 +50,9 @@ loop-again c =
     let f = surfaceKey (a .dist .now) (a .status .now) (a .a) (a .l) in
     let y = surfaceHeight (a .dist .now) (a .status .now) (a .a) (a .l) i in
     let g =
-    greatest-held f (a .first) i (toZ w32 (l .loop .best)) (h .surface-height .result) y (c .greater-i32 .result) (v .0) (v .2) (sfits-of (h .surface-height .ok))
-    (sfits-of (c .greater-i32 .ok)) (h .surface-height .ensures) (c .greater-i32 .ensures) (v .3) (surface-key-is (a .dist .now) (a .status .now) (a .a) (a .l) i) in
+    greatest-held f (a .first) i (toZ w32 (l .loop .best)) (h .surface-height .result) y (c .greater-i32 .result) (v .0) (v .2)
+    (sfits-of (h .surface-height .ok)) (sfits-of (c .greater-i32 .ok)) (h .surface-height .ensures) (c .greater-i32 .ensures) (v .3)
+    (surface-key-is (a .dist .now) (a .status .now) (a .a) (a .l) i) in
     (omega (arith, v .0), omega (arith, h .before .loop-test .taken), g .0, g .1)
 
 returns : tie.Need-returns Inv-loop μ-loop
