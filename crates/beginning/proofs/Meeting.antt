@@ -18,7 +18,8 @@ use Rattle.rules.specs.Machine.{isInside}
 use Rattle.rules.specs.Begin.{isIn, inside, inBox, exposed, worked, waitsFirst, statusAt, startStatus}
 use Rattle.rules.proofs.Topology.Start.{worked-signs}
 use Rattle.loops.specs.InPlace.{Each}
-use Rattle.beginning.specs.Work.{metOf, metAt, WorkedOut}
+use Rattle.meeting.specs.Meeting.{metOf, metAt}
+use Rattle.beginning.specs.Work.{WorkedOut}
 
 -- kept, in S, hurried, pinned, exposed
 met-rule : (kept in-s h p x : Bool)

@@ -1,13 +1,12 @@
 -- What begin looks for row by row, and what the work on a grid leaves.
 use mathlib.Core.Path.{_≡_}
-use mathlib.Core.Bool.{Bool, true, cond, _&&_, _||_}
+use mathlib.Core.Bool.{Bool, true, _&&_}
 use mathlib.Core.List.{List}
 use Prim.Native.Nat.{ℕ}
-use lib.Dec.{eqb}
 use lib.IntN.{ℤ}
 use lib.ListN.{length}
 use Rattle.rules.specs.declared.Sides.{Sides}
-use Rattle.rules.specs.Grid.{fitSides, size, onBorder, measuredNegative, valueAt, isNegative, distanceAt}
+use Rattle.rules.specs.Grid.{fitSides, size, onBorder, measuredNegative, valueAt}
 use Rattle.rules.specs.Marks.{Marked}
 use Rattle.rules.specs.Begin.{inside, inBox, worked, startStatus}
 
@@ -21,13 +20,6 @@ borderNegative s values i = onBorder s i && measuredNegative (valueAt values i)
 pub record Sized (s : Sides) (values : List ℤ) : Type 0 where
   pub sides : fitSides s ≡ true
   pub len : length values ≡ size s
-
--- the status x of a voxel whose worked distance is d, with marks
-unfoldable pub metOf : ℤ → Bool → Bool → ℕ → ℕ
-metOf d hurried pinned x = cond (isNegative d || eqb x 0) x (cond hurried 3 (cond pinned 1 x))
-
-abbrev pub metAt : List ℤ → Marked → ℕ → ℕ → ℕ
-metAt dist m k x = metOf (distanceAt dist k) (m .hurried k) (m .pinned k) x
 
 pub record WorkedOut (s : Sides) (m : Marked) (values dist : List ℤ) (status : List ℕ) : Type 0 where
   pub distances : dist ≡ worked s values (inside s values)

@@ -14,10 +14,9 @@ ghost use Rattle.rules.specs.Begin.{newRecord, beginChecks, begin as beginOf};
 ghost use Rattle.rules.specs.Answer.{outcome, buffers, begunAnswer};
 ghost use Rattle.rules.specs.Marks.{unmarked, marked};
 ghost use Rattle.loops.specs.Rows.{Row};
-ghost use Rattle.loops.specs.InPlace.{Each};
 ghost use Rattle.marks.specs.Lent.{All};
 ghost use Rattle.gaps.specs.Work.{Accepted};
-ghost use Rattle.beginning.specs.Work.{negativeAt, borderNegative, metOf, metAt, Sized, WorkedOut};
+ghost use Rattle.beginning.specs.Work.{negativeAt, borderNegative, Sized, WorkedOut};
 
 // Whether a value from first up to end is measured and negative.
 fn any_negative(values: &[i32], first: usize, end: usize) -> bool
@@ -132,49 +131,13 @@ fn work_out(dist: &mut [i32], status: &mut [u8], sides: Sides, values: &[i32])
     bounding_box::settle(status, b, sides);
 }
 
-// The status of a kept voxel that is pending.
-const PENDING: u8 = 3;
-
-// The status of a voxel at first, by the one without marks: of the kept voxels outside S those hurried are pending, and those only pinned are not.
-fn met(d: i32, hurried: bool, pinned: bool, x: u8) -> u8
-    ensures { λ r. ⌜ r ≡ metOf d hurried pinned x ⌝ }
-{
-    if (d < 0) | (x == 0) {
-        return x;
-    }
-    if hurried {
-        return PENDING;
-    }
-    if pinned {
-        return 1;
-    }
-    x
-}
-
-// The same for each voxel that has a mark.
-fn meet(status: &mut [u8], dist: &[i32], marks: &[u8])
-    requires { ⌜ (length (now marks) ≤ length (now status)) × (length (now dist) ≡ length (now status)) ⌝ }
-    ensures { λ _. ⌜ Each 0 (metAt (now (dist .entry)) (marked (now (marks .entry)))) 0 (length (now (marks .entry))) (now (status .entry))
-        (now (status .exit)) ⌝ }
-{
-    let mut i = 0;
-    while i < marks.len() {
-        let d = dist[i];
-        let h = marks::hurried(marks, i);
-        let p = marks::pinned(marks, i);
-        let v = met(d, h, p, status[i]);
-        status[i] = v;
-        i += 1;
-    }
-}
-
 // The work with marks, of which no more are handed on than voxels.
 fn work_with(dist: &mut [i32], status: &mut [u8], sides: Sides, values: &[i32], marks: &[u8])
     requires { ⌜ Accepted sides (now values) (length (now dist)) (length (now status)) × (length (now marks) ≤ size sides) ⌝ }
     ensures { λ _. ⌜ WorkedOut sides (marked (now (marks .entry))) (filled sides (now (values .entry))) (now (dist .exit)) (now (status .exit)) ⌝ }
 {
     work_out(dist, status, sides, values);
-    meet(status, dist, marks);
+    meeting::meet(status, dist, marks);
 }
 
 // Fills in the worked distances and the status of a new grid, and returns its record. A refusal writes nothing.

@@ -12,9 +12,9 @@ use Rattle.rules.specs.Marks.{marked}
 use Rattle.rules.specs.Status.{statusOf}
 use Rattle.loops.specs.InPlace.{Each}
 use Rattle.loops.proofs.InPlace.{each-none, each-more}
-use Rattle.beginning.specs.Work.{metOf, metAt}
-use Rattle.beginning.proofs.meet.Statement.{statement}
-use Rattle.beginning.proofs.meet.Tie as tie
+use Rattle.meeting.specs.Meeting.{metOf, metAt}
+use Rattle.meeting.proofs.meet.Statement.{statement}
+use Rattle.meeting.proofs.meet.Tie as tie
 
 abbrev Inv-loop : tie.InvT-loop
 Inv-loop status₀ dist marks i₀ status i = (i ≤ length marks) × Each 0 (metAt dist (marked marks)) 0 i status₀ status

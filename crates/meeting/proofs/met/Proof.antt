@@ -8,9 +8,9 @@ use mir.Syntax.{w32}
 use mir.Val.{toZ, ofZ}
 use Rattle.prelude.proofs.Signs.{held-negative}
 use Rattle.rules.specs.Grid.{isNegative}
-use Rattle.beginning.specs.Work.{metOf}
-use Rattle.beginning.proofs.met.Statement.{statement}
-use Rattle.beginning.proofs.met.Tie as tie
+use Rattle.meeting.specs.Meeting.{metOf}
+use Rattle.meeting.proofs.met.Statement.{statement}
+use Rattle.meeting.proofs.met.Tie as tie
 
 -- the first test, as the rule has it
 first : (s : tie.Start) (t : Bool) → (ltZ (toZ w32 (ofZ w32 (s .args .d))) (pos 0) || eqb (s .args .x) 0) ≡ t

@@ -1,0 +1,15 @@
+-- The status of a voxel with marks, by the one without them.
+use mathlib.Core.Bool.{Bool, cond, _||_}
+use mathlib.Core.List.{List}
+use Prim.Native.Nat.{ℕ}
+use lib.Dec.{eqb}
+use lib.IntN.{ℤ}
+use Rattle.rules.specs.Grid.{isNegative, distanceAt}
+use Rattle.rules.specs.Marks.{Marked}
+
+-- the status x of a voxel whose worked distance is d, with marks
+unfoldable pub metOf : ℤ → Bool → Bool → ℕ → ℕ
+metOf d hurried pinned x = cond (isNegative d || eqb x 0) x (cond hurried 3 (cond pinned 1 x))
+
+abbrev pub metAt : List ℤ → Marked → ℕ → ℕ → ℕ
+metAt dist m k x = metOf (distanceAt dist k) (m .hurried k) (m .pinned k) x
