@@ -4,6 +4,7 @@ use lib.IntN.{ℤ}
 use mir.Facts.{toZ-ofZ}
 use mir.Syntax.{w32}
 use mir.Val.{SFits, toZ, ofZ}
+use native.Mathlib.Omega.{arith}
 use borrow.Author.Needs.{sfits-of, needs}
 use Rattle.rules.specs.Marks.{marked}
 use Rattle.searching.specs.Argmax.{keyAt, rank, Greatest}
@@ -25,8 +26,9 @@ returns c =
     let r = c .plain-greatest .result in
     let f : SFits w32 r = sfits-of (c .plain-greatest .ok) in
     let e : r ≡ toZ w32 (ofZ w32 r) = sym (toZ-ofZ f) in
+    let none : j .joined .result ≡ 0 = omega (arith, t .if1 .taken) in
     subst (λ (z : ℤ). Greatest (keyAt (marked (a .marks .now)) (a .dist .now) (a .status .now) (a .a) (a .l)) (a .first) (a .end) (rank z)) e
-    (plain-is (a .marks .now) (a .first) (a .end) (j .joined .result) (j .joined .ensures) (t .if1 .taken) (a .dist .now) (a .status .now) (a .a) (a .l) _
+    (plain-is (a .marks .now) (a .first) (a .end) (j .joined .result) (j .joined .ensures) none (a .dist .now) (a .status .now) (a .a) (a .l) _
     (c .plain-greatest .ensures))
 
 pinned-greatest-requires : tie.Need-pinned-greatest-requires
