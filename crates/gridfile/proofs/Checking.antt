@@ -10,7 +10,7 @@ use Rattle.rules.specs.declared.Sides.{Sides}
 use Rattle.rules.specs.Value.{stray}
 use Rattle.rules.specs.Grid.{fitSides, size}
 use Rattle.rules.specs.Checks.{Check, firstFailing, AllHold}
-use Rattle.rules.proofs.Checks.{refused-first, held-first}
+use Rattle.rules.proofs.Checks.{Deciding}
 use Rattle.format.specs.Layer.{recordLength, zAt, layerAt, valuesIn}
 use Rattle.format.specs.Patch.{patchesChecks}
 use Rattle.format.specs.File.{headerLength, layerStart, orderChecks, rangeChecks, recordChecks, layersChecks, layersEnd, recordsChecks}
@@ -50,27 +50,20 @@ module _ (s : Sides) (file : List ℕ) (start next : ℕ) where
 -- ---- the records
 
 module _ (s : Sides) (file : List ℕ) where
-  -- the number for the records
-  abbrev pub failing : ℕ
-  failing = firstFailing (recordsChecks s file)
-
   abbrev behind : List Check
   behind = patchesChecks (size s) file (layersEnd s file)
 
-  -- the layers from next on, and the patches, are left to check, and decide the number
-  pub record Deciding (start next : ℕ) : Type 0 where
+  -- the layers from next on, and the patches, are left to check
+  pub record Reached (start next : ℕ) : Type 0 where
     pub within : next ≤ s .c
     pub there : start ≡ layerStart s file next
-    pub same : firstFailing (layersChecks s file (s .c - next) next ++ behind) ≡ failing
+    pub left : Deciding (recordsChecks s file) (layersChecks s file (s .c - next) next ++ behind)
 
-  pub deciding-start : Deciding headerLength 0
+  pub reached-start : Reached headerLength 0
   unfolding layerStart
-  deciding-start = let e : s .c - 0 ≡ s .c = omega arith in record { within = omega arith; there = refl; same = rw e }
+  reached-start = let e : s .c - 0 ≡ s .c = omega arith in record { within = omega arith; there = refl; left = rw e }
 
-  module _ (start next : ℕ) (i : Deciding start next) where
-    abbrev own : List Check
-    own = recordChecks s file start next
-
+  module _ (start next : ℕ) (i : Reached start next) where
     module _ (h : next < s .c) where
       abbrev after : List Check
       after = layersChecks s file (s .c - next - 1) (suc next)
@@ -78,32 +71,25 @@ module _ (s : Sides) (file : List ℕ) where
       abbrev rest : List Check
       rest = after ++ behind
 
-      next-decides : firstFailing (own ++ rest) ≡ failing
-      next-decides =
+      -- the record at hand, and what is behind it
+      pub reached-record : Deciding (recordsChecks s file) (recordChecks s file start next ++ rest)
+      reached-record =
           ap (λ (start : ℕ). firstFailing (recordChecks s file start next ++ rest)) (i .there)
           ∙ ap firstFailing (sym (append-assoc (recordChecks s file (layerStart s file next) next) after behind))
           ∙ ap (λ (cs : List Check). firstFailing (cs ++ behind)) (sym (layersChecks-next s file (s .c - next) next (omega arith)))
-          ∙ i .same
+          ∙ i .left
 
-      pub deciding-refused : (n : ℕ) → n ≡ firstFailing own → (n ≡ 0 → ⊥) → n ≡ failing
-      deciding-refused n e f = refused-first own rest n e f ∙ next-decides
-
-      pub deciding-next : (n at z : ℕ) → n ≡ firstFailing own → n ≡ 0 → at ≡ start + recordLength s file start → z ≡ suc next → Deciding at z
+      pub reached-next : Deciding (recordsChecks s file) rest → (at z : ℕ) → at ≡ start + recordLength s file start → z ≡ suc next → Reached at z
       unfolding layerStart
-      deciding-next n at z e none a q =
+      reached-next d at z a q =
           let k : s .c - suc next ≡ s .c - next - 1 = omega arith in
-          rw (a, q) (record {
-            within = omega arith;
-            there = ap (λ (start : ℕ). start + recordLength s file start) (i .there);
-            same = rw k (held-first own rest n e refl none _ refl ∙ next-decides);
-          })
+          rw (a, q) (record { within = omega arith; there = ap (λ (start : ℕ). start + recordLength s file start) (i .there); left = rw k d })
 
-    pub deciding-done : s .c ≤ next → (n : ℕ) → n ≡ firstFailing (patchesChecks (size s) file start) → n ≡ failing
+    pub reached-patches : s .c ≤ next → Deciding (recordsChecks s file) (patchesChecks (size s) file start)
     unfolding layersChecks
-    deciding-done h n e =
+    reached-patches h =
         let all : next ≡ s .c = omega (arith, i .within) in
         let none : 0 ≡ s .c - next = omega arith in
-        e
-        ∙ ap (λ (start : ℕ). firstFailing (patchesChecks (size s) file start)) (i .there ∙ ap (layerStart s file) all)
+        ap (λ (start : ℕ). firstFailing (patchesChecks (size s) file start)) (i .there ∙ ap (layerStart s file) all)
         ∙ ap (λ (left : ℕ). firstFailing (layersChecks s file left next ++ behind)) none
-        ∙ i .same
+        ∙ i .left

@@ -1,39 +1,18 @@
--- Patches one after the other: what is left to check, and what is left to apply.
-use mathlib.Core.Path.{_≡_, refl, ap, sym, subst, _∙_}
-use mathlib.Core.List.{List, []}
+-- Patches one after the other: what holds of one that is checked, and what is left to apply.
+use mathlib.Core.Path.{_≡_, refl, sym, subst, _∙_}
+use mathlib.Core.List.{List}
 use Prim.Native.Nat.{ℕ, _+_, _≤_, _<_}
 use lib.ListN.{length, set, length-set}
 use lib.IntN.{ℤ}
 use borrow.Author.Tests.{ltb-false, leb-false}
-use Rattle.rules.specs.Checks.{firstFailing, AllHold}
-use Rattle.rules.proofs.Checks.{refused-first, held-first, hold-append}
+use Rattle.rules.specs.Checks.{AllHold}
+use Rattle.rules.proofs.Checks.{hold-append}
 use Rattle.format.specs.Patch.{patchLength, indexAt, patchAt, patchChecks, patchesChecks, patched}
-use Rattle.format.proofs.Patch.{checks-next, checks-none, patched-next, patched-none}
+use Rattle.format.proofs.Patch.{checks-next, patched-next, patched-none}
 
--- ---- what is left to check
+-- ---- a record that no check refuses
 
 module _ (n : ℕ) (file : List ℕ) where
-  -- what is left to check decides the number
-  abbrev pub Deciding : ℕ → ℕ → Type 0
-  Deciding start at = firstFailing (patchesChecks n file at) ≡ firstFailing (patchesChecks n file start)
-
-  module _ (start at : ℕ) (i : Deciding start at) where
-    abbrev own : ℕ
-    own = firstFailing (patchChecks n file at)
-
-    pub deciding-refused : at < length file → (r : ℕ) → r ≡ own → (r ≡ 0 → ⊥) → r ≡ firstFailing (patchesChecks n file start)
-    deciding-refused h r e f = refused-first (patchChecks n file at) _ r e f ∙ ap firstFailing (sym (checks-next n file at h)) ∙ i
-
-    pub deciding-next : at < length file → own ≡ 0 → Deciding start (at + patchLength)
-    deciding-next h e = held-first (patchChecks n file at) _ 0 (sym e) refl refl _ refl ∙ ap firstFailing (sym (checks-next n file at h)) ∙ i
-
-    pub deciding-done : length file ≤ at → 0 ≡ firstFailing (patchesChecks n file start)
-    deciding-done h = none ∙ ap firstFailing (sym (checks-none n file at h)) ∙ i
-      where
-        none : 0 ≡ firstFailing []
-        none = unfold firstFailing in refl
-
-  -- a record that no check refuses
   pub record Fit (at : ℕ) : Type 0 where
     pub whole : at + patchLength ≤ length file
     pub below : indexAt file at < n

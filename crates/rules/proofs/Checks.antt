@@ -1,6 +1,6 @@
 -- The laws of lists of checks, for every call: the first that fails decides, a list after another, and what holds where none fails.
 use mathlib.Core.Path.{_≡_, refl, ap, sym, _∙_}
-use mathlib.Core.Bool.{Bool, true, false, cond, not, _&&_}
+use mathlib.Core.Bool.{Bool, true, false, cond, not}
 use mathlib.Core.List.{List, [], _∷_, _++_}
 use Prim.Native.Nat.{ℕ, zero, suc}
 use native.Mathlib.Omega.{arith}
@@ -125,3 +125,19 @@ module _ (cs ds : List Check) (n : ℕ) (e : n ≡ firstFailing cs) where
 
   pub held-first : numbered cs ≡ true → n ≡ 0 → (m : ℕ) → m ≡ firstFailing ds → m ≡ firstFailing (cs ++ ds)
   held-first h z m f = f ∙ sym (first-held cs ds (all-hold cs h (sym e ∙ z)))
+
+-- ---- lists one after the other, each checked before the next: what is left to check decides the number
+
+abbrev pub Deciding : List Check → List Check → Type 0
+Deciding all left = firstFailing left ≡ firstFailing all
+
+module _ (all own left : List Check) (i : Deciding all (own ++ left)) (n : ℕ) (e : n ≡ firstFailing own) where
+  pub deciding-refused : (n ≡ 0 → ⊥) → n ≡ firstFailing all
+  deciding-refused f = refused-first own left n e f ∙ i
+
+  pub deciding-next : numbered own ≡ true → n ≡ 0 → Deciding all left
+  deciding-next h z = held-first own left n e h z _ refl ∙ i
+
+pub deciding-done : (all : List Check) → Deciding all [] → 0 ≡ firstFailing all
+unfolding firstFailing
+deciding-done all i = i

@@ -5,15 +5,15 @@ use native.Mathlib.Omega.{arith}
 use borrow.Author.Needs.{needs}
 use Rattle.rules.specs.Checks.{firstFailing}
 use Rattle.rules.proofs.Places.{fit}
-use Rattle.rules.proofs.Checks.{all-hold}
+use Rattle.rules.proofs.Checks.{all-hold, deciding-refused, deciding-next}
 use Rattle.format.specs.Patch.{patchesChecks}
 use Rattle.layers.specs.Readable.{Readable}
-use Rattle.gridfile.proofs.Checking.{record-readable, Deciding, deciding-start, deciding-refused, deciding-next, deciding-done}
+use Rattle.gridfile.proofs.Checking.{record-readable, Reached, reached-start, reached-record, reached-next, reached-patches}
 use Rattle.gridfile.proofs.records_refusal.Statement.{statement}
 use Rattle.gridfile.proofs.records_refusal.Tie as tie
 
 abbrev Inv-loop : tie.InvT-loop
-Inv-loop sides n file start₀ next₀ start next = Deciding sides file start next
+Inv-loop sides n file start₀ next₀ start next = Reached sides file start next
 
 abbrev μ-loop : tie.MeasureT-loop
 μ-loop sides n file start₀ next₀ start next = sides .c - next
@@ -27,7 +27,7 @@ right c =
     record-readable _ _ _ (l .loop .next) (l .before .before .pre .0) (all-hold _ refl (sym (r .record-refusal .ensures) ∙ c .if2 .left))
 
 loop-holds : tie.Need-loop-holds Inv-loop μ-loop
-loop-holds c = deciding-start _ _
+loop-holds c = reached-start _ _
 
 record-refusal-requires : tie.Need-record-refusal-requires Inv-loop μ-loop
 record-refusal-requires c κs = let l = c .before .before in l .before .before .pre .0
@@ -36,7 +36,7 @@ returns : tie.Need-returns Inv-loop μ-loop
 returns c =
     let r = c .before in
     let t = r .before in
-    deciding-refused _ _ _ _ (t .before .before .loop .inv) (t .if1 .taken) _ (r .record-refusal .ensures) (c .if2 .taken)
+    deciding-refused _ _ _ (reached-record _ _ _ _ (t .before .before .loop .inv) (t .if1 .taken)) _ (r .record-refusal .ensures) (c .if2 .taken)
 
 record-length-requires : tie.Need-record-length-requires Inv-loop μ-loop
 record-length-requires c κs = right c .fits
@@ -55,7 +55,9 @@ loop-again c =
     let e = c .before in
     let r = e .before in
     let t = r .before in
-    deciding-next _ _ _ _ (t .before .before .loop .inv) (t .if1 .taken) _ _ _ (r .record-refusal .ensures) (e .if2 .left)
+    let i = t .before .before .loop .inv in
+    reached-next _ _ _ _ i (t .if1 .taken)
+    (deciding-next _ _ _ (reached-record _ _ _ _ i (t .if1 .taken)) _ (r .record-refusal .ensures) refl (e .if2 .left)) _ _
     (omega (arith, c .record-length .ensures .0)) (omega arith)
 
 patches-refusal-requires : tie.Need-patches-refusal-requires Inv-loop μ-loop
@@ -66,8 +68,9 @@ returns-2 c =
     let e = c .before in
     let l = e .before .before in
     let a = l .before .before .args in
-    deciding-done _ _ _ _ (l .loop .inv) (e .if1 .left) _
-    (c .patches-refusal .ensures ∙ ap (λ (n : ℕ). firstFailing (patchesChecks n (a .file .now) (l .loop .start))) (l .before .before .pre .1))
+    c .patches-refusal .ensures
+    ∙ ap (λ (n : ℕ). firstFailing (patchesChecks n (a .file .now) (l .loop .start))) (l .before .before .pre .1)
+    ∙ reached-patches _ _ _ _ (l .loop .inv) (e .if1 .left)
 
 pub records-refusal-spec : {M : Type 1} → statement M
 records-refusal-spec =
