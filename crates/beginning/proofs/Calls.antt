@@ -3,25 +3,24 @@ use mathlib.Core.Path.{_≡_, refl, sym, ap, _∙_}
 use mathlib.Core.Bool.{Bool, true, false, not, cond, _&&_, _||_}
 use mathlib.Core.List.{List}
 use Prim.Native.Nat.{ℕ}
-use lib.Dec.{eqb, ltb}
+use lib.Dec.{eqb}
 use lib.IntN.{ℤ}
 use lib.ListN.{length}
 use mathlib.Core.Logic.{inl, inr}
-use borrow.Author.Tests.{eqb-true, eq-eqb, lt-ltb}
+use borrow.Author.Tests.{eqb-true, eq-eqb}
 use Rattle.cells.specs.Groups.{any}
-use Rattle.prelude.proofs.Bools.{two, and-true, true-and, or-false, not-false}
+use Rattle.prelude.proofs.Bools.{two, and-true}
 use Rattle.rules.specs.declared.Sides.{Sides}
 use Rattle.rules.specs.declared.Record.{Record}
 use Rattle.rules.specs.Value.{stray}
-use Rattle.rules.specs.Grid.{fitSides, size, range, voxels, measuredNegative, valueAt}
+use Rattle.rules.specs.Grid.{fitSides, size, range, voxels}
 use Rattle.rules.specs.Checks.{firstFailing}
 use Rattle.rules.specs.Fill.{filled}
 use Rattle.rules.specs.Marks.{Marked, strayMark, wrongMarks}
 use Rattle.rules.specs.Begin.{newRecord, beginChecks, begunOn, begun}
 use Rattle.rules.specs.Answer.{done, outcome, buffers}
 use Rattle.rules.proofs.Checks.{all-hold}
-use Rattle.prelude.proofs.Ranges.{any-below}
-use Rattle.rules.proofs.Boxes.{checked-border}
+use Rattle.rules.proofs.Fit.{begin-lengths, beginnable}
 use Rattle.gaps.specs.Work.{Accepted}
 use Rattle.beginning.specs.Work.{negativeAt, borderNegative, WorkedOut}
 
@@ -60,29 +59,10 @@ module _ (s : Sides) (values : List ℤ) (marks : List ℕ) (dist : List ℤ) (s
 
   pub accepted : (n : ℕ) → n ≡ firstFailing (beginChecks s values marks dist status) → n ≡ 0
       → (Accepted s values (length dist) (length status)) × (length marks ≡ size s)
-  unfolding voxels wrongMarks
   accepted n e z =
       let h = all-hold (beginChecks s values marks dist status) refl (sym e ∙ z) in
-      let lent = h .1 in
-      let ranged = lent .1 in
-      let clear = ranged .1 .1 in
-      let long = or-false (not lengths) (wrongMarks s marks) (lent .0) in
-      let w = any-below (negativeAt values) (size s) (not-false _ (clear .1 .0)) in
-      let a = and-true (eqb (length values) (size s)) (eqb (length dist) (size s) && eqb (length status) (size s)) (not-false _ (long .0)) in
-      let b = and-true (eqb (length dist) (size s)) (eqb (length status) (size s)) (a .1) in
-      let right = eqb-true (length marks) (size s) (not-false _ (long .1)) in (
-        record {
-          fit = not-false _ (h .0);
-          len = eqb-true (length values) (size s) (a .0);
-          dist-len = eqb-true (length dist) (size s) (b .0);
-          status-len = eqb-true (length status) (size s) (b .1);
-          known = ranged .0;
-          border = checked-border s values (clear .0);
-          some = w .0;
-          some-negative = true-and (ltb (w .0) (size s)) (measuredNegative (valueAt values (w .0))) (lt-ltb (w .0) (size s) (w .1)) (w .2);
-        },
-        right,
-      )
+      let l = begin-lengths s values marks dist status h in
+      (record { grid = beginnable s values marks dist status h; dist-len = l .dist-len; status-len = l .status-len }, l .marks-len)
 
 -- what the work leaves is the rule's outcome, with marks that ask for the same
 pub begun-is : (s : Sides) (T : ℕ) (values d : List ℤ) (m m′ : Marked) (t : List ℕ) (r : Record) → r ≡ newRecord s T → m ≡ m′

@@ -18,6 +18,7 @@ use Rattle.rules.specs.declared.Sides.{Sides}
 use Rattle.rules.specs.Grid.{range, size, voxel, voxels, onBorder, touch, measuredNegative, valueAt, amount}
 use Rattle.rules.specs.Begin.{isIn, inside}
 use Rattle.rules.specs.Meaning.{negative, GroupOf, found}
+use Rattle.rules.specs.Fit.{Beginnable}
 use Rattle.rules.proofs.Places.{Fit, fit}
 use Rattle.prelude.proofs.Ranges.{getD-map-range, length-map-range}
 use Rattle.rules.proofs.Inside.{negative-lt, touch-back, found-is-inside}
@@ -28,14 +29,13 @@ use Rattle.rules.proofs.Topology.Around.{Inner}
 use Rattle.rules.proofs.Topology.Start.{border-inner}
 use Rattle.floods.specs.Flood.{labelled, nearBy}
 use Rattle.floods.proofs.Positions.{corner, positions-in}
-use Rattle.gaps.specs.Work.{Accepted}
 use Rattle.components.specs.Search.{touching, Component, sizeOf, Searchable, Longest}
 use Rattle.components.specs.Work.{Relabelled, Relabels, Found}
 use Rattle.components.proofs.Touched.{few, near-is}
 
-module _ (s : Sides) (values : List ℤ) (dist status : ℕ) (A : Accepted s values dist status) where
+module _ (s : Sides) (values : List ℤ) (A : Beginnable s values) where
   F : Fit s
-  F = fit s (A .fit)
+  F = fit s (A .sides)
 
   abbrev ab : ℕ
   ab = s .a * s .b

@@ -20,6 +20,7 @@ use Rattle.rules.specs.Value.{isMissing}
 use Rattle.rules.specs.Grid.{size, voxel, onBorder, shareFace, measuredNegative, valueAt, facePositions}
 use Rattle.rules.specs.Fill.{isFilled, filled}
 use Rattle.rules.specs.Gaps.{missingAt, InGap, Enclosed}
+use Rattle.rules.specs.Fit.{Beginnable}
 use Rattle.rules.proofs.Places.{Fit, fit}
 use Rattle.rules.proofs.InsideLeast.{mem-map, map-mem}
 use Rattle.rules.proofs.Neighbours.{face-at-position, position-face}
@@ -33,7 +34,6 @@ use Rattle.values.proofs.Measuring.{negative-measured}
 use Rattle.floods.specs.Flood.{offsetOf, labelled, nearBy, Taken}
 use Rattle.floods.proofs.Pushes.{label-lt}
 use Rattle.floods.proofs.Positions.{corner, offset-in, at-offset, offset-at, near-position, position-near, positions-in}
-use Rattle.gaps.specs.Work.{Accepted}
 use Rattle.labels.specs.Labels.{kindOf, Marked, settledOf}
 use Rattle.labels.proofs.Marking.{Kind, negative, missing, other, kind-is}
 use Rattle.gaps.specs.Gaps.{faces, opens, Reached, Drainable, Drained}
@@ -41,9 +41,9 @@ use Rattle.gaps.specs.Gaps.{faces, opens, Reached, Drainable, Drained}
 few : (p : ℕ) → Mem p facePositions → p < 27
 few p m = face-taxicab p m .1
 
-module _ (s : Sides) (values : List ℤ) (dist status : ℕ) (A : Accepted s values dist status) (L : List ℕ) (M : Marked s values L) where
+module _ (s : Sides) (values : List ℤ) (A : Beginnable s values) (L : List ℕ) (M : Marked s values L) where
   F : Fit s
-  F = fit s (A .fit)
+  F = fit s (A .sides)
 
   abbrev ab : ℕ
   ab = s .a * s .b

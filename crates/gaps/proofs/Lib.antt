@@ -1,3 +1,2 @@
 pub mod Draining
 pub mod Enclosing
-pub mod Accepting

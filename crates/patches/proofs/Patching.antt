@@ -6,7 +6,7 @@ use lib.ListN.{length, set, length-set}
 use lib.IntN.{ℤ}
 use borrow.Author.Tests.{ltb-false, leb-false}
 use Rattle.rules.specs.Checks.{AllHold}
-use Rattle.rules.proofs.Checks.{hold-append}
+use Rattle.rules.proofs.Checks.{hold-append, held-at}
 use Rattle.format.specs.Patch.{patchLength, indexAt, patchAt, patchChecks, patchesChecks, patched}
 use Rattle.format.proofs.Patch.{checks-next, patched-next, patched-none}
 
@@ -18,7 +18,9 @@ module _ (n : ℕ) (file : List ℕ) where
     pub below : indexAt file at < n
 
   pub fit : (at : ℕ) → AllHold (patchChecks n file at) → Fit at
-  fit at h = record { whole = ltb-false _ _ (h .0); below = leb-false _ _ (h .1 .1 .0) }
+  fit at h =
+      let held = held-at (patchChecks n file at) h in
+      record { whole = ltb-false _ _ (held 21); below = leb-false _ _ (held 5) }
 
 -- ---- what is left to apply
 

@@ -141,3 +141,18 @@ module _ (all own left : List Check) (i : Deciding all (own ++ left)) (n : ℕ) 
 pub deciding-done : (all : List Check) → Deciding all [] → 0 ≡ firstFailing all
 unfolding firstFailing
 deciding-done all i = i
+
+-- ---- what a check that holds gives, by its number: a new number shifts no other
+
+-- whether the check of that number fails
+abbrev pub failsAt : ℕ → List Check → Bool
+failsAt n [] = false
+failsAt n (c ∷ cs) = cond (eqb (c .number) n) (c .fails) (failsAt n cs)
+
+pub held-at : (cs : List Check) → AllHold cs → (n : ℕ) → failsAt n cs ≡ false
+held-at [] h n = refl
+held-at (c ∷ cs) h n = go (eqb (c .number) n) (held-at cs (h .1) n)
+  where
+    go : (t : Bool) → failsAt n cs ≡ false → cond t (c .fails) (failsAt n cs) ≡ false
+    go true rest = h .0
+    go false rest = rest

@@ -17,11 +17,12 @@ use Rattle.rules.specs.Marks.{Marked, marked}
 use Rattle.rules.specs.Demand.{Call, carveUpTo, takeAt, openOne, finishIt, Lends, AllLend, Unchanged, call, run, Demand}
 use Rattle.rules.specs.Demand.{DemandIsMet}
 use Rattle.rules.specs.Meaning.{found}
+use Rattle.rules.specs.Fit.{Beginnable}
 use Rattle.rules.proofs.Checks.{by-checks}
 use Rattle.prelude.proofs.Ranges.{none-below}
 use Rattle.rules.proofs.Places.{fit}
 use Rattle.rules.proofs.Inside.{inside-some}
-use Rattle.rules.proofs.Fit.{Beginnable, beginnable}
+use Rattle.rules.proofs.Fit.{beginnable}
 use Rattle.rules.proofs.Fill.{beginnable-filled}
 use Rattle.rules.proofs.Topology.Moves.{Inv}
 use Rattle.rules.proofs.Topology.Steps.{Sound, tally, sets}

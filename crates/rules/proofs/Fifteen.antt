@@ -22,14 +22,14 @@ use Rattle.rules.specs.Begin.{isIn, inside, inBox, begin}
 use Rattle.rules.specs.Status.{isKept, anyPending}
 use Rattle.rules.specs.Marks.{marked}
 use Rattle.rules.specs.Machine.{State, state, lentTo, mayGo, markedChecks, quietChecks, toOpen, isNone, theVoxel, opened, openNext}
-use Rattle.rules.specs.Fit.{Marking}
+use Rattle.rules.specs.Fit.{Beginnable, Marking}
 use Rattle.rules.specs.Demand.{Call, run}
 use Rattle.rules.specs.Meaning.{negative, found, IsInside}
 use Rattle.rules.specs.Fifteen.{clear, OpenToBorder, walls, UnpinnedWalls, Pins, GoneIsOpen, OnlyClosedIn, NoneToOpen, FifteenTells, FifteenWhen}
 use Rattle.rules.specs.Fifteen.{EndsWith15, endStatus, OneBody, FifteenIsLast}
 use Rattle.rules.proofs.Inside.{touch-back, negative-lt, inside-is-found, inside-members}
 use Rattle.rules.proofs.Checks.{unless-after, hold-append}
-use Rattle.rules.proofs.Fit.{Beginnable, fit-state, marking, marking-holds}
+use Rattle.rules.proofs.Fit.{fit-state, marking, marking-holds}
 use Rattle.rules.proofs.Topology.Calls.{Good}
 use Rattle.rules.proofs.Topology.Start.{kept-at-first}
 use Rattle.rules.proofs.Demand.{all-held, handed, by-begin, begun-keeps, demand-is-met}

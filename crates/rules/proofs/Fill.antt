@@ -23,9 +23,10 @@ use Rattle.rules.specs.Grid.{size, voxels, onBorder, shareFace, missing,
 use Rattle.rules.specs.Fill.{gaps, around, enclosed, enclosedGaps, inSome, isFilled, filledIn, filled}
 use Rattle.rules.specs.Meaning.{negative}
 use Rattle.rules.specs.Gaps.{missingAt, InGap, GapsAreClasses, Enclosed, FilledIsEnclosed, FilledValues, OneRound}
+use Rattle.rules.specs.Fit.{Beginnable}
 use Rattle.rules.proofs.InsideLeast.{map-mem}
 use Rattle.rules.proofs.Inside.{voxels-mem, mem-voxels, voxels-distinct, isIn-mem, mem-isIn}
-use Rattle.rules.proofs.Fit.{Beginnable, none-stray}
+use Rattle.rules.proofs.Fit.{none-stray}
 use Rattle.rules.proofs.Topology.Removal.{face-turn}
 
 -- ---- a missing voxel
@@ -296,6 +297,7 @@ module _ (s : Sides) (values : List ℤ) (accepted : Beginnable s values) where
   beginnable-filled =
       record {
         sides = accepted .sides;
+        len = length-filled s values;
         known = filled-known;
         border = λ i h b. ap (λ (v : ℤ). measuredNegative v) (filled-other s values i h (border-stays i h b)) ∙ accepted .border i h b;
         some = accepted .some;

@@ -2,7 +2,7 @@
 use mathlib.Core.Path.{_≡_, refl, sym, ap, ap₂, _∙_}
 use mathlib.Core.Logic.{inl, inr, ⊎-elim}
 use mathlib.Core.Bool.{Bool, true, false, not, _&&_, _||_}
-use mathlib.Core.List.{List, [], _∷_, _++_}
+use mathlib.Core.List.{List, _++_}
 use Prim.Native.Nat.{ℕ, _*_, _≤_, _<_}
 use native.Mathlib.Omega.{arith}
 use native.Mathlib.Decide.{decLt}
@@ -17,53 +17,58 @@ use Rattle.rules.specs.declared.Sides.{Sides}
 use Rattle.rules.specs.declared.Record.{Record}
 use Rattle.rules.specs.Value.{missing, isMissing, beyond, stray}
 use Rattle.rules.specs.Grid.{fitSides, size, range, voxels, onBorder, isNegative, measuredNegative, valueAt}
-use Rattle.rules.specs.Checks.{_when_, AllHold}
-use Rattle.rules.specs.Meaning.{negative}
+use Rattle.rules.specs.Checks.{AllHold}
 use Rattle.rules.specs.Begin.{beginChecks}
 use Rattle.rules.specs.Status.{statusOf}
 use Rattle.rules.specs.Marks.{marked, strayMark, wrongMarks}
 use Rattle.rules.specs.Machine.{State, isInside, mayGo, unfitCounts, unfitVoxel, unfit, wrongLength, stateChecks, workingChecks, markedChecks}
 use Rattle.rules.specs.Machine.{finishedChecks, voxelChecks, takeChecks, quietChecks, openingChecks, openChecks, finishChecks}
-use Rattle.rules.specs.Fit.{Lent, Known, FitVoxels, FitState, Working, Marking, Ended, Takeable, Quiet, Openable}
+use Rattle.rules.specs.Fit.{Beginnable, Lent, Known, FitVoxels, FitState, Working, Marking, Ended, Takeable, Quiet, Openable}
 use Rattle.prelude.proofs.Ranges.{any-below, none-below, below-none}
 use Rattle.rules.proofs.Boxes.{checked-border}
-use Rattle.rules.proofs.Checks.{hold-append}
+use Rattle.rules.proofs.Checks.{hold-append, failsAt, held-at}
 
 -- ---- begin
 
--- a grid that begin accepts
-pub record Beginnable (s : Sides) (values : List ℤ) : Type 0 where
-  pub sides : fitSides s ≡ true
-  pub known : any stray values ≡ false
-  pub border : (i : ℕ) → i < size s → onBorder s i ≡ true → measuredNegative (valueAt values i) ≡ false
-  pub some : ℕ
-  pub some-negative : negative s values some ≡ true
+-- 2: each length
+pub record SameLength (n : ℕ) (values : List ℤ) (marks : List ℕ) (dist : List ℤ) (status : List ℕ) : Type 0 where
+  pub values-len : length values ≡ n
+  pub dist-len : length dist ≡ n
+  pub status-len : length status ≡ n
+  pub marks-len : length marks ≡ n
 
-pub beginnable : (s : Sides) (values : List ℤ) (marks : List ℕ) (dist : List ℤ) (status : List ℕ) → AllHold (beginChecks s values marks dist status)
-    → Beginnable s values
-unfolding voxels
-beginnable s values marks dist status h =
-    let lent = h .1 in
-    let ranged = lent .1 in
-    let clear = ranged .1 .1 in
-    let v = any-below (λ i. measuredNegative (valueAt values i)) (size s) (not-false _ (clear .1 .0)) in
-    record {
-      sides = not-false (fitSides s) (h .0);
-      known = ranged .0;
-      border = checked-border s values (clear .0);
-      some = v .0;
-      some-negative = true-and (ltb (v .0) (size s)) (measuredNegative (valueAt values (v .0))) (lt-ltb (v .0) (size s) (v .1)) (v .2);
-    }
+module _ (s : Sides) (values : List ℤ) (marks : List ℕ) (dist : List ℤ) (status : List ℕ) (h : AllHold (beginChecks s values marks dist status)) where
+  begin-held : (n : ℕ) → failsAt n (beginChecks s values marks dist status) ≡ false
+  begin-held = held-at (beginChecks s values marks dist status) h
 
--- and its marks: n of them, none over 3
-pub begun-marks : (s : Sides) (values : List ℤ) (marks : List ℕ) (dist : List ℤ) (status : List ℕ) → AllHold (beginChecks s values marks dist status)
-    → (length marks ≡ size s) × (strayMark marks ≡ false)
-unfolding wrongMarks
-begun-marks s values marks dist status h =
-    let lent = h .1 in
-    let ranged = lent .1 in
-    let buffers = not (eqb (length values) (size s) && (eqb (length dist) (size s) && eqb (length status) (size s))) in
-    (eqb-true _ _ (not-false _ (or-false buffers (wrongMarks s marks) (lent .0) .1)), ranged .1 .0)
+  pub begin-lengths : SameLength (size s) values marks dist status
+  unfolding wrongMarks
+  begin-lengths =
+      let l = or-false (not (eqb (length values) (size s) && (eqb (length dist) (size s) && eqb (length status) (size s)))) _ (begin-held 2) in
+      let v = and-true (eqb (length values) (size s)) _ (not-false _ (l .0)) in
+      let b = and-true (eqb (length dist) (size s)) (eqb (length status) (size s)) (v .1) in
+      record {
+        values-len = eqb-true _ _ (v .0);
+        dist-len = eqb-true _ _ (b .0);
+        status-len = eqb-true _ _ (b .1);
+        marks-len = eqb-true _ _ (not-false _ (l .1));
+      }
+
+  pub begin-marks : strayMark marks ≡ false
+  begin-marks = begin-held 29
+
+  pub beginnable : Beginnable s values
+  unfolding voxels
+  beginnable =
+      let v = any-below (λ i. measuredNegative (valueAt values i)) (size s) (not-false _ (begin-held 4)) in
+      record {
+        sides = not-false (fitSides s) (begin-held 1);
+        len = begin-lengths .values-len;
+        known = begin-held 28;
+        border = checked-border s values (begin-held 3);
+        some = v .0;
+        some-negative = true-and (ltb (v .0) (size s)) (measuredNegative (valueAt values (v .0))) (lt-ltb (v .0) (size s) (v .1)) (v .2);
+      }
 
 -- past the end of the buffer the value is missing
 pub none-stray : (values : List ℤ) → any stray values ≡ false → (i : ℕ) → stray (valueAt values i) ≡ false
@@ -135,68 +140,76 @@ module _ (g : State) where
   abbrev n : ℕ
   n = size (g .rec .sides)
 
-  lent-to : fitSides (r .sides) ≡ true → wrongLength g ≡ false → Lent (r .sides) (g .dist) (g .status)
+  pub lent-to : fitSides (r .sides) ≡ true → wrongLength g ≡ false → Lent (r .sides) (g .dist) (g .status)
   unfolding wrongLength
   lent-to e f =
       let l = and-true (eqb (length (g .dist)) n) (eqb (length (g .status)) n) (not-false _ f) in
       record { sides = e; distances = eqb-true _ _ (l .0); statuses = eqb-true _ _ (l .1) }
 
-  pub fit-state : AllHold (stateChecks g) → FitState g
+  state-fit : fitSides (r .sides) ≡ true → wrongLength g ≡ false → unfit g ≡ false → FitState g
   unfolding unfit unfitCounts voxels
-  fit-state h =
-      let u = or-false (unfitCounts r) (any (unfitVoxel (r .sides) (g .dist) (g .status)) (range 0 n)) (h .1 .1 .0) in
+  state-fit sides lengths fits =
+      let u = or-false (unfitCounts r) (any (unfitVoxel (r .sides) (g .dist) (g .status)) (range 0 n)) fits in
       let a = or-false (ltb (r .allowed) (r .openings)) _ (u .0) in
       let b = or-false (ltb n (r .removals)) _ (a .1) in
       let c = or-false (ltb (27 * n) (r .examinations)) _ (b .1) in
       record {
-        voxels = fit-voxels (r .sides) (g .dist) (g .status) (lent-to (not-false _ (h .0)) (h .1 .0)) (none-below _ n (u .1));
+        voxels = fit-voxels (r .sides) (g .dist) (g .status) (lent-to sides lengths) (none-below _ n (u .1));
         openings = ltb-false _ _ (a .0);
         removals = ltb-false _ _ (b .0);
         examinations = ltb-false _ _ (c .0);
         euler = ltb-false _ _ (c .1);
       }
 
+  pub fit-state : AllHold (stateChecks g) → FitState g
+  fit-state h = let held = held-at (stateChecks g) h in state-fit (not-false _ (held 1)) (held 2) (held 7)
+
   pub working : AllHold (workingChecks g) → Working g
-  working h = let p = hold-append (stateChecks g) (8 when r .finished ∷ []) h in record { fit = fit-state (p .0); unfinished = p .1 .0 }
+  working h =
+      let held = held-at (workingChecks g) h in
+      record { fit = state-fit (not-false _ (held 1)) (held 2) (held 7); unfinished = held 8 }
 
   pub ended : AllHold (finishedChecks g) → Ended g
-  ended h = let p = hold-append (stateChecks g) (9 when not (r .finished) ∷ []) h in record { fit = fit-state (p .0); finished = not-false _ (p .1 .0) }
+  ended h =
+      let held = held-at (finishedChecks g) h in
+      record { fit = state-fit (not-false _ (held 1)) (held 2) (held 7); finished = not-false _ (held 9) }
 
   pub marking : (marks : List ℕ) → AllHold (markedChecks marks g) → Marking marks g
   unfolding wrongMarks
   marking marks h =
-      let l = or-false (wrongLength g) (wrongMarks (r .sides) marks) (h .1 .0) in
+      let held = held-at (markedChecks marks g) h in
+      let l = or-false (wrongLength g) (wrongMarks (r .sides) marks) (held 2) in
       record {
-        working = record { fit = fit-state (h .0, (l .0, (h .1 .1 .0, tt))); unfinished = h .1 .1 .1 .1 .0 };
+        working = record { fit = state-fit (not-false _ (held 1)) (l .0) (held 7); unfinished = held 8 };
         lent = eqb-true _ _ (not-false _ (l .1));
-        known = h .1 .1 .1 .0;
+        known = held 29;
       }
 
   pub takeable : (marks : List ℕ) (i : ℕ) → AllHold (takeChecks marks i g) → Takeable marks i g
   takeable marks i h =
-      let p = hold-append (markedChecks marks g) (voxelChecks (marked marks) i g) h in
-      let v = p .1 in
+      let held = held-at (takeChecks marks i g) h in
       record {
-        marking = marking marks (p .0);
-        below = leb-false n i (v .0);
-        kept = not-false _ (v .1 .0);
-        outer = v .1 .1 .0;
-        unpinned = v .1 .1 .1 .0;
-        passing = not-false _ (v .1 .1 .1 .1 .0);
+        marking = marking marks (hold-append (markedChecks marks g) (voxelChecks (marked marks) i g) h .0);
+        below = leb-false n i (held 5);
+        kept = not-false _ (held 10);
+        outer = held 11;
+        unpinned = held 30;
+        passing = not-false _ (held 12);
       }
 
   pub quiet : AllHold (finishChecks g) → Quiet g
-  quiet h = let p = hold-append (workingChecks g) (quietChecks g) h in record { working = working (p .0); quiet = p .1 .0 }
+  quiet h =
+      record { working = working (hold-append (workingChecks g) (quietChecks g) h .0); quiet = held-at (finishChecks g) h 13 }
 
   pub openable : (marks : List ℕ) → AllHold (openChecks marks g) → Openable marks g
   openable marks h =
-      let p = hold-append (markedChecks marks g) (quietChecks g ++ openingChecks (mayGo (marked marks) (g .dist)) g) h in
-      let m = marking marks (p .0) in
+      let held = held-at (openChecks marks g) h in
+      let m = marking marks (hold-append (markedChecks marks g) (quietChecks g ++ openingChecks (mayGo (marked marks) (g .dist)) g) h .0) in
       record {
         marking = m;
-        quiet = record { working = m .working; quiet = p .1 .0 };
-        left = eqb-false _ _ (p .1 .1 .0);
-        found = p .1 .1 .1 .0;
+        quiet = record { working = m .working; quiet = held 13 };
+        left = eqb-false _ _ (held 14);
+        found = held 15;
       }
 
 -- ---- and a state that is fit passes checks 1, 2 and 7

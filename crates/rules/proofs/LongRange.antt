@@ -25,10 +25,11 @@ use Rattle.rules.specs.Machine.{take, toOpen}
 use Rattle.rules.specs.Machine.{theVoxel, opened, openNext, closed, closedAt, finishedOf, finish}
 use Rattle.rules.specs.Demand.{Call, carveUpTo, takeAt, openOne, finishIt, call, run}
 use Rattle.rules.specs.LongRange.{farthest, WithinRange, StaysWithinRange}
+use Rattle.rules.specs.Fit.{Beginnable}
 use Rattle.rules.proofs.Checks.{by-checks}
 use Rattle.rules.proofs.Places.{fit}
 use Rattle.rules.proofs.Inside.{inside-members}
-use Rattle.rules.proofs.Fit.{Beginnable, none-stray}
+use Rattle.rules.proofs.Fit.{none-stray}
 use Rattle.rules.proofs.Demand.{handed, by-begin}
 
 -- ---- a value that is not stray

@@ -28,12 +28,12 @@ use Rattle.rules.specs.Marks.{Marked, marked, strayMark}
 use Rattle.rules.specs.Machine.{State, after, lentTo, isInside, outside, mayGo, farther, sooner, stateChecks, markedChecks, takeChecks, openChecks}
 use Rattle.rules.specs.Machine.{finishChecks, carved, carve, taken, take, toOpen, isNone, theVoxel, opened, openNext, closed, closedAt}
 use Rattle.rules.specs.Machine.{finishedOf, finish}
-use Rattle.rules.specs.Fit.{Lent, Known, FitVoxels, FitState, Marking, Openable}
+use Rattle.rules.specs.Fit.{Beginnable, Lent, Known, FitVoxels, FitState, Marking, Openable}
 use Rattle.rules.specs.Demand.{Call, carveUpTo, takeAt, openOne, finishIt, AllLend, call, run, NeverUnfit, CarveEnds}
 use Rattle.rules.proofs.Checks.{by-checks, unless-held}
 use Rattle.rules.proofs.Foremost.{farther-order, sooner-order, first-foremost}
 use Rattle.rules.proofs.Fit as checked
-use Rattle.rules.proofs.Fit.{Beginnable, state-fits, marking-holds}
+use Rattle.rules.proofs.Fit.{state-fits, marking-holds}
 use Rattle.rules.proofs.FitKept.{known-kept, known-settled, inside-below, inside-stays, fit-without, fit-carving}
 use Rattle.rules.proofs.Topology.Count.{found-all, found-omit}
 use Rattle.rules.proofs.Topology.Around.{Inner}

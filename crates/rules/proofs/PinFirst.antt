@@ -27,12 +27,12 @@ use Rattle.rules.specs.Meaning.{found}
 use Rattle.rules.specs.Status.{isKept, isPending, anyPending, testAt, firstOf, goes, examinedAs, examine, carving}
 use Rattle.rules.specs.Machine.{State, state, after, lentTo, outside, mayGo, farther, sooner, markedChecks, carved, carve, take, openNext}
 use Rattle.rules.specs.Choice.{Foremost}
-use Rattle.rules.specs.Fit.{Marking}
+use Rattle.rules.specs.Fit.{Beginnable, Marking}
 use Rattle.rules.specs.Demand.{carveUpTo, call, run}
 use Rattle.rules.specs.PinFirst.{markedBefore, pinFirst, FirstAndAlone, beginBy, carveBy, takeBy, openBy, CallsBy, ByMarks, WithoutThrees}
 use Rattle.rules.specs.PinFirst.{carvesBy, KeepsTheSame, PinFirst}
 use Rattle.rules.proofs.Checks.{by-checks, unless-held}
-use Rattle.rules.proofs.Fit.{Beginnable, beginnable, begun-marks, marking-holds}
+use Rattle.rules.proofs.Fit.{beginnable, begin-lengths, begin-marks, marking-holds}
 use Rattle.rules.proofs.Fill.{beginnable-filled}
 use Rattle.rules.proofs.Foremost.{sooner-order, first-foremost, first-is-foremost, none-is-first}
 use Rattle.rules.proofs.Topology.Surface.{omit}
@@ -461,7 +461,6 @@ unfolding begin beginBy
 pin-first s T values marks dist status r e =
     let used = filled s values in
     let h = accepted-checks s T values marks dist status r e in
-    let lent = begun-marks s values marks dist status h in
     let now = marked marks in
     let before = markedBefore marks in
     let told : begin s T values marks dist status .answer ≡ done (newRecord s T) = answers s T values marks dist status h now in
@@ -469,5 +468,6 @@ pin-first s T values marks dist status r e =
       answers s T values marks dist status h before ∙ ap done same,
       subst (KeepsTheSame s marks _) (hands-out s T values marks dist status h r same before)
           (subst (λ (g : State). KeepsTheSame s marks g (handed s T used before)) (hands-out s T values marks dist status h r same now)
-          (keeps-the-same s T used (beginnable-filled s values (beginnable s values marks dist status h)) marks (lent .0) (lent .1))),
+          (keeps-the-same s T used (beginnable-filled s values (beginnable s values marks dist status h)) marks
+          (begin-lengths s values marks dist status h .marks-len) (begin-marks s values marks dist status h))),
     )

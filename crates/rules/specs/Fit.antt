@@ -1,4 +1,5 @@
--- What holds where no check of a call fails, by name: of a state that checks 1, 2 and 7 let through, and of what each call asks besides.
+-- What holds where no check of a call fails, by name: of a grid that begin accepts, of a state that checks 1, 2 and 7 let through, and of what each
+-- call asks besides.
 use mathlib.Core.Path.{_≡_}
 use mathlib.Core.Logic.{_⊎_}
 use mathlib.Core.Bool.{true, false}
@@ -7,11 +8,25 @@ use Prim.Native.Nat.{ℕ, _*_, _≤_, _<_}
 use lib.IntN.{ℤ, natAbs}
 use lib.ListN.{length}
 use Rattle.cells.specs.Cells.{passes}
+use Rattle.prelude.specs.Lists.{any}
 use Rattle.rules.specs.declared.Sides.{Sides}
-use Rattle.rules.specs.Grid.{fitSides, size, onBorder}
+use Rattle.rules.specs.Value.{stray}
+use Rattle.rules.specs.Grid.{fitSides, size, onBorder, measuredNegative, valueAt}
+use Rattle.rules.specs.Meaning.{negative}
 use Rattle.rules.specs.Status.{statusOf, isKept, anyPending, testAt}
 use Rattle.rules.specs.Marks.{marked, strayMark}
 use Rattle.rules.specs.Machine.{State, isInside, mayGo, toOpen, isNone}
+
+-- ---- begin
+
+-- 1, 2, 28, 3 and 4: a grid that begin accepts
+pub record Beginnable (s : Sides) (values : List ℤ) : Type 0 where
+  pub sides : fitSides s ≡ true
+  pub len : length values ≡ size s
+  pub known : any stray values ≡ false
+  pub border : (i : ℕ) → i < size s → onBorder s i ≡ true → measuredNegative (valueAt values i) ≡ false
+  pub some : ℕ
+  pub some-negative : negative s values some ≡ true
 
 -- ---- checks 1, 2 and 7
 

@@ -94,7 +94,7 @@ returns-2 c =
     let m = s .args .marks .now in
     let same : marked (take (u .used .result) m) ≡ marked m =
     ap (λ (n : ℕ). marked (take n m)) (u .used .ensures .0)
-    ∙ used-same m _ (r .before .before .before .all .ensures) (few-sized m (s .args .sides) (held n .0 .fit) (held n .1)) in
+    ∙ used-same m _ (r .before .before .before .all .ensures) (few-sized m (s .args .sides) (held n .0 .grid .sides) (held n .1)) in
     call-done (untouched (buffers (s .args .dist .now) (s .args .status .now))) (worked s) (checks s) _
     (r .refusal .ensures) refl (omega (arith, n .if1 .left)) _ (begun-is _ _ _ _ _ _ _ _ (c .new-record .ensures) same (w .work-with .ensures))
 

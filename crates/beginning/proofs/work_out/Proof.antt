@@ -12,7 +12,7 @@ use Rattle.beginning.proofs.work_out.Statement.{statement}
 use Rattle.beginning.proofs.work_out.Tie as tie
 
 fits : (s : tie.Start) → Fit (s .args .sides)
-fits s = fit (s .args .sides) (s .pre .fit)
+fits s = fit (s .args .sides) (s .pre .grid .sides)
 
 add-far : tie.Need-add-far
 add-far c = let s = c .before .before in omega (arith, fits s .a-high, fits s .b-high, fits s .c-high)
@@ -38,12 +38,15 @@ measured c = c .before .before .before .before
 abbrev raised : tie.After-fill → tie.After-greatest
 raised c = c .before .before .before
 
+abbrev filled-in : tie.After-enclose → tie.After-fill
+filled-in c = c .before .before .before
+
 abbrev S : tie.Start → List ℕ
 S s = inside (s .args .sides) (filled (s .args .sides) (s .args .values .now))
 
 -- S is labelled
 labelled : (c : tie.After-find) → let s = begun c in Seeded (s .args .sides) (S s) (c .find .last .0)
-labelled c = let s = begun c in seeded (s .args .sides) (s .args .values .now) _ _ (s .pre) (c .find .last .0) _ (omega arith) (c .find .ensures)
+labelled c = let s = begun c in seeded (s .args .sides) (s .args .values .now) (s .pre .grid) (c .find .last .0) _ (omega arith) (c .find .ensures)
 
 find-requires : tie.Need-find-requires
 find-requires c κs = search needs
@@ -65,10 +68,10 @@ enclose-requires : tie.Need-enclose-requires
 enclose-requires c κs =
     let d = measured (raised (c .before .before)) in
     let s = begun (found d) in
-    enclosable (s .args .sides) (s .args .values .now) _ _ (s .pre) (d .measure .last .0) (distances d)
+    enclosable (s .args .sides) (s .args .values .now) (s .pre .grid) (d .measure .last .0) (distances d)
 
 settle-requires : tie.Need-settle-requires
-settle-requires c κs = search needs
+settle-requires c κs = let g = begun (found (measured (raised (filled-in (c .before))))) .pre .grid in search needs
 
 same-length : tie.Need-same-length
 same-length c = search needs
@@ -80,11 +83,11 @@ returns : tie.Need-returns
 returns c =
     let t = c .before .before in
     let b = t .before .before in
-    let w = b .before .before .before in
+    let w = filled-in b in
     let m = raised w in
     let d = measured m in
     let s = begun (found d) in
-    worked-out (s .args .sides) (s .args .values .now) _ _ (s .pre) (d .measure .last .0) (distances d) (m .greatest .result) (m .greatest .ensures .0)
+    worked-out (s .args .sides) (s .args .values .now) (s .pre .grid) (d .measure .last .0) (distances d) (m .greatest .result) (m .greatest .ensures .0)
     _ (w .fill .ensures) (b .enclose .result) (b .enclose .ensures) _ (t .settle .ensures)
 
 pub work-out-spec : {M : Type 1} → statement M

@@ -9,9 +9,9 @@ use lib.ListN.{length}
 use Rattle.rules.specs.Grid.{size}
 use Rattle.rules.proofs.Places.{fit}
 use Rattle.rules.specs.Fill.{filled}
+use Rattle.rules.specs.Fit.{Beginnable}
+use Rattle.rules.proofs.Fill.{beginnable-filled}
 use Rattle.floods.specs.Flood.{nearBy}
-use Rattle.gaps.specs.Work.{Accepted}
-use Rattle.gaps.proofs.Accepting.{accepted-filled}
 use Rattle.components.specs.Search.{touching, Searchable, Longest}
 use Rattle.components.proofs.Finding.{searchable, relabelled, relabels-found}
 use borrow.Author.Needs.{needs}
@@ -28,24 +28,24 @@ begun c = c .before .before .before .before
 abbrev used : tie.Start → List ℤ
 used s = filled (s .args .sides) (s .args .values .now)
 
-accepted : (s : tie.Start) → Accepted (s .args .sides) (used s) (length (s .args .dist .now)) (length (s .args .status .now))
-accepted s = accepted-filled (s .args .sides) (s .args .values .now) _ _ (s .pre)
+accepted : (s : tie.Start) → Beginnable (s .args .sides) (used s)
+accepted s = beginnable-filled (s .args .sides) (s .args .values .now) (s .pre .grid)
 
 abbrev labelled : tie.After-struct-known → tie.After-label
 labelled c = c .before .before .before .before
 
 mul-ab : tie.Need-mul-ab
-mul-ab c = let s = begun (labelled c) in let F = fit (s .args .sides) (s .pre .fit) in omega (arith, mul-le-mul (F .a-high) (F .b-high))
+mul-ab c = let s = begun (labelled c) in let F = fit (s .args .sides) (s .pre .grid .sides) in omega (arith, mul-le-mul (F .a-high) (F .b-high))
 
 touching-requires : tie.Need-touching-requires
-touching-requires c κs = let s = begun (labelled c) in let F = fit (s .args .sides) (s .pre .fit) in (F .a-high, mul-le-mul (F .a-high) (F .b-high))
+touching-requires c κs = let s = begun (labelled c) in let F = fit (s .args .sides) (s .pre .grid .sides) in (F .a-high, mul-le-mul (F .a-high) (F .b-high))
 
 add-back : tie.Need-add-back
-add-back c = let s = begun (labelled (c .before .before)) in let F = fit (s .args .sides) (s .pre .fit) in omega (arith, F .a-high)
+add-back c = let s = begun (labelled (c .before .before)) in let F = fit (s .args .sides) (s .pre .grid .sides) in omega (arith, F .a-high)
 
 add-back-2 : tie.Need-add-back-2
 add-back-2 c =
-    let s = begun (labelled (c .before .before)) in let F = fit (s .args .sides) (s .pre .fit) in omega (arith, F .a-high, mul-le-mul (F .a-high) (F .b-high))
+    let s = begun (labelled (c .before .before)) in let F = fit (s .args .sides) (s .pre .grid .sides) in omega (arith, F .a-high, mul-le-mul (F .a-high) (F .b-high))
 
 slice-aggregate-largest : tie.Need-slice-aggregate-largest
 slice-aggregate-largest c = search needs
@@ -61,7 +61,7 @@ largest-requires c κs =
     let a = s .args in
     subst (λ (o : List ℕ). Searchable o (1 + a .sides .a + a .sides .a * a .sides .b) (e .label .last .0) (length (e .label .last .1 .0)))
     (sym (t .touching .ensures))
-    (searchable (a .sides) (used s) _ _ (accepted s) (e .label .last .0) (e .label .ensures) _ (e .label .kept .1 .0 ∙ s .pre .dist-len))
+    (searchable (a .sides) (used s) (accepted s) (e .label .last .0) (e .label .ensures) _ (e .label .kept .1 .0 ∙ s .pre .dist-len))
 
 clear-requires : tie.Need-clear-requires
 clear-requires c κs = search needs
@@ -94,7 +94,7 @@ relabel-requires c κs =
     let r = searched d in
     let e = labelled (offered (r .before) .before) in
     let s = begun e in
-    relabelled (s .args .sides) (used s) _ _ (accepted s) (e .label .last .0) (e .label .ensures) (r .largest .last .1 .0)
+    relabelled (s .args .sides) (used s) (accepted s) (e .label .last .0) (e .label .ensures) (r .largest .last .1 .0)
     (r .largest .result .first) (r .largest .result .end) (longest r) _ (d .clear .ensures .len ∙ whole r)
 
 same-length : tie.Need-same-length
@@ -110,7 +110,7 @@ returns c =
     let r = searched d in
     let e = labelled (offered (r .before) .before) in
     let s = begun e in
-    relabels-found (s .args .sides) (used s) _ _ (accepted s) (e .label .last .0) (e .label .ensures) (r .largest .last .1 .0)
+    relabels-found (s .args .sides) (used s) (accepted s) (e .label .last .0) (e .label .ensures) (r .largest .last .1 .0)
     (r .largest .result .first) (r .largest .result .end) (longest r) (s .args .far) (r .largest .last .0) (d .clear .last .0) (n .relabel .last .0)
     (whole r) (d .clear .ensures) (n .relabel .ensures)
 

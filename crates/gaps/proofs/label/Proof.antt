@@ -22,10 +22,10 @@ abbrev offered : tie.After-offsets → tie.After-faces
 offered c = c .before .before .before
 
 fits : (s : tie.Start) → Fit (s .args .sides)
-fits s = fit (s .args .sides) (s .pre .fit)
+fits s = fit (s .args .sides) (s .pre .grid .sides)
 
 mark-requires : tie.Need-mark-requires
-mark-requires c κs = let p = c .before .before .pre in record { fit = p .fit; len = p .len; same = p .status-len }
+mark-requires c κs = let p = c .before .before .pre in record { fit = p .grid .sides; len = p .grid .len; same = p .status-len }
 
 mul-ab : tie.Need-mul-ab
 mul-ab c = let F = fits (begun (marked c)) in omega (arith, mul-le-mul (F .a-high) (F .b-high))
@@ -49,7 +49,7 @@ drain-requires c κs =
     let s = begun m in
     let a = s .args in
     subst (λ (f : List ℕ). Drainable f (1 + a .sides .a + a .sides .a * a .sides .b) (m .mark .last .0) (length (a .dist .now))) (sym (o .faces .ensures))
-    (drainable (a .sides) (a .values .now) _ _ (s .pre) (m .mark .last .0) (m .mark .ensures) _ (s .pre .dist-len))
+    (drainable (a .sides) (a .values .now) (s .pre .grid) (m .mark .last .0) (m .mark .ensures) _ (s .pre .dist-len))
 
 settle-requires : tie.Need-settle-requires
 settle-requires c κs = search needs
@@ -71,7 +71,7 @@ returns c =
     let m = marked (o .before) in
     let s = begun m in
     let a = s .args in
-    labels-are (a .sides) (a .values .now) _ _ (s .pre) (m .mark .last .0) (m .mark .ensures) (d .drain .last .0)
+    labels-are (a .sides) (a .values .now) (s .pre .grid) (m .mark .last .0) (m .mark .ensures) (d .drain .last .0)
     (subst (λ (f : List ℕ). Drained f (1 + a .sides .a + a .sides .a * a .sides .b) (m .mark .last .0) (d .drain .last .0)) (o .faces .ensures)
     (d .drain .ensures)) _ (e .settle .ensures)
 
