@@ -5,15 +5,11 @@ use mathlib.Core.Logic.{_⊎_}
 use mathlib.Core.Bool.{false}
 use mathlib.Core.List.{List, [], _∷_}
 use Prim.Native.Nat.{ℕ, zero, suc}
-use lib.IntN.{ℤ}
-use Rattle.rules.specs.declared.Sides.{Sides}
-use Rattle.rules.specs.declared.Record.{Record}
 use Rattle.rules.specs.Answer.{refused, done}
-use Rattle.rules.specs.Begin.{begin}
 use Rattle.rules.specs.Status.{anyPending}
 use Rattle.rules.specs.Marks.{marked}
-use Rattle.rules.specs.Machine.{State, state, mayGo, sooner, carved, carve, openNext, asFinished, finish}
-use Rattle.rules.specs.Demand.{Call, carveUpTo, openOne, run}
+use Rattle.rules.specs.Machine.{State, mayGo, sooner, carved, carve, openNext, asFinished, finish}
+use Rattle.rules.specs.Demand.{EveryBegun, Call, carveUpTo, openOne, run}
 use Rattle.program.specs.Program.{noLimit, afterCarve, allRounds}
 
 -- the program's calls, round after round
@@ -32,15 +28,9 @@ pub record Through (marks : List ℕ) (g : State) : Type 0 where
   pub refuses : (openNext marks g .answer ≡ refused 14) ⊎ (openNext marks g .answer ≡ refused 15)
   pub finishes : finish g .answer ≡ done (asFinished (g .rec))
 
--- of a grid that begin accepted, with the marks that it was lent, whatever they are
-abbrev pub Begun : (List ℕ → State → Type 0) → Type 0
-Begun P =
-    (s : Sides) (T : ℕ) (values : List ℤ) (marks : List ℕ) (dist : List ℤ) (status : List ℕ) (r : Record)
-    → begin s T values marks dist status .answer ≡ done r
-    → let b = begin s T values marks dist status in P marks (state r (b .lent .dist) (b .lent .status))
-
+-- with the marks that begin was lent, whatever they are
 abbrev pub EveryCarveEmpties : Type 0
-EveryCarveEmpties = (n : ℕ) → Begun (λ marks g. CarvesToEmpty marks (run (rounds marks n) g .end))
+EveryCarveEmpties = (n : ℕ) → EveryBegun (λ s T values marks begun. CarvesToEmpty marks (run (rounds marks n) begun .end))
 
 abbrev pub RoundsGoThrough : Type 0
-RoundsGoThrough = Begun (λ marks g. Through marks (allRounds marks g))
+RoundsGoThrough = EveryBegun (λ s T values marks begun. Through marks (allRounds marks begun))

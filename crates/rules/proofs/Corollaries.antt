@@ -13,7 +13,8 @@ use Rattle.rules.specs.Marks.{marked}
 use Rattle.rules.specs.Machine.{state}
 use Rattle.rules.specs.Demand.{Call, run}
 use Rattle.rules.specs.Corollaries.{KeptAndRemoved, ClosedWithoutOpenings}
-use Rattle.rules.proofs.Fit.{Beginnable, fit-state}
+use Rattle.rules.specs.Fit.{Beginnable}
+use Rattle.rules.proofs.Fit.{fit-state}
 use Rattle.rules.proofs.Demand.{handed, by-begin, begun-keeps, demand-is-met}
 use Rattle.rules.proofs.NeverUnfit.{never-unfit}
 
@@ -33,14 +34,14 @@ kept-and-removed s T values marks dist status r e calls =
     s T values marks dist status (λ accepted. whole s T used marks accepted calls) r e
 
 pub closed-without-openings : ClosedWithoutOpenings
-closed-without-openings s values marks dist status r e calls =
-    let b = begin s 0 values marks dist status in
+closed-without-openings s T values marks dist status r e zero calls =
+    let b = begin s T values marks dist status in
     let after = run calls (state r (b .lent .dist) (b .lent .status)) in
-    let demand = demand-is-met s 0 values marks dist status r e calls in
-    let allowed : after .end .rec .allowed ≡ 0 =
-    by-begin (λ h. run calls h .end .rec .allowed ≡ 0) s 0 values marks dist status
-    (λ accepted. begun-keeps s (filled s values) accepted 0 marks calls .adds .allowed) r e in
-    let fits = fit-state (after .end) (never-unfit s 0 values marks dist status r e calls) in
+    let demand = demand-is-met s T values marks dist status r e calls in
+    let allowed : after .end .rec .allowed ≡ T =
+    by-begin (λ h. run calls h .end .rec .allowed ≡ T) s T values marks dist status
+    (λ accepted. begun-keeps s (filled s values) accepted T marks calls .adds .allowed) r e in
+    let fits = fit-state (after .end) (never-unfit s T values marks dist status r e calls) in
     let none : after .answers .opened ≡ 0 = omega (arith, fits .openings, demand .openings-count) in
     record {
       background-one-piece = demand .background-one-piece;

@@ -4,28 +4,24 @@ use mathlib.Core.Bool.{not, _&&_}
 use mathlib.Core.List.{List}
 use Prim.Native.Nat.{ℕ, _+_}
 use lib.Dec.{ltb}
-use lib.IntN.{ℤ, pos}
+use lib.IntN.{pos}
 use Rattle.cells.specs.Linked.{OnePiece}
 use Rattle.rules.specs.declared.Sides.{Sides}
-use Rattle.rules.specs.declared.Record.{Record}
 use Rattle.rules.specs.Grid.{size, touch, shareFace}
-use Rattle.rules.specs.Answer.{done}
 use Rattle.rules.specs.Fill.{filled}
-use Rattle.rules.specs.Begin.{inside, inBox, begin}
+use Rattle.rules.specs.Begin.{inside, inBox}
 use Rattle.rules.specs.Meaning.{found}
 use Rattle.rules.specs.Status.{isKept}
-use Rattle.rules.specs.Machine.{state}
 use Rattle.rules.specs.Body.{bodyOf, eulerOf}
-use Rattle.rules.specs.Demand.{Call, run}
+use Rattle.rules.specs.Demand.{EveryBegun, Call, run}
 
 -- after every list of calls, whatever marks they are lent, the kept voxels and the removals make up the box
 abbrev pub KeptAndRemoved : Type 0
 KeptAndRemoved =
-    (s : Sides) (T : ℕ) (values : List ℤ) (marks : List ℕ) (dist : List ℤ) (status : List ℕ) (r : Record)
-    → begin s T values marks dist status .answer ≡ done r → (calls : List Call)
-    → let b = begin s T values marks dist status in
-    let after = run calls (state r (b .lent .dist) (b .lent .status)) in
-    found s (isKept (after .end .status)) + after .answers .removed ≡ found s (inBox s (inside s (filled s values)))
+    EveryBegun (λ s T values marks begun.
+    (calls : List Call)
+    → let after = run calls begun in
+    found s (isKept (after .end .status)) + after .answers .removed ≡ found s (inBox s (inside s (filled s values))))
 
 -- background and body are each in one piece, and the body's corners - edges + faces - cubes are 1
 pub record Closed (s : Sides) (status : List ℕ) : Type 0 where
@@ -35,8 +31,4 @@ pub record Closed (s : Sides) (status : List ℕ) : Type 0 where
 
 -- with T = 0 that holds after every list of calls, whatever marks they are lent
 abbrev pub ClosedWithoutOpenings : Type 0
-ClosedWithoutOpenings =
-    (s : Sides) (values : List ℤ) (marks : List ℕ) (dist : List ℤ) (status : List ℕ) (r : Record)
-    → begin s 0 values marks dist status .answer ≡ done r → (calls : List Call)
-    → let b = begin s 0 values marks dist status in
-    Closed s (run calls (state r (b .lent .dist) (b .lent .status)) .end .status)
+ClosedWithoutOpenings = EveryBegun (λ s T values marks begun. T ≡ 0 → (calls : List Call) → Closed s (run calls begun .end .status))

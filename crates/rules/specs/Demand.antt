@@ -80,6 +80,14 @@ unfoldable pub run : List Call → State → Run
 run [] g = stop g nothing
 run (c ∷ cs) g = let first = call c g in let rest = run cs (first .end) in stop (rest .end) (both (first .answers) (rest .answers))
 
+-- ---- of every grid that begin accepts: what it was given, the marks that it was lent, and the record and the buffers as it left them
+
+abbrev pub EveryBegun : (Sides → ℕ → List ℤ → List ℕ → State → Type 0) → Type 0
+EveryBegun P =
+    (s : Sides) (T : ℕ) (values : List ℤ) (marks : List ℕ) (dist : List ℤ) (status : List ℕ) (r : Record)
+    → begin s T values marks dist status .answer ≡ done r
+    → let b = begin s T values marks dist status in P s T values marks (state r (b .lent .dist) (b .lent .status))
+
 -- ---- the marks that a list of calls is lent, from a state on: a refused call does nothing, so its marks do not count
 
 abbrev pub isRefused : {A : Type 0} → Reply A → Bool
@@ -134,17 +142,14 @@ pub record Demand (s : Sides) (values : List ℤ) (marks : List ℕ) (start : �
   pub removals-count : g .rec .removals ≡ answers .removed
   pub examinations-count : g .rec .examinations ≡ answers .examined
 
--- a grid that begin does not refuse, and any list of calls from the record and the buffers as begin left them (proofs/Demand.antt): S, the inside,
--- is that of the values with gaps filled
+-- any list of calls from there (proofs/Demand.antt): S, the inside, is that of the values with gaps filled
 abbrev pub DemandIsMet : Type 0
 DemandIsMet =
-    (s : Sides) (T : ℕ) (values : List ℤ) (marks : List ℕ) (dist : List ℤ) (status : List ℕ) (r : Record)
-    → begin s T values marks dist status .answer ≡ done r → (calls : List Call)
-    → let b = begin s T values marks dist status in
-    let begun = state r (b .lent .dist) (b .lent .status) in
-    let after = run calls begun in
+    EveryBegun (λ s T values marks begun.
+    (calls : List Call)
+    → let after = run calls begun in
     let used = filled s values in
-    Demand s used marks (inBox s (inside s used)) begun calls (after .end) (after .answers)
+    Demand s used marks (inBox s (inside s used)) begun calls (after .end) (after .answers))
 
 -- a voxel that every call of a list pins, refused ones aside, is not lost, from any state (proofs/Pinned.antt)
 abbrev pub PinnedAreKept : Type 0
@@ -161,20 +166,14 @@ GoneStaysGone =
 
 -- no list of calls makes a begun grid unfit: no call of it is refused with 1 or 7, nor with 2 but for the length of its own marks (proofs/NeverUnfit.antt)
 abbrev pub NeverUnfit : Type 0
-NeverUnfit =
-    (s : Sides) (T : ℕ) (values : List ℤ) (marks : List ℕ) (dist : List ℤ) (status : List ℕ) (r : Record)
-    → begin s T values marks dist status .answer ≡ done r → (calls : List Call)
-    → let b = begin s T values marks dist status in
-    AllHold (stateChecks (run calls (state r (b .lent .dist) (b .lent .status)) .end))
+NeverUnfit = EveryBegun (λ s T values marks begun. (calls : List Call) → AllHold (stateChecks (run calls begun .end)))
 
 -- a carve of 27 n examinations or more, on a grid that is not finished, with n marks of at most 3, is not refused and leaves nothing pending
 abbrev pub CarveEnds : Type 0
 CarveEnds =
-    (s : Sides) (T : ℕ) (values : List ℤ) (marks : List ℕ) (dist : List ℤ) (status : List ℕ) (r : Record)
-    → begin s T values marks dist status .answer ≡ done r → (calls : List Call)
-    → (lent : List ℕ) → length lent ≡ size s → strayMark lent ≡ false → (limit : ℕ) → 27 * size s ≤ limit
-    → let b = begin s T values marks dist status in
-    let g = run calls (state r (b .lent .dist) (b .lent .status)) .end in
+    EveryBegun (λ s T values marks begun.
+    (calls : List Call) (lent : List ℕ) → length lent ≡ size s → strayMark lent ≡ false → (limit : ℕ) → 27 * size s ≤ limit
+    → let g = run calls begun .end in
     let m = marked lent in
     g .rec .finished ≡ false
-    → (carve lent limit g ≡ carved (mayGo m (g .dist)) (sooner m (g .dist)) limit g) × (anyPending s (carve lent limit g .lent .status) ≡ false)
+    → (carve lent limit g ≡ carved (mayGo m (g .dist)) (sooner m (g .dist)) limit g) × (anyPending s (carve lent limit g .lent .status) ≡ false))

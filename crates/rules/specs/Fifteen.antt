@@ -19,7 +19,7 @@ use Rattle.rules.specs.Begin.{isIn, inside, inBox, begin}
 use Rattle.rules.specs.Status.{isKept, anyPending}
 use Rattle.rules.specs.Marks.{marked, strayMark}
 use Rattle.rules.specs.Machine.{State, state, mayGo, toOpen, openNext}
-use Rattle.rules.specs.Demand.{Call, AllLend, Unchanged, run}
+use Rattle.rules.specs.Demand.{EveryBegun, Call, AllLend, Unchanged, run}
 
 -- ---- open to the border
 
@@ -50,11 +50,10 @@ UnchangedPins = (marks : List ℕ) (g : State) (calls : List Call) → Unchanged
 -- after every list of calls, whatever marks they are lent, what is gone is open to the border past S: what S closes in is kept
 abbrev pub GoneIsOpen : Type 0
 GoneIsOpen =
-    (s : Sides) (T : ℕ) (values : List ℤ) (marks : List ℕ) (dist : List ℤ) (status : List ℕ) (r : Record)
-    → begin s T values marks dist status .answer ≡ done r → (calls : List Call)
-    → let b = begin s T values marks dist status in
-    let g = run calls (state r (b .lent .dist) (b .lent .status)) .end in
-    (i : ℕ) → i < size s → isKept (g .status) i ≡ false → OpenToBorder s (isIn (inside s (filled s values))) i
+    EveryBegun (λ s T values marks begun.
+    (calls : List Call)
+    → let g = run calls begun .end in
+    (i : ℕ) → i < size s → isKept (g .status) i ≡ false → OpenToBorder s (isIn (inside s (filled s values))) i)
 
 -- ---- no voxel to open
 
@@ -68,31 +67,26 @@ pub record OnlyClosedIn (s : Sides) (S marks status : List ℕ) : Type 0 where
 -- to open
 abbrev pub NoneToOpen : Type 0
 NoneToOpen =
-    (s : Sides) (T : ℕ) (values : List ℤ) (marks : List ℕ) (dist : List ℤ) (status : List ℕ) (r : Record)
-    → begin s T values marks dist status .answer ≡ done r → (calls : List Call) (lent : List ℕ)
-    → let b = begin s T values marks dist status in
-    let begun = state r (b .lent .dist) (b .lent .status) in
-    let g = run calls begun .end in
+    EveryBegun (λ s T values marks begun.
+    (calls : List Call) (lent : List ℕ)
+    → let g = run calls begun .end in
     Pins lent begun calls → g .rec .finished ≡ false → toOpen (mayGo (marked lent) (g .dist)) g ≡ none
-    → OnlyClosedIn s (inside s (filled s values)) lent (g .status)
+    → OnlyClosedIn s (inside s (filled s values)) lent (g .status))
 
 -- the same where open answers 15 after the list
 abbrev pub FifteenTells : Type 0
 FifteenTells =
-    (s : Sides) (T : ℕ) (values : List ℤ) (marks : List ℕ) (dist : List ℤ) (status : List ℕ) (r : Record)
-    → begin s T values marks dist status .answer ≡ done r → (calls : List Call) (lent : List ℕ)
-    → let b = begin s T values marks dist status in
-    let begun = state r (b .lent .dist) (b .lent .status) in
-    let g = run calls begun .end in
-    Pins lent begun calls → openNext lent g .answer ≡ refused 15 → OnlyClosedIn s (inside s (filled s values)) lent (g .status)
+    EveryBegun (λ s T values marks begun.
+    (calls : List Call) (lent : List ℕ)
+    → let g = run calls begun .end in
+    Pins lent begun calls → openNext lent g .answer ≡ refused 15 → OnlyClosedIn s (inside s (filled s values)) lent (g .status))
 
 -- open answers 15 exactly where its marks are n of at most 3, on a grid that is not finished, with nothing pending, an opening left and no voxel to open
 abbrev pub FifteenWhen : Type 0
 FifteenWhen =
-    (s : Sides) (T : ℕ) (values : List ℤ) (marks : List ℕ) (dist : List ℤ) (status : List ℕ) (r : Record)
-    → begin s T values marks dist status .answer ≡ done r → (calls : List Call) (lent : List ℕ)
-    → let b = begin s T values marks dist status in
-    let g = run calls (state r (b .lent .dist) (b .lent .status)) .end in
+    EveryBegun (λ s T values marks begun.
+    (calls : List Call) (lent : List ℕ)
+    → let g = run calls begun .end in
     (openNext lent g .answer ≡ refused 15)
     ↔ (
     (length lent ≡ size s)
@@ -100,7 +94,7 @@ FifteenWhen =
     × (g .rec .finished ≡ false)
     × (anyPending s (g .status) ≡ false)
     × (g .rec .openings < T)
-    × (toOpen (mayGo (marked lent) (g .dist)) g ≡ none))
+    × (toOpen (mayGo (marked lent) (g .dist)) g ≡ none)))
 
 -- ---- the same body, whatever T, the values, the order of calls, the ties and the hurries
 
@@ -133,8 +127,7 @@ OneBody = (s : Sides) (solid : ℕ → Bool) (e f : EndsWith15 s solid) (i : ℕ
 -- and no call after it takes another voxel, if it pins what open pinned; what was pinned before does not matter
 abbrev pub FifteenIsLast : Type 0
 FifteenIsLast =
-    (s : Sides) (T : ℕ) (values : List ℤ) (marks : List ℕ) (dist : List ℤ) (status : List ℕ) (r : Record)
-    → begin s T values marks dist status .answer ≡ done r → (calls : List Call) (lent : List ℕ) (more : List Call)
-    → let b = begin s T values marks dist status in
-    let g = run calls (state r (b .lent .dist) (b .lent .status)) .end in
-    openNext lent g .answer ≡ refused 15 → Pins lent g more → (i : ℕ) → isKept (run more g .end .status) i ≡ isKept (g .status) i
+    EveryBegun (λ s T values marks begun.
+    (calls : List Call) (lent : List ℕ) (more : List Call)
+    → let g = run calls begun .end in
+    openNext lent g .answer ≡ refused 15 → Pins lent g more → (i : ℕ) → isKept (run more g .end .status) i ≡ isKept (g .status) i)

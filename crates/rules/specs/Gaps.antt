@@ -11,16 +11,14 @@ use Rattle.cells.specs.Groups.{any}
 use Rattle.cells.specs.Linked.{Linked}
 use Rattle.cells.specs.Classes.{Classes, Counted}
 use Rattle.rules.specs.declared.Sides.{Sides}
-use Rattle.rules.specs.declared.Record.{Record}
 use Rattle.rules.specs.Value.{isMissing}
 use Rattle.rules.specs.Grid.{size, onBorder, shareFace, measuredNegative, valueAt, distanceAt}
 use Rattle.rules.specs.Fill.{gaps, isFilled, filled}
 use Rattle.rules.specs.Marks.{Marked}
-use Rattle.rules.specs.Answer.{done}
-use Rattle.rules.specs.Begin.{isIn, inside, begunOn, begun, begin}
+use Rattle.rules.specs.Begin.{isIn, inside, begunOn, begun}
 use Rattle.rules.specs.Status.{isKept}
-use Rattle.rules.specs.Machine.{state}
-use Rattle.rules.specs.Demand.{Call, run}
+use Rattle.rules.specs.Machine.{State}
+use Rattle.rules.specs.Demand.{EveryBegun, Call, run}
 
 -- a missing voxel of the grid
 abbrev pub missingAt : Sides → List ℤ → ℕ → Bool
@@ -68,13 +66,10 @@ MeasuredAsBefore =
     (s : Sides) (T : ℕ) (values : List ℤ) (m : Marked) → length values ≡ size s → any isMissing values ≡ false → begun s T values m ≡ begunOn s T values m
 
 -- a filled voxel found in S has the worked distance -1 after begin, and no list of calls loses it
-pub record FilledStays (s : Sides) (T : ℕ) (values : List ℤ) (marks : List ℕ) (dist : List ℤ) (status : List ℕ) (r : Record) (i : ℕ) : Type 0 where
-  pub worked : distanceAt (begin s T values marks dist status .lent .dist) i ≡ negsuc 0
-  pub kept : (calls : List Call)
-      → let b = begin s T values marks dist status in isKept (run calls (state r (b .lent .dist) (b .lent .status)) .end .status) i ≡ true
+pub record FilledStays (begun : State) (i : ℕ) : Type 0 where
+  pub worked : distanceAt (begun .dist) i ≡ negsuc 0
+  pub kept : (calls : List Call) → isKept (run calls begun .end .status) i ≡ true
 
 abbrev pub FilledAreKept : Type 0
 FilledAreKept =
-    (s : Sides) (T : ℕ) (values : List ℤ) (marks : List ℕ) (dist : List ℤ) (status : List ℕ) (r : Record)
-    → begin s T values marks dist status .answer ≡ done r
-    → (i : ℕ) → isFilled s values i ≡ true → isIn (inside s (filled s values)) i ≡ true → FilledStays s T values marks dist status r i
+    EveryBegun (λ s T values marks begun. (i : ℕ) → isFilled s values i ≡ true → isIn (inside s (filled s values)) i ≡ true → FilledStays begun i)

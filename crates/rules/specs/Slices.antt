@@ -4,16 +4,13 @@ use mathlib.Core.Bool.{Bool, false}
 use mathlib.Core.List.{List, _∷_}
 use Prim.Native.Nat.{ℕ, _+_}
 use lib.ListN.{length}
-use lib.IntN.{ℤ}
 use Rattle.rules.specs.declared.Sides.{Sides}
-use Rattle.rules.specs.declared.Record.{Record}
 use Rattle.rules.specs.Grid.{size}
 use Rattle.rules.specs.Answer.{done, outcome, Carving}
-use Rattle.rules.specs.Begin.{begin}
 use Rattle.rules.specs.Status.{Progress, progress, latest, carving}
 use Rattle.rules.specs.Marks.{strayMark}
-use Rattle.rules.specs.Machine.{State, state, carve}
-use Rattle.rules.specs.Demand.{Call, carveUpTo, call, run}
+use Rattle.rules.specs.Machine.{State, carve}
+use Rattle.rules.specs.Demand.{EveryBegun, Call, carveUpTo, call, run}
 
 -- ---- m + n examinations are m, and n after them
 
@@ -46,19 +43,15 @@ pub record CarvedInTwo (lent : List ℕ) (m n : ℕ) (g : State) : Type 0 where
 -- a grid that begin accepts, after any list of calls, not finished; both carves are lent the same n marks of at most 3
 abbrev pub CarvesAdd : Type 0
 CarvesAdd =
-    (s : Sides) (T : ℕ) (values : List ℤ) (marks : List ℕ) (dist : List ℤ) (status : List ℕ) (r : Record)
-    → begin s T values marks dist status .answer ≡ done r → (calls : List Call)
-    → (lent : List ℕ) → length lent ≡ size s → strayMark lent ≡ false
-    → let b = begin s T values marks dist status in
-    let g = run calls (state r (b .lent .dist) (b .lent .status)) .end in
-    g .rec .finished ≡ false → (m n : ℕ) → CarvedInTwo lent m n g
+    EveryBegun (λ s T values marks begun.
+    (calls : List Call) (lent : List ℕ) → length lent ≡ size s → strayMark lent ≡ false
+    → let g = run calls begun .end in g .rec .finished ≡ false → (m n : ℕ) → CarvedInTwo lent m n g)
 
 -- so in any list of calls two carves in a row that are lent the same marks, whatever they are, may be made one, with the same state and the same sums
 -- after the list: where one is refused, all three are
 abbrev pub CarvesJoin : Type 0
 CarvesJoin =
-    (s : Sides) (T : ℕ) (values : List ℤ) (marks : List ℕ) (dist : List ℤ) (status : List ℕ) (r : Record)
-    → begin s T values marks dist status .answer ≡ done r → (calls more : List Call)
-    → let b = begin s T values marks dist status in
-    let g = run calls (state r (b .lent .dist) (b .lent .status)) .end in
-    (lent : List ℕ) (m n : ℕ) → run (carveUpTo lent m ∷ carveUpTo lent n ∷ more) g ≡ run (carveUpTo lent (m + n) ∷ more) g
+    EveryBegun (λ s T values marks begun.
+    (calls more : List Call)
+    → let g = run calls begun .end in
+    (lent : List ℕ) (m n : ℕ) → run (carveUpTo lent m ∷ carveUpTo lent n ∷ more) g ≡ run (carveUpTo lent (m + n) ∷ more) g)

@@ -3,13 +3,8 @@ use mathlib.Core.Path.{_≡_}
 use mathlib.Core.List.{List}
 use mathlib.Core.Option.{Option}
 use Prim.Native.Nat.{ℕ}
-use lib.IntN.{ℤ}
-use Rattle.rules.specs.declared.Sides.{Sides}
-use Rattle.rules.specs.declared.Record.{Record}
 use Rattle.rules.specs.Answer.{done}
-use Rattle.rules.specs.Begin.{begin}
-use Rattle.rules.specs.Machine.{state}
-use Rattle.rules.specs.Demand.{Call, run}
+use Rattle.rules.specs.Demand.{EveryBegun, Call, run}
 use Rattle.surface.specs.declared.Point.{Point}
 use Rattle.surface.specs.Surface.{crossing, BoundedAt}
 
@@ -17,8 +12,7 @@ use Rattle.surface.specs.Surface.{crossing, BoundedAt}
 -- lies within the bound (proofs/LongRange.antt)
 abbrev pub PointsBounded : Type 0
 PointsBounded =
-    (s : Sides) (T : ℕ) (values : List ℤ) (marks : List ℕ) (dist : List ℤ) (status : List ℕ) (r : Record)
-    → begin s T values marks dist status .answer ≡ done r → (calls : List Call)
-    → let b = begin s T values marks dist status in
-    let g = run calls (state r (b .lent .dist) (b .lent .status)) .end in
-    (i axis : ℕ) (o : Option Point) → crossing i axis g .answer ≡ done o → BoundedAt (g .rec .sides) (g .dist) i axis o
+    EveryBegun (λ s T values marks begun.
+    (calls : List Call)
+    → let g = run calls begun .end in
+    (i axis : ℕ) (o : Option Point) → crossing i axis g .answer ≡ done o → BoundedAt (g .rec .sides) (g .dist) i axis o)
