@@ -1,4 +1,3 @@
-pub mod Rows
 pub mod Settling
 pub mod Calls
 pub mod Meeting

@@ -1,12 +1,11 @@
 -- What begin looks for row by row, and what the work on a grid leaves.
 use mathlib.Core.Path.{_≡_}
-use mathlib.Core.Bool.{Bool, true, _&&_}
+use mathlib.Core.Bool.{Bool, _&&_}
 use mathlib.Core.List.{List}
 use Prim.Native.Nat.{ℕ}
 use lib.IntN.{ℤ}
-use lib.ListN.{length}
 use Rattle.rules.specs.declared.Sides.{Sides}
-use Rattle.rules.specs.Grid.{fitSides, size, onBorder, measuredNegative, valueAt}
+use Rattle.rules.specs.Grid.{onBorder, measuredNegative, valueAt}
 use Rattle.rules.specs.Marks.{Marked}
 use Rattle.rules.specs.Begin.{inside, inBox, worked, startStatus}
 
@@ -15,11 +14,6 @@ negativeAt values i = measuredNegative (valueAt values i)
 
 abbrev pub borderNegative : Sides → List ℤ → ℕ → Bool
 borderNegative s values i = onBorder s i && measuredNegative (valueAt values i)
-
--- fit sides, and a value for each voxel
-pub record Sized (s : Sides) (values : List ℤ) : Type 0 where
-  pub sides : fitSides s ≡ true
-  pub len : length values ≡ size s
 
 pub record WorkedOut (s : Sides) (m : Marked) (values dist : List ℤ) (status : List ℕ) : Type 0 where
   pub distances : dist ≡ worked s values (inside s values)

@@ -10,13 +10,14 @@ ghost use Rattle.cells.specs.Groups.{any};
 ghost use Rattle.rules.specs.Grid.{size, range};
 ghost use Rattle.rules.specs.Fill.{filled};
 ghost use Rattle.rules.specs.Checks.{firstFailing};
+ghost use Rattle.rules.specs.Fit.{Sized};
 ghost use Rattle.rules.specs.Begin.{newRecord, beginChecks, begin as beginOf};
 ghost use Rattle.rules.specs.Answer.{outcome, buffers, begunAnswer};
 ghost use Rattle.rules.specs.Marks.{unmarked, marked};
 ghost use Rattle.loops.specs.Rows.{Row};
 ghost use Rattle.marks.specs.Lent.{All};
 ghost use Rattle.gaps.specs.Work.{Accepted};
-ghost use Rattle.beginning.specs.Work.{negativeAt, borderNegative, Sized, WorkedOut};
+ghost use Rattle.beginning.specs.Work.{negativeAt, borderNegative, WorkedOut};
 
 // Whether a value from first up to end is measured and negative.
 fn any_negative(values: &[i32], first: usize, end: usize) -> bool
@@ -52,7 +53,7 @@ fn border_row(sides: Sides, values: &[i32], row: usize) -> bool
 
 // Number 3: whether a border voxel is measured negative.
 fn border_negative(sides: Sides, values: &[i32]) -> bool
-    requires { ⌜ Sized sides (now values) ⌝ }
+    requires { ⌜ Sized sides (length (now values)) ⌝ }
     ensures { λ r. ⌜ r ≡ any (borderNegative sides (now (values .entry))) (range 0 (size sides)) ⌝ }
 {
     let rows = sides.b * sides.c;

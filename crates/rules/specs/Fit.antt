@@ -17,6 +17,11 @@ use Rattle.rules.specs.Status.{statusOf, isKept, anyPending, testAt}
 use Rattle.rules.specs.Marks.{marked, strayMark}
 use Rattle.rules.specs.Machine.{State, isInside, mayGo, toOpen, isNone}
 
+-- fit sides, and as many elements as there are voxels
+pub record Sized (s : Sides) (n : ℕ) : Type 0 where
+  pub sides : fitSides s ≡ true
+  pub len : n ≡ size s
+
 -- ---- begin
 
 -- 1, 2, 28, 3 and 4: a grid that begin accepts

@@ -1,68 +1,61 @@
 -- Number 7 row by row on the border, and its three scans as one.
-use mathlib.Core.Path.{_≡_, refl, sym, ap, ap₂, _∙_}
+use mathlib.Core.Path.{_≡_, sym, ap, ap₂, _∙_}
 use mathlib.Core.Bool.{Bool, true, false, not, cond, _||_, _&&_}
 use mathlib.Core.List.{List}
-use Prim.Native.Nat.{ℕ, _+_, _-_, _*_, _≤_, _<_}
+use Prim.Native.Nat.{ℕ, suc, _+_, _*_, _≤_, _<_}
 use native.Mathlib.Omega.{arith}
-use native.Mathlib.Nat.{mul-le-mul}
+use native.Mathlib.Nat.{mul-le-mul-left, mul-suc, mul-add}
 use lib.Dec.{eqb}
 use lib.IntN.{ℤ, pos}
 use lib.ListN.{length}
 use mir.Syntax.{w32}
 use mir.Val.{SFits, ofZ}
 use Rattle.cells.specs.Groups.{any}
-use Rattle.prelude.proofs.Bools.{and-zero, and-one, or-one}
-use Rattle.prelude.proofs.Ranges.{any-run-ext, any-run-one, any-run-none-of, any-or, scan-join}
+use Rattle.prelude.proofs.Bools.{and-zero, and-one}
+use Rattle.prelude.proofs.Ranges.{any-or}
 use Rattle.prelude.proofs.Signs.{signBit, sign-held}
 use Rattle.rules.specs.declared.Sides.{Sides}
-use Rattle.rules.specs.Grid.{size, range, end, onBorder, isNegative}
+use Rattle.rules.specs.Grid.{size, range, isNegative}
 use Rattle.rules.specs.Machine.{unfitVoxel}
-use Rattle.rules.proofs.Places.{fit}
-use Rattle.rules.proofs.Rows.{row-end, size-high, edge, border-in-row, border-first, border-last, border-middle}
-use Rattle.scans.specs.Scans.{unknownAt, usedAt, usedBorderAt, unheldAt, heldUp, Sized}
+use Rattle.rules.specs.Fit.{Sized}
+use Rattle.loops.specs.Rows.{Row}
+use Rattle.loops.proofs.Rows.{row-of, rows-few, rows-more}
+use Rattle.loops.proofs.Borders.{edge-at, row-on-border, row-ends}
+use Rattle.scans.specs.Scans.{unknownAt, usedAt, usedBorderAt, unheldAt, heldUp}
 
--- a row of a grid
-pub record RowIn (s : Sides) (y z : ℕ) (status : List ℕ) : Type 0 where
-  pub wide : 3 ≤ s .a
-  pub rows : s .b * z ≤ 4096
-  pub y-high : y < 64
-  pub last : s .a * (y + s .b * z) + s .a ≤ length status
-  pub few : length status ≤ 262144
+-- ---- row y of layer z
 
-pub row-in : (s : Sides) (y z : ℕ) (status : List ℕ) → Sized s status → y < s .b → z < s .c → RowIn s y z status
-row-in s y z status g hy hz =
-    let f = fit s (g .sides) in
-    let h = size-high s f in
-    let e = row-end s y z hy hz in
-    let m : s .b * z ≤ 64 * 64 = mul-le-mul (f .b-high) (let q : z ≤ 64 = omega arith in q) in
-    record { wide = f .a-low; rows = omega arith; y-high = omega arith; last = omega (arith, g .statuses); few = omega (arith, g .statuses) }
+-- a row follows the rows before it in its layer, and a layer the layers before it
+pub row-start : (s : Sides) (y z : ℕ) → s .a * (y + s .b * z) ≡ s .a * (s .b * z) + s .a * y
+row-start s y z = omega (arith, mul-add (s .a) y (s .b * z))
 
--- ---- the border in a row: its first and last voxel, and the others if the row lies on it
+pub layers-more : (a b z : ℕ) → a * (b * (z + 1)) ≡ a * (b * z) + a * b
+layers-more a b z = ap (λ (n : ℕ). a * n) (rows-more b z) ∙ mul-add a (b * z) b
 
-module _ (s : Sides) (y z : ℕ) (hy : y < s .b) (status : List ℕ) where
-  abbrev first : ℕ
-  first = s .a * (y + s .b * z)
+module _ (s : Sides) (y z : ℕ) (hy : y < s .b) where
+  abbrev r : ℕ
+  r = y + s .b * z
 
-  abbrev P : ℕ → Bool
-  P = usedBorderAt s status
+  pub record RowIn (n : ℕ) : Type 0 where
+    pub row : Row s n r
+    pub rows : r < 4096
 
-  at : (i : ℕ) (t : Bool) → onBorder s i ≡ t → P i ≡ t && usedAt status i
-  unfolding usedBorderAt
-  at i t e = ap (λ (u : Bool). u && usedAt status i) e
+  pub row-in : (n : ℕ) → Sized s n → z < s .c → RowIn n
+  row-in n g hz =
+      let l : s .b * suc z ≤ s .b * s .c = mul-le-mul-left (s .b) hz in
+      let h : r < s .b * s .c = omega (arith, mul-suc (s .b) z) in
+      record { row = row-of s n r (g .sides) (g .len) h; rows = omega (arith, rows-few s (g .sides)) }
 
-  pub row-on-border : edge s y z ≡ true → any (usedAt status) (range first (s .a)) ≡ any P (range first (s .a))
-  row-on-border e =
-      any-run-ext (usedAt status) P first (s .a)
-      (λ i k h. sym (at i true (border-in-row s y z hy i k h ∙ ap (λ (t : Bool). end (s .a) (i - first) || t) e ∙ or-one (end (s .a) (i - first)))))
+  module _ (status : List ℕ) where
+    pub used-on-border : (eqb y 0 || eqb (y + 1) (s .b)) || (eqb z 0 || eqb (z + 1) (s .c)) ≡ true
+        → any (usedAt status) (range (s .a * r) (s .a)) ≡ any (usedBorderAt s status) (range (s .a * r) (s .a))
+    unfolding usedBorderAt
+    used-on-border e = row-on-border s (usedAt status) r (edge-at s y z hy ∙ e)
 
-  pub row-ends : (l : ℕ) → 3 ≤ s .a → l + 1 ≡ first + s .a → edge s y z ≡ false → usedAt status first || usedAt status l ≡ any P (range first (s .a))
-  row-ends l w h e =
-      let middle : any P (range (first + 1) (s .a - 2)) ≡ false =
-      any-run-none-of P (first + 1) (s .a - 2) (λ i k m. at i false (border-middle s y z hy i (omega arith) (omega arith) ∙ e)) in
-      let m : any P (range first 1) ≡ usedAt status first = any-run-one P first ∙ at first true (border-first s y z hy first (omega arith) refl) in
-      let o : any P (range l 1) ≡ usedAt status l = any-run-one P l ∙ at l true (border-last s y z hy l h (omega arith)) in
-      let t = scan-join P (first + 1) (s .a - 2) 1 l (s .a - 1) false _ (sym middle) (sym o) (omega arith) (omega arith) in
-      scan-join P first 1 (s .a - 1) (first + 1) (s .a) _ _ (sym m) t (omega arith) (omega arith)
+    pub used-ends : (last : ℕ) → 3 ≤ s .a → last + 1 ≡ s .a * r + s .a → (eqb y 0 || eqb (y + 1) (s .b)) || (eqb z 0 || eqb (z + 1) (s .c)) ≡ false
+        → usedAt status (s .a * r) || usedAt status last ≡ any (usedBorderAt s status) (range (s .a * r) (s .a))
+    unfolding usedBorderAt
+    used-ends last w h e = row-ends s (usedAt status) r last w h (edge-at s y z hy ∙ e)
 
 -- ---- number 7 in three scans
 

@@ -1,13 +1,11 @@
 -- Number 7 at a voxel in its three clauses, each for a scan of its own.
-use mathlib.Core.Path.{_≡_}
-use mathlib.Core.Bool.{Bool, true, not, _&&_, _||_, cond}
+use mathlib.Core.Bool.{Bool, not, _&&_, _||_, cond}
 use mathlib.Core.List.{List}
 use Prim.Native.Nat.{ℕ}
 use lib.Dec.{eqb}
-use lib.ListN.{length}
 use lib.IntN.{ℤ, pos}
 use Rattle.rules.specs.declared.Sides.{Sides}
-use Rattle.rules.specs.Grid.{fitSides, size, onBorder}
+use Rattle.rules.specs.Grid.{onBorder}
 use Rattle.rules.specs.Status.{statusOf}
 use Rattle.rules.specs.Machine.{isInside}
 
@@ -29,8 +27,3 @@ unheldAt dist status i = isInside dist i && not (eqb (statusOf status i) 1)
 -- the distance where it may not be negative, by the status
 unfoldable pub heldUp : ℤ → ℕ → ℤ
 heldUp d s = cond (eqb s 1) (pos 0) d
-
--- a grid of fit sides, and a status buffer of its size
-pub record Sized (s : Sides) (status : List ℕ) : Type 0 where
-  pub sides : fitSides s ≡ true
-  pub statuses : length status ≡ size s

@@ -5,8 +5,8 @@ ghost use lib.ListN.{length};
 ghost use Rattle.cells.specs.Groups.{any};
 ghost use Rattle.rules.specs.Grid.{size, range};
 ghost use Rattle.rules.specs.Machine.{unfitVoxel};
-ghost use Rattle.rules.specs.Fit.{Lent};
-ghost use Rattle.scans.specs.Scans.{unknownAt, heldUp, unheldAt, usedAt, usedBorderAt, Sized};
+ghost use Rattle.rules.specs.Fit.{Sized, Lent};
+ghost use Rattle.scans.specs.Scans.{unknownAt, heldUp, unheldAt, usedAt, usedBorderAt};
 use rules::Sides;
 
 // Some voxel has a status that is not 0, 1 or 3.
@@ -58,7 +58,7 @@ fn used_span(status: &[u8], first: usize, end: usize) -> bool
 
 // Some border voxel of a row has: its first or its last voxel, or any if the row lies on the border.
 fn used_row(s: Sides, status: &[u8], y: usize, z: usize) -> bool
-    requires { ⌜ Sized s (now status) × (y < s .b) × (z < s .c) ⌝ }
+    requires { ⌜ Sized s (length (now status)) × (y < s .b) × (z < s .c) ⌝ }
     ensures { λ r. ⌜ r ≡ any (usedBorderAt s (now (status .entry))) (range (s .a * (y + s .b * z)) (s .a)) ⌝ }
 {
     let first = s.a * (y + s.b * z);
@@ -70,7 +70,7 @@ fn used_row(s: Sides, status: &[u8], y: usize, z: usize) -> bool
 }
 
 fn used_layer(s: Sides, status: &[u8], z: usize) -> bool
-    requires { ⌜ Sized s (now status) × (z < s .c) ⌝ }
+    requires { ⌜ Sized s (length (now status)) × (z < s .c) ⌝ }
     ensures { λ r. ⌜ r ≡ any (usedBorderAt s (now (status .entry))) (range (s .a * (s .b * z)) (s .a * s .b)) ⌝ }
 {
     let b = s.b;
@@ -85,7 +85,7 @@ fn used_layer(s: Sides, status: &[u8], z: usize) -> bool
 
 // Some border voxel has a status other than 0.
 fn used_border(s: Sides, status: &[u8]) -> bool
-    requires { ⌜ Sized s (now status) ⌝ }
+    requires { ⌜ Sized s (length (now status)) ⌝ }
     ensures { λ r. ⌜ r ≡ any (usedBorderAt s (now (status .entry))) (range 0 (size s)) ⌝ }
 {
     let c = s.c;

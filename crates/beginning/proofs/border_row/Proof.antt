@@ -8,9 +8,9 @@ use borrow.Author.Needs.{sfits-of, needs}
 use mir.Facts.{toZ-ofZ}
 use Rattle.cells.specs.Groups.{any}
 use Rattle.rules.specs.Grid.{range, missing, measuredNegative}
+use Rattle.loops.proofs.Borders.{row-on-border, row-ends}
 use Rattle.loops.proofs.Orders.{getD-within}
 use Rattle.beginning.specs.Work.{negativeAt}
-use Rattle.beginning.proofs.Rows.{row-on-border, row-ends}
 use Rattle.beginning.proofs.border_row.Statement.{statement}
 use Rattle.beginning.proofs.border_row.Tie as tie
 

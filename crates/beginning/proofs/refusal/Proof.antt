@@ -14,7 +14,8 @@ use Rattle.rules.specs.Checks.{firstFailing}
 use Rattle.rules.specs.Marks.{strayMark, wrongMarks}
 use Rattle.rules.specs.Begin.{beginChecks}
 use Rattle.marks.proofs.Lent.{stray-is}
-use Rattle.beginning.specs.Work.{Sized, negativeAt}
+use Rattle.rules.specs.Fit.{Sized}
+use Rattle.beginning.specs.Work.{negativeAt}
 use Rattle.beginning.proofs.Calls.{turns, lengths, right-lengths, wrong-lengths, number-is}
 use borrow.Author.Needs.{needs}
 use Rattle.beginning.proofs.refusal.Statement.{statement}
@@ -72,7 +73,7 @@ right c =
     let d = c .before .if3 .left in
     right-lengths (a .sides) (a .values .now) (a .marks .now) (a .dist .now) (a .status .now) (omega arith) (omega arith) (omega (arith, c .if4 .left))
 
-sized : (c : tie.Else4) → Sized (lent c .args .sides) (lent c .args .values .now)
+sized : (c : tie.Else4) → Sized (lent c .args .sides) (length (lent c .args .values .now))
 sized c =
     let v = c .before .before in
     record { sides = fits (v .before .before); len = omega (arith, v .if2 .left, v .before .voxel-count .ensures .0) }

@@ -9,7 +9,7 @@ unknown-requires : tie.Need-unknown-requires
 unknown-requires c κs = search needs
 
 used-border-requires : tie.Need-used-border-requires
-used-border-requires c κs = let p = c .before .before .pre in record { sides = p .sides; statuses = p .statuses }
+used-border-requires c κs = let p = c .before .before .pre in record { sides = p .sides; len = p .statuses }
 
 unheld-requires : tie.Need-unheld-requires
 unheld-requires c κs = let p = c .before .before .before .pre in p .distances ∙ sym (p .statuses)

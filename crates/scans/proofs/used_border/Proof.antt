@@ -8,7 +8,7 @@ use Rattle.cells.specs.Groups.{any}
 use Rattle.rules.specs.Grid.{size, range}
 use Rattle.scans.specs.Scans.{usedBorderAt}
 use Rattle.prelude.proofs.Ranges.{any-run-none, scan-join}
-use Rattle.rules.proofs.Rows.{layers-more}
+use Rattle.scans.proofs.Borders.{layers-more}
 use Rattle.scans.proofs.used_border.Statement.{statement}
 use Rattle.scans.proofs.used_border.Tie as tie
 

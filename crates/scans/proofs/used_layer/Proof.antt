@@ -8,7 +8,8 @@ use Rattle.cells.specs.Groups.{any}
 use Rattle.rules.specs.Grid.{range}
 use Rattle.scans.specs.Scans.{usedBorderAt}
 use Rattle.prelude.proofs.Ranges.{any-run-none, scan-join}
-use Rattle.rules.proofs.Rows.{row-start, rows-more}
+use Rattle.loops.proofs.Rows.{rows-more}
+use Rattle.scans.proofs.Borders.{row-start}
 use Rattle.scans.proofs.used_layer.Statement.{statement}
 use Rattle.scans.proofs.used_layer.Tie as tie
 
