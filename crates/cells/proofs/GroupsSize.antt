@@ -1,14 +1,14 @@
--- Lists with no element twice; the groups of such a list have none twice, and as many elements as the list.
+-- Lists with no element twice; the groups of such a list have none twice.
 use mathlib.Core.Path.{_≡_, refl, ap, subst}
 use mathlib.Core.Logic.{_⊎_, inl, inr}
 use mathlib.Core.Bool.{Bool, true, false}
 use mathlib.Core.List.{List, [], _∷_, _++_}
 use Prim.Native.Nat.{ℕ, zero, suc, _+_, _≤_}
 use native.Mathlib.Omega.{arith}
-use lib.ListN.{length, getD, length-append}
+use lib.ListN.{length, getD}
 use Rattle.cells.specs.Groups.{any, consIf, filter, appendIf, reached, consUnless, others, enter, gather, groups}
-use Rattle.prelude.proofs.Lists.{Mem, here, there, mem-cons, mem-left, mem-right, mem-split, filter-mem, mem-filter}
-use Rattle.cells.proofs.Groups.{At, mem-none, groups-only}
+use Rattle.prelude.proofs.Lists.{Mem, here, there, mem-cons, mem-left, mem-right, mem-split, filter-mem}
+use Rattle.cells.proofs.Groups.{mem-none}
 
 -- ---- no element twice
 
@@ -77,18 +77,6 @@ flat [] = []
 flat (g ∷ gs) = g ++ flat gs
 
 module _ {A : Type 0} where
-  pub flat-at : (gs : List (List A)) (i : ℕ) (x : A) → At gs i x → Mem x (flat gs)
-  flat-at (g ∷ gs) zero x a = mem-left x g (flat gs) a
-  flat-at (g ∷ gs) (suc i) x a = mem-right x g (flat gs) (flat-at gs i x a)
-
-  pub at-flat : (gs : List (List A)) (x : A) → Mem x (flat gs) → (i : ℕ) × (At gs i x)
-  at-flat [] x m = absurd (mem-none m)
-  at-flat (g ∷ gs) x m = go (mem-split x g (flat gs) m) (λ m. at-flat gs x m)
-    where
-      go : (Mem x g) ⊎ (Mem x (flat gs)) → (Mem x (flat gs) → (i : ℕ) × (At gs i x)) → (i : ℕ) × (At (g ∷ gs) i x)
-      go (inl a) ih = (zero, a)
-      go (inr b) ih = let r = ih b in (suc (r .0), r .1)
-
   pub distinct-at : (gs : List (List A)) (i : ℕ) → Distinct (flat gs) → Distinct (getD gs i [])
   distinct-at [] i d = tt
   distinct-at (g ∷ gs) zero d = append-distinct g (flat gs) d .0
@@ -131,22 +119,6 @@ module _ {A : Type 0} (joined : A → A → Bool) where
             | inr a ↦ elim (mem-split y g (flat o) a) [ inl b ↦ mem-left y g (flat gs) b | inr b ↦ mem-right y g (flat gs) (ih (mem-right y r (flat o) b)) ]
           ]
 
-  split-length : (x : A) (gs : List (List A)) → length (split x gs) ≡ length (flat gs)
-  unfolding split reached others
-  split-length x [] = refl
-  split-length x (g ∷ gs) = go (any (joined x) g) (split-length x gs)
-    where
-      r : List A
-      r = reached joined x gs
-
-      o : List (List A)
-      o = others joined x gs
-
-      go : (t : Bool) → length (r ++ flat o) ≡ length (flat gs)
-          → length (appendIf joined t g r ++ flat (consUnless joined t g o)) ≡ length (g ++ flat gs)
-      go true e = omega (arith, length-append (g ++ r) (flat o), length-append g r, length-append r (flat o), length-append g (flat gs))
-      go false e = omega (arith, length-append r (g ++ flat o), length-append g (flat o), length-append r (flat o), length-append g (flat gs))
-
   split-distinct : (x : A) (gs : List (List A)) → Distinct (flat gs) → Distinct (split x gs)
   unfolding split reached others
   split-distinct x [] d = tt
@@ -172,11 +144,6 @@ module _ {A : Type 0} (joined : A → A → Bool) where
           (distinct-append g (flat o) (p .0) (q .1) (λ y a b. p .2 y a (sub y (mem-right y r (flat o) b))))
           (λ y a b. elim (mem-split y g (flat o) b) [ inl c ↦ p .2 y c (sub y (mem-left y r (flat o) a)) | inr c ↦ q .2 y a c ])
 
-  gather-length : (xs : List A) (gs : List (List A)) → length (flat (gather joined xs gs)) ≡ length xs + length (flat gs)
-  unfolding gather enter split
-  gather-length [] gs = omega arith
-  gather-length (x ∷ xs) gs = omega (arith, gather-length xs (enter joined x gs), split-length x gs)
-
   gather-distinct : (xs : List A) (gs : List (List A)) → Distinct xs → Distinct (flat gs) → ((x : A) → Mem x xs → Mem x (flat gs) → ⊥)
       → Distinct (flat (gather joined xs gs))
   unfolding gather enter split
@@ -188,18 +155,6 @@ module _ {A : Type 0} (joined : A → A → Bool) where
       none y a here = d .0 a
       none y a (there b) = f y (there a) (split-mem x gs y b)
 
-  -- the groups have as many elements as the list
-  pub groups-length : (xs : List A) → length (flat (groups joined xs)) ≡ length xs
-  unfolding groups
-  groups-length xs = omega (arith, gather-length xs [])
-
   pub groups-distinct : (xs : List A) → Distinct xs → Distinct (flat (groups joined xs))
   unfolding groups
   groups-distinct xs d = gather-distinct xs [] d tt (λ x a b. mem-none b)
-
-  -- the size of a group is the number of the list's elements that are in it
-  pub group-size : (xs : List A) → Distinct xs → (i : ℕ) (label : A → Bool) → ((x : A) → At (groups joined xs) i x → label x ≡ true)
-      → ((x : A) → Mem x xs → label x ≡ true → At (groups joined xs) i x) → length (getD (groups joined xs) i []) ≡ length (filter label xs)
-  group-size xs d i label f k =
-      distinct-length (getD (groups joined xs) i []) (filter label xs) (distinct-at (groups joined xs) i (groups-distinct xs d)) (distinct-filter label xs d)
-      (λ x a. mem-filter label xs x (groups-only joined xs i x a) (f x a)) (λ x m. let r = filter-mem label xs x m in k x (r .0) (r .1))

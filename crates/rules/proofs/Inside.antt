@@ -14,7 +14,7 @@ use Rattle.cells.specs.Groups.{filter, groups}
 use Rattle.cells.specs.Linked.{Linked, stay, step, OnePiece}
 use Rattle.prelude.proofs.Bools.{and-true, true-and, and-false, or-true, or-false, both-ways}
 use Rattle.prelude.proofs.Lists.{Mem, here, there, mem-cons, filter-mem, mem-filter}
-use Rattle.cells.proofs.Chains.{first-member, last-member, follow}
+use Rattle.cells.proofs.Chains.{last-member, follow}
 use Rattle.cells.proofs.Groups.{At, mem-none, at-lt, group-filled, group-of, group-member, group-linked, linked-group}
 use Rattle.cells.proofs.GroupsAre.{among-mem, mem-among, mem-getD, getD-mem}
 use Rattle.cells.proofs.GroupsSize.{Distinct, distinct-length, distinct-filter, distinct-at, groups-distinct}
@@ -324,14 +324,6 @@ found-is-inside s values test a i h =
     let b = inside-is-found s values (a .seed) (a .seeded) in
     both-ways (isIn (inside s values) i) (test i)
     (found-same s values (isIn (inside s values)) test b a i h) (found-same s values test (isIn (inside s values)) a b i h)
-
--- tests that find the groups of linked voxels find equally many
-pub linked-found : (s : Sides) (values : List ℤ) (v w : ℕ) (p q : ℕ → Bool) → GroupOf s values v p → GroupOf s values w q
-    → Linked (negative s values) (touch s) v w → found s p ≡ found s q
-unfolding Near
-linked-found s values v w p q a b l =
-    let r = all-of s values v (first-member l) in
-    found-size s values (r .0) v p (r .1) a ∙ sym (found-size s values (r .0) w q (all-whole s values (r .0) v w l (r .1)) b)
 
 -- ---- what S is to others
 
