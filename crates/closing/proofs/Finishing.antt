@@ -5,20 +5,12 @@ use mathlib.Core.List.{List, map}
 use Prim.Native.Nat.{ℕ}
 use lib.IntN.{ℤ}
 use lib.ListN.{length}
-use Rattle.cells.specs.Groups.{any}
 use Rattle.rules.specs.declared.Record.{Record}
 use Rattle.rules.specs.Answer.{done, outcome, buffers}
 use Rattle.rules.specs.Grid.{size, range, voxels}
-use Rattle.rules.specs.Status.{isPending, anyPending}
 use Rattle.rules.specs.Machine.{State, closedAt, asFinished, finishedOf}
 
 module _ (g : State) where
-  pub any-pending-is :
-      length (g .status) ≡ size (g .rec .sides)
-      → any (isPending (g .status)) (range 0 (length (g .status))) ≡ anyPending (g .rec .sides) (g .status)
-  unfolding anyPending voxels
-  any-pending-is e = ap (λ (n : ℕ). any (isPending (g .status)) (range 0 n)) e
-
   pub finished-is :
       (dist : List ℤ) (next : Record)
       → length (g .status) ≡ size (g .rec .sides)

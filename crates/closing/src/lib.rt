@@ -1,10 +1,8 @@
-// Finish, of document 01's carving machine: whether a voxel is pending, and the distances of a finished grid.
+// Finish, of document 01's carving machine: the distances of a finished grid.
 ghost use mathlib.Core.Path.{_≡_};
 ghost use mathlib.Core.List.{map};
 ghost use lib.ListN.{length};
-ghost use Rattle.cells.specs.Groups.{any};
 ghost use Rattle.rules.specs.Grid.{range};
-ghost use Rattle.rules.specs.Status.{isPending};
 ghost use Rattle.rules.specs.Answer.{outcome, buffers, finishedAnswer};
 ghost use Rattle.rules.specs.Checks.{firstFailing};
 ghost use Rattle.rules.specs.Machine as machine;
@@ -13,13 +11,6 @@ ghost use Rattle.rules.specs.Fit.{Lent};
 ghost use Rattle.closing.specs.Closing.{closedIf};
 use rules::Finished;
 use rules::Record;
-
-// Some voxel is pending.
-pub fn any_pending(status: &[u8]) -> bool
-    ensures { λ r. ⌜ r ≡ any (isPending (now (status .entry))) (range 0 (length (now (status .entry)))) ⌝ }
-{
-    status::is_pending(loops::joined(status, 0, status.len()))
-}
 
 // A kept voxel's distance is negative.
 fn closed_value(d: i32, x: u8) -> i32
@@ -58,7 +49,7 @@ fn quiet_refusal(given: Record, dist: &[i32], status: &[u8]) -> u8
     if n != 0 {
         return n;
     }
-    if any_pending(status) {
+    if fitness::any_pending(status) {
         return 13;
     }
     0

@@ -1,8 +1,12 @@
--- The number of a call with marks, by what the code found.
-use mathlib.Core.Bool.{Bool, cond, _&&_}
-use Prim.Native.Nat.{ℕ, _%_}
-use lib.Dec.{eqb}
+-- Checks 1 and 2 by themselves.
+use mathlib.Core.Bool.{not}
+use mathlib.Core.List.{List, [], _∷_}
+use Rattle.rules.specs.Grid.{fitSides}
+use Rattle.rules.specs.Checks.{Check, _when_}
+use Rattle.rules.specs.Machine.{State, wrongLength}
 
--- n is the number of checks 1, 2 and 7: 2 comes before 7, so that a wrong length of marks speaks where n is 0 or 7
-unfoldable pub markedNumber : ℕ → Bool → Bool → Bool → ℕ
-markedNumber n wrong stray finished = cond (wrong && eqb (n % 7) 0) 2 (cond (eqb n 0) (cond stray 29 (cond finished 8 0)) n)
+abbrev pub lentChecks : State → List Check
+lentChecks g =
+    1 when not (fitSides (g .rec .sides))
+    ∷ 2 when wrongLength g
+    ∷ []

@@ -19,7 +19,7 @@ fn open_refusal(given: Record, dist: &[i32], marks: &[u8], status: &[u8]) -> u8
     if n != 0 {
         return n;
     }
-    if closing::any_pending(status) {
+    if fitness::any_pending(status) {
         return 13;
     }
     let allowed = given.allowed as u32;

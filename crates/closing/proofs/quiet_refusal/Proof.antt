@@ -7,7 +7,7 @@ use Rattle.rules.specs.Status.{anyPending}
 use Rattle.rules.specs.Checks.{firstFailing}
 use Rattle.rules.proofs.Checks.{fails-first, holds-first, all-hold, refused-first, held-first}
 use Rattle.rules.proofs.Fit.{working}
-use Rattle.closing.proofs.Finishing.{any-pending-is}
+use Rattle.fitness.proofs.Pending.{any-pending-is}
 use Rattle.closing.proofs.quiet_refusal.Statement.{statement}
 use Rattle.closing.proofs.quiet_refusal.Tie as tie
 

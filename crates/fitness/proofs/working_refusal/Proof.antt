@@ -1,10 +1,10 @@
 -- `fitness::working_refusal` meets its contract: the checks of a state, then number 8.
-use mathlib.Core.Path.{refl, sym}
+use mathlib.Core.Path.{refl}
 use mathlib.Core.List.{List, [], _∷_}
 use borrow.Author.Needs.{needs}
 use Rattle.rules.specs.Checks.{Check, _when_, firstFailing}
 use Rattle.rules.specs.Machine.{State, state, stateChecks}
-use Rattle.rules.proofs.Checks.{fails-first, holds-first, refused-first, held-first}
+use Rattle.rules.proofs.Checks.{refused-first, held-first}
 use Rattle.fitness.proofs.working_refusal.Statement.{statement}
 use Rattle.fitness.proofs.working_refusal.Tie as tie
 
@@ -24,18 +24,15 @@ returns c =
     let g = lent-to (r .before .before) in
     refused-first (stateChecks g) (last g) _ (r .refusal .ensures) (c .if1 .taken)
 
+worked-refusal-requires : tie.Need-worked-refusal-requires
+worked-refusal-requires c κs = search needs
+
 returns-2 : tie.Need-returns-2
+unfolding firstFailing
 returns-2 c =
     let r = c .before .before in
     let g = lent-to (r .before .before) in
-    held-first (stateChecks g) (last g) _ (r .refusal .ensures) refl (c .before .if1 .left) 8 (sym (fails-first 8 _ [] (c .if2 .taken)))
-
-returns-3 : tie.Need-returns-3
-unfolding firstFailing
-returns-3 c =
-    let r = c .before .before in
-    let g = lent-to (r .before .before) in
-    held-first (stateChecks g) (last g) _ (r .refusal .ensures) refl (c .before .if1 .left) 0 (sym (holds-first 8 _ [] (c .if2 .left)))
+    held-first (stateChecks g) (last g) _ (r .refusal .ensures) refl (c .before .if1 .left) _ (c .worked-refusal .ensures)
 
 pub working-refusal-spec : {M : Type 1} → statement M
-working-refusal-spec = tie.close (tie.spec refusal-requires returns returns-2 returns-3)
+working-refusal-spec = tie.close (tie.spec refusal-requires returns worked-refusal-requires returns-2)

@@ -9,7 +9,7 @@ use Rattle.rules.specs.Machine.{State, state, markedChecks, quietChecks}
 use Rattle.rules.specs.Checks.{Check, _when_, firstFailing}
 use Rattle.rules.proofs.Checks.{fails-first, holds-first, held-none, refused-first, held-first}
 use Rattle.rules.proofs.Fit.{marking}
-use Rattle.closing.proofs.Finishing.{any-pending-is}
+use Rattle.fitness.proofs.Pending.{any-pending-is}
 use Rattle.opening.proofs.open_refusal.Statement.{statement}
 use Rattle.opening.proofs.open_refusal.Tie as tie
 

@@ -1,4 +1,4 @@
--- `closing::any_pending` meets its contract: bit 1 of all statuses joined.
+-- `fitness::any_pending` meets its contract: bit 1 of all statuses joined.
 use borrow.Author.Needs.{needs}
 use native.Mathlib.Omega.{arith}
 use mathlib.Core.Path.{_≡_, refl, ap, _∙_}
@@ -9,8 +9,8 @@ use Rattle.rules.specs.Grid.{range}
 use Rattle.rules.specs.Status.{pendingByte, isPending}
 use Rattle.loops.specs.Joined.{BitTest}
 use Rattle.status.proofs.Bytes.{pending-or}
-use Rattle.closing.proofs.any_pending.Statement.{statement}
-use Rattle.closing.proofs.any_pending.Tie as tie
+use Rattle.fitness.proofs.any_pending.Statement.{statement}
+use Rattle.fitness.proofs.any_pending.Tie as tie
 
 pending-test : BitTest pendingByte
 unfolding pendingByte
