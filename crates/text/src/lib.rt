@@ -3,8 +3,8 @@
 ghost use mathlib.Core.Path.{_≡_};
 ghost use mathlib.Core.List.{_∷_, _++_};
 ghost use Prim.Native.Nat.{_+_, _≤_, _<_};
-ghost use lib.ListN.{length};
-ghost use Rattle.text.specs.Line.{refusedLine, number, signedNumber, lineText};
+ghost use lib.ListN.{length, drop};
+ghost use Rattle.text.specs.Line.{refusedLine, number, signedNumber, eulerWord, lineText};
 ghost use Rattle.text.specs.Written.{Written, Before, summaryLine, printed};
 
 // What is said of a grid that was carved.
@@ -85,13 +85,21 @@ fn put_refused(out: &mut [u8], n: u8) -> usize
     put_field(out, end, b"refused ", n as u64)
 }
 
+// The end of the line: the Euler number.
+fn put_euler(out: &mut [u8], n: i32) -> usize
+    requires { ⌜ length (now out) ≡ 160 ⌝ }
+    ensures { λ r. ⌜ Written 29 160 r (now (out .entry)) (now (out .exit)) (eulerWord ++ signedNumber n (0x0A ∷ drop 160 (now (out .entry)))) ⌝ }
+{
+    let end = put(out, 160, b'\n');
+    let number = put_signed(out, end, n);
+    put_word(out, number, b" euler ")
+}
+
 fn put_carved(out: &mut [u8], s: Summary) -> usize
     requires { ⌜ length (now out) ≡ 160 ⌝ }
     ensures { λ r. ⌜ Written 141 160 r (now (out .entry)) (now (out .exit)) (lineText (summaryLine s)) ⌝ }
 {
-    let end = put(out, 160, b'\n');
-    let number = put_signed(out, end, s.euler);
-    let euler = put_word(out, number, b" euler ");
+    let euler = put_euler(out, s.euler);
     let examined = put_field(out, euler, b" examined ", s.examined);
     let opened = put_field(out, examined, b" opened ", s.opened);
     let removed = put_field(out, opened, b" removed ", s.removed);
