@@ -7,7 +7,7 @@ use native.Mathlib.Nat.{mul-le-mul}
 use lib.IntN.{ℤ}
 use lib.ListN.{length}
 use Rattle.rules.specs.Grid.{size}
-use Rattle.rules.proofs.Places.{fit}
+use Rattle.rules.proofs.Places.{Fit, fit}
 use Rattle.rules.specs.Fill.{filled}
 use Rattle.rules.specs.Fit.{Beginnable}
 use Rattle.rules.proofs.Fill.{beginnable-filled}
@@ -31,21 +31,23 @@ used s = filled (s .args .sides) (s .args .values .now)
 accepted : (s : tie.Start) → Beginnable (s .args .sides) (used s)
 accepted s = beginnable-filled (s .args .sides) (s .args .values .now) (s .pre .grid)
 
+fits : (s : tie.Start) → Fit (s .args .sides)
+fits s = fit (s .args .sides) (s .pre .grid .sides)
+
 abbrev labelled : tie.After-struct-known → tie.After-label
 labelled c = c .before .before .before .before
 
 mul-ab : tie.Need-mul-ab
-mul-ab c = let s = begun (labelled c) in let F = fit (s .args .sides) (s .pre .grid .sides) in omega (arith, mul-le-mul (F .a-high) (F .b-high))
+mul-ab c = let F = fits (begun (labelled c)) in omega (arith, mul-le-mul (F .a-high) (F .b-high))
 
 touching-requires : tie.Need-touching-requires
-touching-requires c κs = let s = begun (labelled c) in let F = fit (s .args .sides) (s .pre .grid .sides) in (F .a-high, mul-le-mul (F .a-high) (F .b-high))
+touching-requires c κs = let F = fits (begun (labelled c)) in (F .a-high, mul-le-mul (F .a-high) (F .b-high))
 
 add-back : tie.Need-add-back
-add-back c = let s = begun (labelled (c .before .before)) in let F = fit (s .args .sides) (s .pre .grid .sides) in omega (arith, F .a-high)
+add-back c = let F = fits (begun (labelled (c .before .before))) in omega (arith, F .a-high)
 
 add-back-2 : tie.Need-add-back-2
-add-back-2 c =
-    let s = begun (labelled (c .before .before)) in let F = fit (s .args .sides) (s .pre .grid .sides) in omega (arith, F .a-high, mul-le-mul (F .a-high) (F .b-high))
+add-back-2 c = let F = fits (begun (labelled (c .before .before))) in omega (arith, F .a-high, mul-le-mul (F .a-high) (F .b-high))
 
 slice-aggregate-largest : tie.Need-slice-aggregate-largest
 slice-aggregate-largest c = search needs

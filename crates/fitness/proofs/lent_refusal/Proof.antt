@@ -15,15 +15,21 @@ use Rattle.fitness.proofs.lent_refusal.Tie as tie
 abbrev lent-to : tie.Start → State
 lent-to c = state (c .args .given) (c .args .dist .now) (c .args .status .now)
 
+abbrev begun : tie.After-fit-sides → tie.Start
+begun c = c .before .before .before
+
+abbrev counted : tie.After-voxel-count → tie.Start
+counted c = begun (c .before .before)
+
 fit-sides-requires : tie.Need-fit-sides-requires
 fit-sides-requires c κs = search needs
 
 returns : tie.Need-returns
 returns c =
     let f = c .before in
-    sym (sides-refused (lent-to (f .before .before .before)) (sym (f .fit-sides .ensures) ∙ not-true _ (c .if1 .taken)))
+    sym (sides-refused (lent-to (begun f)) (sym (f .fit-sides .ensures) ∙ not-true _ (c .if1 .taken)))
 
-fits : (c : tie.Else1) → fitSides (c .before .before .before .before .args .given .sides) ≡ true
+fits : (c : tie.Else1) → fitSides (begun (c .before) .args .given .sides) ≡ true
 fits c = sym (c .before .fit-sides .ensures) ∙ not-false _ (c .if1 .left)
 
 voxel-count-requires : tie.Need-voxel-count-requires
@@ -32,15 +38,15 @@ voxel-count-requires c κs = fits c
 returns-2 : tie.Need-returns-2
 returns-2 c =
     let n = c .before in
-    sym (length-refused (lent-to (n .before .before .before .before .before)) (fits (n .before)) (λ d s. c .if2 .taken (d ∙ sym (n .voxel-count .ensures .0))))
+    sym (length-refused (lent-to (counted n)) (fits (n .before)) (λ d s. c .if2 .taken (d ∙ sym (n .voxel-count .ensures .0))))
 
 returns-3 : tie.Need-returns-3
 returns-3 c =
     let n = c .before .before in
-    sym (length-refused (lent-to (n .before .before .before .before .before)) (fits (n .before)) (λ d s. c .if3 .taken (s ∙ sym (n .voxel-count .ensures .0))))
+    sym (length-refused (lent-to (counted n)) (fits (n .before)) (λ d s. c .if3 .taken (s ∙ sym (n .voxel-count .ensures .0))))
 
 abbrev start : tie.Else3 → tie.Start
-start c = c .before .before .before .before .before .before .before
+start c = counted (c .before .before)
 
 lent : (c : tie.Else3) → let a = start c .args in Lent (a .given .sides) (a .dist .now) (a .status .now)
 lent c =

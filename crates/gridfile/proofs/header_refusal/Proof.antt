@@ -13,22 +13,31 @@ use Rattle.format.proofs.Headers.{fitUpTo-fits}
 use Rattle.gridfile.proofs.header_refusal.Statement.{statement}
 use Rattle.gridfile.proofs.header_refusal.Tie as tie
 
+abbrev begun : tie.Else1 → tie.Start
+begun c = c .before .before
+
+abbrev at-tag : tie.Else2 → tie.Start
+at-tag c = begun (c .before .before)
+
+abbrev at-sides : tie.After-fit-up-to → tie.Start
+at-sides c = at-tag (c .before .before)
+
 -- the checks, by what the code found at each
-enough : (c : tie.Else1) → ltb (length (c .before .before .args .file .now)) 7 ≡ false
+enough : (c : tie.Else1) → ltb (length (begun c .args .file .now)) 7 ≡ false
 enough c = le-ltb _ 7 (c .if1 .left)
 
-right : (c : tie.Else2) → tagged 0x48 (c .before .before .before .before .args .file .now) 0 ≡ true
+right : (c : tie.Else2) → tagged 0x48 (at-tag c .args .file .now) 0 ≡ true
 right c = sym (c .before .is-tagged .ensures) ∙ not-false _ (c .if2 .left)
 
-fit : (c : tie.After-fit-up-to) → let a = c .before .before .before .before .before .before .args in
+fit : (c : tie.After-fit-up-to) → let a = at-sides c .args in
     fitUpTo (a .greatest) (sidesIn (a .file .now)) ≡ c .fit-up-to .result
 fit c = sym (c .fit-up-to .ensures ∙ ap (fitUpTo _) (c .before .sides-in .ensures))
 
-fits : (c : tie.Else3) → let a = c .before .before .before .before .before .before .before .args in
+fits : (c : tie.Else3) → let a = at-sides (c .before) .args in
     fitUpTo (a .greatest) (sidesIn (a .file .now)) ≡ true
 fits c = fit (c .before) ∙ not-false (c .before .fit-up-to .result) (c .if3 .left)
 
-count : (c : tie.After-voxel-count) → let a = c .before .before .before .before .before .before .before .before .args in
+count : (c : tie.After-voxel-count) → let a = at-sides (c .before .before) .args in
     c .voxel-count .result ≡ size (sidesIn (a .file .now))
 count c = c .voxel-count .ensures .0 ∙ ap size (c .before .before .before .sides-in .ensures)
 
@@ -44,7 +53,7 @@ unfolding firstFailing
 returns-2 c =
     let t = c .before in
     let e = t .before in
-    let wrong : tagged 0x48 (e .before .before .args .file .now) 0 ≡ false = sym (t .is-tagged .ensures) ∙ not-true (t .is-tagged .result) (c .if2 .taken) in
+    let wrong : tagged 0x48 (begun e .args .file .now) 0 ≡ false = sym (t .is-tagged .ensures) ∙ not-true (t .is-tagged .result) (c .if2 .taken) in
     simp (enough e, wrong)
 
 sides-in-requires : tie.Need-sides-in-requires
@@ -68,7 +77,7 @@ returns-4 c =
     let n = c .before in
     let f = n .before in
     let t = f .before .before .before in
-    let a = t .before .before .before .before .args in
+    let a = at-tag t .args in
     let wrong : eqb (a .lent) (size (sidesIn (a .file .now))) ≡ false = ne-eqb _ _ (λ e. c .if4 .taken (e ∙ sym (count n))) in
     simp (enough (t .before .before), right t, fits f, wrong)
 
@@ -78,7 +87,7 @@ returns-5 c =
     let n = c .before in
     let f = n .before in
     let t = f .before .before .before in
-    let a = t .before .before .before .before .args in
+    let a = at-tag t .args in
     let right-size : eqb (a .lent) (size (sidesIn (a .file .now))) ≡ true = eq-eqb _ _ (c .if4 .left ∙ count n) in
     simp (enough (t .before .before), right t, fits f, right-size)
 

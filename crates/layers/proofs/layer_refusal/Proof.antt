@@ -14,33 +14,39 @@ use Rattle.format.proofs.WidthAt.{wrong-mark}
 use Rattle.layers.proofs.layer_refusal.Statement.{statement}
 use Rattle.layers.proofs.layer_refusal.Tie as tie
 
+abbrev begun : tie.After-width-at → tie.Start
+begun c = c .before .before
+
+abbrev measured : tie.Else1 → tie.After-width-at
+measured c = c .before .before .before
+
 -- the checks, by what the code found at each
 short : (c : tie.After-is-short) →
-    let a = c .before .before .before .before .args in
+    let a = begun (c .before .before) .args in
     ltb (length (a .file .now)) (a .start + recordLength (a .sides) (a .file .now) (a .start)) ≡ c .is-short .result
 short c =
     let l = c .before in
     let w = l .before in
-    let a = w .before .before .args in
+    let a = begun w .args in
     sym (c .is-short .ensures
     ∙ ap (λ (k : ℕ). ltb (length (a .file .now)) (a .start + k)) (l .layer-length .ensures .0 ∙ ap (layerLength (a .sides)) (w .width-at .ensures .0)))
 
 enough : (c : tie.Else1) →
-    let a = c .before .before .before .before .before .args in
+    let a = begun (measured c) .args in
     ltb (length (a .file .now)) (a .start + recordLength (a .sides) (a .file .now) (a .start)) ≡ false
 enough c = short (c .before) ∙ c .if1 .left
 
 whole : (c : tie.Else1) →
-    let a = c .before .before .before .before .before .args in a .start + recordLength (a .sides) (a .file .now) (a .start) ≤ length (a .file .now)
+    let a = begun (measured c) .args in a .start + recordLength (a .sides) (a .file .now) (a .start) ≤ length (a .file .now)
 whole c = ltb-false _ _ (enough c)
 
 wrong : (c : tie.After-is-tagged) →
-    let w = c .before .before .before .before in
-    let a = w .before .before .args in
+    let w = measured (c .before) in
+    let a = begun w .args in
     not (tagged narrowKind (a .file .now) (a .start) || tagged wideKind (a .file .now) (a .start)) ≡ eqb (w .width-at .result) 2 && not (c .is-tagged .result)
 wrong c =
-    let w = c .before .before .before .before in
-    let a = w .before .before .args in
+    let w = measured (c .before) in
+    let a = begun w .args in
     wrong-mark (a .file .now) (a .start) ∙ sym (ap₂ (λ (k : ℕ) (t : Bool). eqb k 2 && not t) (w .width-at .ensures .0) (c .is-tagged .ensures))
 
 width-at-requires : tie.Need-width-at-requires
@@ -71,7 +77,7 @@ shared-slice-read-if3 c = omega (arith, whole (c .before .before .before))
 
 cast-if3 : tie.Need-cast-if3
 cast-if3 c =
-    let a = c .before .before .before .before .before .before .before .before .args in
+    let a = begun (measured (c .before .before .before)) .args in
     omega (arith, c .shared-slice-known2 .given (a .start + 2))
 
 returns-3 : tie.Need-returns-3

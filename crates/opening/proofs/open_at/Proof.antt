@@ -15,33 +15,42 @@ use Rattle.opening.proofs.open_at.Tie as tie
 abbrev lent-to : tie.Start → State
 lent-to c = state (c .args .given) (c .args .dist .now) (c .args .status .now)
 
+abbrev lent : tie.After-groups-at-arg → tie.Start
+lent c = c .before .before .before .before
+
+abbrev begun : tie.After-groups-at → tie.Start
+begun c = lent (c .before)
+
+abbrev tested : tie.After-slice-known2 → tie.After-groups-at
+tested c = c .before .before .before .before
+
 groups-at-requires : tie.Need-groups-at-requires
 groups-at-requires c κs =
-    let s = c .before .before .before .before in
+    let s = lent c in
     let r = open-removable (s .args .marks .now) (s .args .i) (lent-to s) (s .pre) in
     (r .voxel, r .statuses)
 
 remove-requires : tie.Need-remove-requires
 remove-requires c κs =
-    let s = c .before .before .before .before .before .before in
+    let s = begun (c .before) in
     open-removable (s .args .marks .now) (s .args .i) (lent-to s) (s .pre)
 
 change-requires : tie.Need-change-requires
 change-requires c κs =
-    let t = c .before .before .before .before in
-    let s = t .before .before .before .before .before in
+    let t = tested c in
+    let s = begun t in
     few (lent-to s) (s .args .i) (t .groups-at .result) (t .groups-at .ensures)
 
 -- the change as the machine holds it
 changed :
     (c : tie.After-change)
-    → let t = c .before .before .before .before .before .groups-at .result in toZ w32 (ofZ w32 (c .change .result)) ≡ pos (t .k) -ℤ pos (t .m)
+    → let t = tested (c .before) .groups-at .result in toZ w32 (ofZ w32 (c .change .result)) ≡ pos (t .k) -ℤ pos (t .m)
 changed c = toZ-ofZ (sfits-of (c .change .ok)) ∙ c .change .ensures
 
 counted-requires : tie.Need-counted-requires
 counted-requires c κs =
-    let t = c .before .before .before .before .before in
-    let s = t .before .before .before .before .before in
+    let t = tested (c .before) in
+    let s = begun t in
     countable-open (lent-to s) (s .args .i) (t .groups-at .result) (t .groups-at .ensures) (s .args .marks .now) (s .pre) _ (changed c)
 
 same-length : tie.Need-same-length
@@ -52,7 +61,7 @@ returns c =
     let h = c .before in
     let r = h .before .before .before in
     let t = r .before .before in
-    let s = t .before .before .before .before .before in
+    let s = begun t in
     opened-is (mayGo (marked (s .args .marks .now)) (lent-to s .dist)) (lent-to s) (s .args .i) (t .groups-at .result) _ _ _ (t .groups-at .ensures)
     (c .counted .ensures) (changed h) (r .remove .ensures)
 

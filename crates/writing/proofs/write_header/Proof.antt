@@ -13,6 +13,9 @@ use Rattle.writing.proofs.write_header.Tie as tie
 room : (c : tie.Start) → 7 ≤ length (c .args .file .now)
 room c = c .pre .1
 
+abbrev begun : tie.After-struct-known3 → tie.Start
+begun c = c .before .before .before .before
+
 slice-write-file : tie.Need-slice-write-file
 slice-write-file c = search needs
 
@@ -32,23 +35,24 @@ slice-write-file-4 : tie.Need-slice-write-file-4
 slice-write-file-4 c = simp length-set (omega (arith, room (c .before .before .before)))
 
 cast-file-3 : tie.Need-cast-file-3
-cast-file-3 c = let f = fit _ (c .before .before .before .before .pre .0) in record { fits = omega (arith, f .a-high, f .b-high, f .c-high) }
+cast-file-3 c = let f = fit _ (begun c .pre .0) in record { fits = omega (arith, f .a-high, f .b-high, f .c-high) }
 
 slice-write-file-5 : tie.Need-slice-write-file-5
-slice-write-file-5 c = simp length-set (omega (arith, room (c .before .before .before .before)))
+slice-write-file-5 c = simp length-set (omega (arith, room (begun c)))
 
 put-word-requires : tie.Need-put-word-requires
-put-word-requires c κs = (inl refl, simp length-set (omega (arith, room (c .before .before .before .before .before))), search needs)
+put-word-requires c κs = (inl refl, simp length-set (omega (arith, room (begun (c .before)))), search needs)
 
 returns : tie.Need-returns
 returns c =
     let w = c .before .before in
-    let s = w .before .before .before .before .before .before in
+    let s = begun (w .before .before) in
     w .put-word .ensures ∙ rw (is-spread 0 7 (s .args .file .now) (room s))
 
 same-length : tie.Need-same-length
 same-length c =
-    let s = c .before .before .before .before .before .before .before .before in
+    let w = c .before .before in
+    let s = begun (w .before .before) in
     ap length (returns c) ∙ omega (arith, length-drop 7 (s .args .file .now), room s)
 
 pub write-header-spec : {M : Type 1} → statement M

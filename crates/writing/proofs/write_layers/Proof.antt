@@ -19,25 +19,37 @@ Inv-loop sides width values file₀ count total start₀ z₀ file start z = Lai
 abbrev μ-loop : tie.MeasureT-loop
 μ-loop sides width values file₀ count total start₀ z₀ file start z = sides .c - z
 
+abbrev looping : tie.Then1 Inv-loop μ-loop → tie.At-loop Inv-loop μ-loop
+looping c = c .before .before
+
+abbrev measured : tie.At-loop Inv-loop μ-loop → tie.After-area Inv-loop μ-loop
+measured c = c .before .before
+
+abbrev begun : tie.After-area Inv-loop μ-loop → tie.Start Inv-loop μ-loop
+begun c = c .before .before
+
+abbrev turned : tie.After-slice-known2 Inv-loop μ-loop → tie.Then1 Inv-loop μ-loop
+turned c = c .before .before .before .before .before
+
 -- in the loop: where the layer lies among the values, and its record in the file
-room : (c : tie.Then1 Inv-loop μ-loop) → let l = c .before .before in let n = l .before .before .area .result in
-    l .loop .z * n + n ≤ size (c .before .before .before .before .before .before .args .sides)
-room c = layer-room _ _ _ (c .before .before .before .before .area .ensures .0) (c .if1 .taken)
+room : (c : tie.Then1 Inv-loop μ-loop) → let l = looping c in let m = measured l in let n = m .area .result in
+    l .loop .z * n + n ≤ size (begun m .args .sides)
+room c = layer-room _ _ _ (measured (looping c) .area .ensures .0) (c .if1 .taken)
 
-below : (c : tie.Then1 Inv-loop μ-loop) → let l = c .before .before in
-    l .loop .z * l .before .before .area .result ≡ l .loop .z * area (l .before .before .before .before .args .sides)
-below c = ap (λ (n : ℕ). c .before .before .loop .z * n) (c .before .before .before .before .area .ensures .0)
+below : (c : tie.Then1 Inv-loop μ-loop) → let l = looping c in let m = measured l in
+    l .loop .z * m .area .result ≡ l .loop .z * area (begun m .args .sides)
+below c = let l = looping c in ap (λ (n : ℕ). l .loop .z * n) (measured l .area .ensures .0)
 
-small : (c : tie.Then1 Inv-loop μ-loop) → size (c .before .before .before .before .before .before .args .sides) ≤ 262144
-small c = size-small _ (c .before .before .loop .inv .ready .fits)
+small : (c : tie.Then1 Inv-loop μ-loop) → size (begun (measured (looping c)) .args .sides) ≤ 262144
+small c = size-small _ (looping c .loop .inv .ready .fits)
 
-record-room : (c : tie.Then1 Inv-loop μ-loop) → let l = c .before .before in l .loop .start + l .before .layer-length .result ≤ length (l .loop .file)
-record-room c = let l = c .before .before in laid-room _ _ _ _ _ _ _ (l .loop .inv) _ (c .if1 .taken) (l .before .layer-length .ensures .0)
+record-room : (c : tie.Then1 Inv-loop μ-loop) → let l = looping c in l .loop .start + l .before .layer-length .result ≤ length (l .loop .file)
+record-room c = let l = looping c in laid-room _ _ _ _ _ _ _ (l .loop .inv) _ (c .if1 .taken) (l .before .layer-length .ensures .0)
 
 -- no sum overflows
-record-end : (c : tie.Then1 Inv-loop μ-loop) → let l = c .before .before in l .loop .start + l .before .layer-length .result ≤ 1048775
+record-end : (c : tie.Then1 Inv-loop μ-loop) → let l = looping c in l .loop .start + l .before .layer-length .result ≤ 1048775
 record-end c =
-    let l = c .before .before in
+    let l = looping c in
     let e = l .before .layer-length .ensures in
     laid-end _ _ _ _ _ _ _ (l .loop .inv) _ (c .if1 .taken) (e .0) (e .1)
 
@@ -54,7 +66,7 @@ mul-at : tie.Need-mul-at Inv-loop μ-loop
 mul-at c = omega (arith, room c, small c)
 
 cast-write-layer : tie.Need-cast-write-layer Inv-loop μ-loop
-cast-write-layer c = omega (arith, c .if1 .taken, fit _ (c .before .before .loop .inv .ready .fits) .c-high)
+cast-write-layer c = omega (arith, c .if1 .taken, fit _ (looping c .loop .inv .ready .fits) .c-high)
 
 add-write-layer : tie.Need-add-write-layer Inv-loop μ-loop
 add-write-layer c = omega (arith, room c, small c)
@@ -69,7 +81,7 @@ part-write-layer-start : tie.Need-part-write-layer-start Inv-loop μ-loop
 part-write-layer-start c = search needs
 
 part-write-layer-end : tie.Need-part-write-layer-end Inv-loop μ-loop
-part-write-layer-end c = omega (arith, room c, c .before .before .loop .inv .ready .long)
+part-write-layer-end c = omega (arith, room c, looping c .loop .inv .ready .long)
 
 add-write-layer-2 : tie.Need-add-write-layer-2 Inv-loop μ-loop
 add-write-layer-2 c = omega (arith, record-end (c .before))
@@ -86,26 +98,26 @@ part-write-layer-end-2 c = omega (arith, record-room (c .before))
 write-layer-requires : tie.Need-write-layer-requires Inv-loop μ-loop
 write-layer-requires c κs =
     let t = c .before .before in
-    let l = t .before .before in
-    let e = l .before .before .area .ensures .0 in
+    let l = looping t in
+    let e = measured l .area .ensures .0 in
     laid-part _ _ _ _ _ _ _ (l .loop .inv) _ _ _ (t .if1 .taken) (below t) e (l .before .layer-length .ensures .0)
 
 add-start : tie.Need-add-start Inv-loop μ-loop
-add-start c = omega (arith, record-end (c .before .before .before .before .before))
+add-start c = omega (arith, record-end (turned c))
 
 add-z : tie.Need-add-z Inv-loop μ-loop
 add-z c =
-    let t = c .before .before .before .before .before in
-    omega (arith, t .if1 .taken, fit _ (t .before .before .loop .inv .ready .fits) .c-high)
+    let t = turned c in
+    omega (arith, t .if1 .taken, fit _ (looping t .loop .inv .ready .fits) .c-high)
 
 loop-less : tie.Need-loop-less Inv-loop μ-loop
-loop-less c = omega (arith, c .before .before .before .before .before .if1 .taken)
+loop-less c = omega (arith, turned c .if1 .taken)
 
 loop-again : tie.Need-loop-again Inv-loop μ-loop
 loop-again c =
-    let t = c .before .before .before .before .before in
-    let l = t .before .before in
-    let e = l .before .before .area .ensures .0 in
+    let t = turned c in
+    let l = looping t in
+    let e = measured l .area .ensures .0 in
     laid-next _ _ _ _ _ _ _ (l .loop .inv) _ _ _ (t .if1 .taken) (omega (arith, below t)) e (l .before .layer-length .ensures .0) _
     (c .before .before .write-layer .ensures)
 
