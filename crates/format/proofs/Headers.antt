@@ -12,7 +12,7 @@ use Rattle.rules.specs.declared.Sides.{Sides}
 use Rattle.rules.specs.Grid.{fitSides, size}
 use Rattle.rules.specs.Checks.{Check, unless, numbered, AllHold}
 use Rattle.rules.specs.Answer.{Reply, refused, done, untouched}
-use Rattle.rules.proofs.Checks.{by-checks, unless-held, numbered-append, hold-append}
+use Rattle.rules.proofs.Checks.{by-checks, unless-held, numbered-append, hold-append, held-at}
 use Rattle.format.specs.Patch.{patchesChecks}
 use Rattle.format.specs.File.{sidesIn, allowedIn, fitUpTo, headerChecks, layersChecks, layersEnd, recordsChecks, readChecks}
 use Rattle.format.specs.File.{Accepted, Header, accepted, readUpTo}
@@ -30,10 +30,10 @@ module _ (greatest : ℕ) (file : List ℕ) (lent : ℕ) where
       numbered-append (layersChecks s file (s .c) 0) _ (layers-numbered s file (s .c) 0) (patches-numbered (size s) file _ (layersEnd s file))
 
   pub header-fits : AllHold (headerChecks greatest file lent) → fitSides (sidesIn file) ≡ true
-  header-fits h = fitUpTo-fits greatest (sidesIn file) (not-false _ (h .1 .1 .0))
+  header-fits h = fitUpTo-fits greatest (sidesIn file) (not-false _ (held-at (headerChecks greatest file lent) h 1))
 
   pub header-long : AllHold (headerChecks greatest file lent) → lent ≡ size (sidesIn file)
-  header-long h = eqb-true _ _ (not-false _ (h .1 .1 .1 .0))
+  header-long h = eqb-true _ _ (not-false _ (held-at (headerChecks greatest file lent) h 2))
 
   pub is-accepted : AllHold (readChecks greatest file lent) → Accepted (sidesIn file) file lent
   is-accepted h =

@@ -11,7 +11,7 @@ use Rattle.rules.specs.declared.Sides.{Sides}
 use Rattle.rules.specs.Grid.{fitSides}
 use Rattle.rules.specs.Checks.{AllHold}
 use Rattle.rules.specs.Answer.{refused, done}
-use Rattle.rules.proofs.Checks.{by-checks, unless-held}
+use Rattle.rules.proofs.Checks.{by-checks, held-at, unless-held}
 use Rattle.format.specs.declared.LayerSpan.{LayerSpan}
 use Rattle.format.specs.Bytes.{Width}
 use Rattle.format.specs.Layer.{area, recordLength, layerChecks, readLayerChecks, layerAt, readLayer, stretch, bytesOf}
@@ -33,7 +33,9 @@ pub record Placed (s : Sides) (file : List ℕ) (l : LayerSpan) : Type 0 where
 
 module _ (s : Sides) (file : List ℕ) (start : ℕ) where
   pub readable : fitSides s ≡ true → AllHold (layerChecks s file start) → Readable s file start
-  readable e h = record { fits = e; whole = ltb-false _ _ (h .0); marked = not-false _ (h .1 .0); z-below = leb-false _ _ (h .1 .1 .0) }
+  readable e h =
+      let held = held-at (layerChecks s file start) h in
+      record { fits = e; whole = ltb-false _ _ (held 21); marked = not-false _ (held 22); z-below = leb-false _ _ (held 23) }
 
   -- such a record is read, and its part is the layer's stretch
   read-done : Readable s file start → readLayer s file start ≡ done (layerAt s file start)

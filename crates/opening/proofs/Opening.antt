@@ -26,7 +26,7 @@ use Rattle.neighbourhood.proofs.Bodies.{fit-body}
 use Rattle.waking.specs.Waking.{Removable}
 use Rattle.waking.proofs.Fitting.{kept-removable}
 use Rattle.searching.specs.Argmax.{Searchable}
-use Rattle.rules.proofs.Checks.{fails-first, holds-first, all-hold, call-refused, call-done, hold-append, refused-first, held-first}
+use Rattle.rules.proofs.Checks.{fails-first, holds-first, all-hold, call-refused, call-done, hold-append, held-at, refused-first, held-first}
 use Rattle.rules.proofs.Fit.{marking}
 use Rattle.opening.specs.Opening.{spentChecks, OpensAt}
 
@@ -83,8 +83,8 @@ module _ (marks : List ℕ) (g : State) (n : ℕ) (e : n ≡ firstFailing (spent
   module _ (z : n ≡ 0) where
     checked : (Marking marks g) × (g .rec .openings ≡ g .rec .allowed → ⊥)
     checked =
-        let p = hold-append (markedChecks marks g) (quietChecks g ++ spent) (all-hold (spentChecks marks g) refl (sym e ∙ z)) in
-        (marking g marks (p .0), eqb-false _ _ (p .1 .1 .0))
+        let h = all-hold (spentChecks marks g) refl (sym e ∙ z) in
+        (marking g marks (hold-append (markedChecks marks g) (quietChecks g ++ spent) h .0), eqb-false _ _ (held-at (spentChecks marks g) h 14))
 
     pub open-fit : Marking marks g
     open-fit = checked .0

@@ -1,28 +1,27 @@
 -- Every carve of the program empties the pending set, no call of it is refused as unfit, and the rounds go on until open has nothing left.
 use mathlib.Core.Path.{_≡_, refl, ap, sym, _∙_, subst}
 use mathlib.Core.Logic.{_⊎_, inl, inr}
-use mathlib.Core.Bool.{Bool, true, false, not, cond, _&&_, true≢false}
+use mathlib.Core.Bool.{Bool, true, false, not, cond, true≢false}
 use mathlib.Core.List.{List, [], _∷_, _++_}
 use Prim.Native.Nat.{ℕ, zero, suc, _*_, _≤_}
 use native.Mathlib.Omega.{arith}
 use lib.Dec.{eqb}
-use borrow.Author.Tests.{eqb-true}
 use lib.IntN.{ℤ}
 use lib.ListN.{length}
-use Rattle.prelude.proofs.Bools.{not-false, or-false}
+use Rattle.prelude.proofs.Bools.{not-false}
 use Rattle.rules.specs.declared.Sides.{Sides}
 use Rattle.rules.specs.declared.Record.{Record}
 use Rattle.rules.specs.Grid.{fitSides, size}
 use Rattle.rules.specs.Checks.{_when_, unless, AllHold}
 use Rattle.rules.specs.Answer.{refused, done, Outcome, untouched, Buffers, buffers, Opening}
-use Rattle.rules.specs.Marks.{marked, strayMark, wrongMarks}
+use Rattle.rules.specs.Marks.{marked, strayMark}
 use Rattle.rules.specs.Begin.{newRecord, beginChecks, begun, begin}
 use Rattle.rules.specs.Status.{anyPending}
 use Rattle.rules.specs.Machine.{State, state, lentTo, mayGo, sooner, stateChecks, workingChecks, markedChecks, quietChecks, openingChecks, finishChecks}
 use Rattle.rules.specs.Machine.{carved, carve, toOpen, isNone, theVoxel, opened, openNext, asFinished, finishedOf, finish}
 use Rattle.rules.specs.Demand.{Call, carveUpTo, openOne, call, run}
 use Rattle.rules.proofs.Checks.{append-hold, by-checks, unless-held, unless-after}
-use Rattle.rules.proofs.Fit.{fit-state, marking-holds}
+use Rattle.rules.proofs.Fit.{begin-lengths, begin-marks, fit-state, marking-holds}
 use Rattle.rules.proofs.Demand.{by-begin, run-append}
 use Rattle.rules.proofs.NeverUnfit.{never-unfit, carve-ends}
 use Rattle.format.proofs.Sizes.{size-small}
@@ -41,17 +40,13 @@ module _ (s : Sides) (T : ℕ) (values : List ℤ) (marks : List ℕ) (dist : Li
 
   -- the marks that begin took, every call takes
   lent-marks : (length marks ≡ size s) × (strayMark marks ≡ false)
-  unfolding begin begun wrongMarks
+  unfolding begin begun
   lent-marks =
       by-checks (untouched (buffers dist status)) (begun s T values (marked marks))
       (λ o. o .answer ≡ done r → (length marks ≡ size s) × (strayMark marks ≡ false))
       (beginChecks s values marks dist status)
       (λ n f. let z : _≡_ {A = ℕ} 0 1 = cc in let y : ⊥ = omega arith in absurd y)
-      (λ p f. (
-        eqb-true _ _ (not-false _ (or-false (not (eqb (length values) (size s) && (eqb (length dist) (size s) && eqb (length status) (size s))))
-            (wrongMarks s marks) (p .1 .0) .1)),
-        p .1 .1 .1 .0,
-      )) e
+      (λ h f. (begin-lengths s values marks dist status h .marks-len, begin-marks s values marks dist status h)) e
 
   abbrev free : State → ℕ → Bool
   free g = mayGo (marked marks) (g .dist)

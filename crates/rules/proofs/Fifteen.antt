@@ -28,7 +28,7 @@ use Rattle.rules.specs.Meaning.{negative, found, IsInside}
 use Rattle.rules.specs.Fifteen.{clear, OpenToBorder, walls, UnpinnedWalls, Pins, GoneIsOpen, OnlyClosedIn, NoneToOpen, FifteenTells, FifteenWhen}
 use Rattle.rules.specs.Fifteen.{EndsWith15, endStatus, OneBody, FifteenIsLast}
 use Rattle.rules.proofs.Inside.{touch-back, negative-lt, inside-is-found, inside-members}
-use Rattle.rules.proofs.Checks.{unless-after, hold-append}
+use Rattle.rules.proofs.Checks.{unless-after, hold-append, held-at}
 use Rattle.rules.proofs.Fit.{fit-state, marking, marking-holds}
 use Rattle.rules.proofs.Topology.Calls.{Good}
 use Rattle.rules.proofs.Topology.Start.{kept-at-first}
@@ -186,9 +186,15 @@ module _ (lent : List ℕ) (g : State) where
   fifteen-none : openNext lent g .answer ≡ refused 15 → Fifteen
   unfolding openNext opened any
   fifteen-none e =
-      let r = refused-last (lentTo g) _ _ (markedChecks lent g ++ (quietChecks g ++ (14 when used-up ∷ []))) 15 (isNone choice) refl e in
-      let h = hold-append (markedChecks lent g) (quietChecks g ++ (14 when used-up ∷ [])) (r .0) in
-      record { marking = marking g lent (h .0); quiet = h .1 .0; left = h .1 .1 .0; none-left = is-none choice (r .1) }
+      let after = quietChecks g ++ (14 when used-up ∷ []) in
+      let r = refused-last (lentTo g) _ _ (markedChecks lent g ++ after) 15 (isNone choice) refl e in
+      let held = held-at (markedChecks lent g ++ after) (r .0) in
+      record {
+        marking = marking g lent (hold-append (markedChecks lent g) after (r .0) .0);
+        quiet = held 13;
+        left = held 14;
+        none-left = is-none choice (r .1);
+      }
     where
       is-none : (o : Option ℕ) → isNone o ≡ true → o ≡ none
       is-none none e = refl

@@ -10,7 +10,7 @@ use Rattle.rules.specs.declared.Sides.{Sides}
 use Rattle.rules.specs.Grid.{size}
 use Rattle.rules.specs.Checks.{_when_, firstFailing, AllHold}
 use Rattle.rules.specs.Machine.{State, finishedChecks}
-use Rattle.rules.proofs.Checks.{fails-first, holds-first, all-hold, hold-append}
+use Rattle.rules.proofs.Checks.{fails-first, holds-first, all-hold, hold-append, held-at}
 use Rattle.rules.proofs.Fit.{ended}
 use Rattle.surface.specs.Surface.{noNext, nextChecks, crossingChecks, Crossable}
 
@@ -37,13 +37,13 @@ pub crossable-held : (i axis : ℕ) (g : State) → AllHold (crossingChecks i ax
 unfolding noNext
 crossable-held i axis g h =
     let s = g .rec .sides in
-    let p = hold-append (finishedChecks g) (nextChecks i axis s) h in
-    let e = ended g (p .0) in
-    let six = or-false (ltb 2 axis) (noNext s i axis) (p .1 .1 .0) in
+    let held = held-at (crossingChecks i axis g) h in
+    let e = ended g (hold-append (finishedChecks g) (nextChecks i axis s) h .0) in
+    let six = or-false (ltb 2 axis) (noNext s i axis) (held 6) in
     record {
       ended = e;
       low = ltb-false _ _ (six .0);
-      next = record { fit = e .fit .voxels .lent .sides; here = leb-false (size s) i (p .1 .0); there = leb-false _ _ (six .1) };
+      next = record { fit = e .fit .voxels .lent .sides; here = leb-false (size s) i (held 5); there = leb-false _ _ (six .1) };
     }
 
 pub crossable : (i axis : ℕ) (g : State) (n : ℕ) → n ≡ firstFailing (crossingChecks i axis g) → n ≡ 0 → Crossable i axis g

@@ -15,17 +15,19 @@ use Rattle.rules.specs.Value.{stray}
 use Rattle.rules.specs.Grid.{fitSides}
 use Rattle.rules.specs.Checks.{Check, _when_, firstFailing, unless, AllHold}
 use Rattle.rules.specs.Answer.{untouched}
-use Rattle.rules.proofs.Checks.{fails-first, held-none, call-refused, unless-after, refused-first, held-first, append-hold}
+use Rattle.rules.proofs.Checks.{fails-first, held-at, held-none, call-refused, unless-after, refused-first, held-first, append-hold}
 use Rattle.format.specs.Written.{writtenLength, sizeChecks, gridChecks, writeChecks, written, write}
 use Rattle.writing.specs.Room.{Room}
 
 -- what holds of a grid that is not refused
 module _ (s : Sides) (values : List ℤ) (h : AllHold (gridChecks s values)) where
   pub grid-fits : fitSides s ≡ true
-  grid-fits = not-false _ (h .0)
+  grid-fits = not-false _ (held-at (gridChecks s values) h 1)
 
   pub has-room : (lent : ℕ) → writtenLength s values ≤ lent → Room s values lent
-  has-room lent r = record { fits = grid-fits; long = eqb-true _ _ (not-false _ (h .1 .0)); known = h .1 .1 .0; room = r }
+  has-room lent r =
+      let held = held-at (gridChecks s values) h in
+      record { fits = grid-fits; long = eqb-true _ _ (not-false _ (held 2)); known = held 28; room = r }
 
 module _ (s : Sides) (T : ℕ) (values : List ℤ) (file : List ℕ) where
   abbrev roomChecks : List Check

@@ -5,7 +5,7 @@ use borrow.Author.Tests.{ltb-false}
 use Rattle.rules.specs.declared.Sides.{Sides}
 use Rattle.rules.specs.Grid.{fitSides, size}
 use Rattle.rules.specs.Checks.{firstFailing, AllHold}
-use Rattle.rules.proofs.Checks.{all-hold, refused-first, held-first}
+use Rattle.rules.proofs.Checks.{all-hold, held-at, refused-first, held-first}
 use Rattle.format.specs.File.{headerChecks, recordsChecks}
 use Rattle.format.proofs.Headers.{header-fits, header-long}
 use Rattle.gridfile.proofs.refusal.Statement.{statement}
@@ -22,7 +22,9 @@ returns : tie.Need-returns
 returns c = refused-first _ _ _ (c .before .header-refusal .ensures) (c .if1 .taken)
 
 sides-in-requires : tie.Need-sides-in-requires
-sides-in-requires c κs = ltb-false _ _ (held c .0)
+sides-in-requires c κs =
+    let a = c .before .before .before .args in
+    ltb-false _ _ (held-at (headerChecks (a .greatest) (a .file .now) (a .lent)) (held c) 21)
 
 records-refusal-requires : tie.Need-records-refusal-requires
 records-refusal-requires c κs =
