@@ -20,6 +20,12 @@ use borrow.Author.Needs.{needs}
 use Rattle.beginning.proofs.begin.Statement.{statement}
 use Rattle.beginning.proofs.begin.Tie as tie
 
+abbrev after-work-with : tie.After-new-record → tie.After-work-with
+after-work-with c = c .before .before .before .before
+
+abbrev after-used : tie.After-work-with → tie.After-used
+after-used c = c .before .before .before .before
+
 abbrev begun : tie.After-refusal → tie.Start
 begun c = c .before .before .before .before .before .before
 
@@ -86,8 +92,8 @@ same-length-4 c = search needs
 returns-2 : tie.Need-returns-2
 unfolding begin
 returns-2 c =
-    let w = c .before .before .before .before in
-    let u = w .before .before .before .before in
+    let w = after-work-with c in
+    let u = after-used w in
     let n = u .before in
     let r = n .before in
     let s = begun r in

@@ -11,6 +11,9 @@ use borrow.Author.Needs.{needs}
 use Rattle.beginning.proofs.work_out.Statement.{statement}
 use Rattle.beginning.proofs.work_out.Tie as tie
 
+abbrev after-find : tie.After-measure-arg → tie.After-find
+after-find c = c .before .before .before .before
+
 fits : (s : tie.Start) → Fit (s .args .sides)
 fits s = fit (s .args .sides) (s .pre .grid .sides)
 
@@ -30,7 +33,7 @@ abbrev begun : tie.After-find → tie.Start
 begun c = lent (c .before .before .before .before)
 
 abbrev found : tie.After-measure → tie.After-find
-found c = c .before .before .before .before .before
+found c = after-find (c .before)
 
 abbrev measured : tie.After-greatest → tie.After-measure
 measured c = c .before .before .before .before
@@ -56,7 +59,7 @@ distances : (c : tie.After-measure) → let s = begun (found c) in Measured (s .
 distances c = c .measure .ensures (S (begun (found c))) (labelled (found c))
 
 measure-requires : tie.Need-measure-requires
-measure-requires c κs = let f = c .before .before .before .before in (S (begun f), labelled f)
+measure-requires c κs = let f = after-find c in (S (begun f), labelled f)
 
 greatest-requires : tie.Need-greatest-requires
 greatest-requires c κs = search needs

@@ -11,6 +11,9 @@ use Rattle.fitness.proofs.Pending.{any-pending-is}
 use Rattle.closing.proofs.quiet_refusal.Statement.{statement}
 use Rattle.closing.proofs.quiet_refusal.Tie as tie
 
+abbrev begun : tie.After-any-pending → tie.Start
+begun c = c .before .before .before .before
+
 abbrev lent-to : tie.Start → State
 lent-to c = state (c .args .given) (c .args .dist .now) (c .args .status .now)
 
@@ -27,7 +30,7 @@ any-pending-requires : tie.Need-any-pending-requires
 any-pending-requires c κs = search needs
 
 -- the scan finds what the rule asks of a fit state
-pending : (c : tie.After-any-pending) → let g = lent-to (c .before .before .before .before) in c .any-pending .result ≡ anyPending (g .rec .sides) (g .status)
+pending : (c : tie.After-any-pending) → let g = lent-to (begun c) in c .any-pending .result ≡ anyPending (g .rec .sides) (g .status)
 pending c =
     let e = c .before in
     let r = e .before in

@@ -11,6 +11,9 @@ Inv-loop sides file values₀ start₀ left₀ values start left = Spreading sid
 abbrev μ-loop : tie.MeasureT-loop
 μ-loop sides file values₀ start₀ left₀ values start left = left
 
+abbrev looping : tie.After-values2 Inv-loop μ-loop → tie.At-loop Inv-loop μ-loop
+looping c = c .before .before .before .before
+
 loop-holds : tie.Need-loop-holds Inv-loop μ-loop
 loop-holds c = spreading-start _ _ _ (c .before .pre)
 
@@ -40,7 +43,7 @@ apply-patches-requires c κs =
 
 same-length : tie.Need-same-length Inv-loop μ-loop
 same-length c =
-    let l = c .before .before .before .before in
+    let l = looping c in
     c .values2 .given ∙ l .loop .inv .long ∙ sym (l .before .before .pre .long)
 
 returns : tie.Need-returns Inv-loop μ-loop

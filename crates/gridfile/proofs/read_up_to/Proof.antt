@@ -11,6 +11,9 @@ use Rattle.format.proofs.Headers.{read-numbered, is-accepted}
 use Rattle.gridfile.proofs.read_up_to.Statement.{statement}
 use Rattle.gridfile.proofs.read_up_to.Tie as tie
 
+abbrev accepted-at : tie.After-values → tie.Else1
+accepted-at c = c .before .before .before .before
+
 -- behind the branch
 none : (c : tie.Else1) → c .before .refusal .result ≡ 0
 none c = omega arith
@@ -38,7 +41,7 @@ fill-requires : tie.Need-fill-requires
 fill-requires c κs = rw (c .before .sides-in .ensures) (right (c .before .before))
 
 word-requires : tie.Need-word-requires
-word-requires c κs = (inl refl, omega (arith, right (c .before .before .before .before) .whole))
+word-requires c κs = (inl refl, omega (arith, right (accepted-at c) .whole))
 
 -- T has two bytes
 cast-t12 : tie.Need-cast-t12

@@ -13,6 +13,12 @@ use Rattle.gridfile.proofs.Checking.{behind-layer, repeat-refused, skip
 use Rattle.gridfile.proofs.record_refusal.Statement.{statement}
 use Rattle.gridfile.proofs.record_refusal.Tie as tie
 
+abbrev past-layer : tie.After-has-stray → tie.Else1
+past-layer c = c .before .before .before .before
+
+abbrev begun : tie.After-shared-slice-known2 → tie.Start
+begun c = c .before .before .before .before
+
 -- behind the first branch: the record can be read, and its z and its values decide
 right : (c : tie.Else1) → let a = c .before .before .before .args in Readable (a .sides) (a .file .now) (a .start)
 right c =
@@ -24,7 +30,7 @@ behind : (c : tie.Else1) (n : ℕ) → let a = c .before .before .before .args i
 behind c n e = held-first _ _ _ (c .before .layer-refusal .ensures) refl (c .if1 .left) n e
 
 -- behind the third: it is the record that is due
-due : (c : tie.Else3) → let a = c .before .before .before .before .before .before .args in zAt (a .file .now) (a .start) ≡ a .next
+due : (c : tie.Else3) → let a = begun (c .before .before) .args in zAt (a .file .now) (a .start) ≡ a .next
 due c = c .if3 .left
 
 layer-refusal-requires : tie.Need-layer-refusal-requires
@@ -41,7 +47,7 @@ shared-slice-read-z c = omega (arith, right (c .before) .whole)
 
 cast-z : tie.Need-cast-z
 cast-z c =
-    let a = c .before .before .before .before .args in
+    let a = begun c .args in
     omega (arith, c .shared-slice-known2 .given (a .start + 2))
 
 returns-2 : tie.Need-returns-2
@@ -62,14 +68,14 @@ has-stray-requires c κs = right (c .before .before .before)
 returns-4 : tie.Need-returns-4
 returns-4 c =
     let s = c .before in
-    let e = s .before .before .before .before in
+    let e = past-layer s in
     let a = e .before .before .before .args in
     behind e 28 (stray-refused (a .sides) (a .file .now) (a .start) (a .next) (due (s .before)) _ (s .has-stray .ensures) (c .if4 .taken))
 
 returns-5 : tie.Need-returns-5
 returns-5 c =
     let s = c .before in
-    let e = s .before .before .before .before in
+    let e = past-layer s in
     let a = e .before .before .before .args in
     behind e 0 (record-taken (a .sides) (a .file .now) (a .start) (a .next) (due (s .before)) _ (s .has-stray .ensures) (c .if4 .left))
 

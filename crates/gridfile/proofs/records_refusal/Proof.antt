@@ -18,8 +18,11 @@ Inv-loop sides n file start₀ next₀ start next = Reached sides file start nex
 abbrev μ-loop : tie.MeasureT-loop
 μ-loop sides n file start₀ next₀ start next = sides .c - next
 
+abbrev looping : tie.Else2 Inv-loop μ-loop → tie.At-loop Inv-loop μ-loop
+looping c = c .before .before .before .before
+
 -- behind the branch
-right : (c : tie.Else2 Inv-loop μ-loop) → let l = c .before .before .before .before in let a = l .before .before .args in
+right : (c : tie.Else2 Inv-loop μ-loop) → let l = looping c in let a = l .before .before .args in
     Readable (a .sides) (a .file .now) (l .loop .start)
 right c =
     let r = c .before in

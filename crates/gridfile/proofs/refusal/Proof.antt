@@ -11,6 +11,9 @@ use Rattle.format.proofs.Headers.{header-fits, header-long}
 use Rattle.gridfile.proofs.refusal.Statement.{statement}
 use Rattle.gridfile.proofs.refusal.Tie as tie
 
+abbrev begun : tie.After-sides-in → tie.Start
+begun c = c .before .before .before .before
+
 -- behind the branch
 held : (c : tie.Else1) → let a = c .before .before .before .args in AllHold (headerChecks (a .greatest) (a .file .now) (a .lent))
 held c = all-hold _ refl (sym (c .before .header-refusal .ensures) ∙ c .if1 .left)
@@ -28,7 +31,7 @@ sides-in-requires c κs =
 
 records-refusal-requires : tie.Need-records-refusal-requires
 records-refusal-requires c κs =
-    let a = c .before .before .before .before .args in
+    let a = begun c .args in
     let h = held (c .before) in (
       ap fitSides (c .sides-in .ensures) ∙ header-fits (a .greatest) (a .file .now) (a .lent) h,
       header-long (a .greatest) (a .file .now) (a .lent) h ∙ ap size (sym (c .sides-in .ensures)),

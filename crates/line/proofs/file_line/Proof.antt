@@ -10,6 +10,9 @@ use borrow.Author.Needs.{needs}
 use Rattle.line.proofs.file_line.Statement.{statement}
 use Rattle.line.proofs.file_line.Tie as tie
 
+abbrev after-voxels-in : tie.After-status → tie.After-voxels-in
+after-voxels-in c = c .before .before .before .before
+
 voxels-in-requires : tie.Need-voxels-in-requires
 voxels-in-requires c κs = search needs
 
@@ -35,11 +38,11 @@ array-borrow-prefix-status : tie.Need-array-borrow-prefix-status
 array-borrow-prefix-status c = search needs
 
 slice-aggregate-line-in-4 : tie.Need-slice-aggregate-line-in-4
-slice-aggregate-line-in-4 c = lent-length _ 13824 0 (c .before .before .before .before .voxels-in .ensures .1)
+slice-aggregate-line-in-4 c = lent-length _ 13824 0 (after-voxels-in c .voxels-in .ensures .1)
 
 line-in-requires : tie.Need-line-in-requires
 line-in-requires c κs =
-    let v = c .before .before .before .before .voxels-in .ensures in
+    let v = after-voxels-in c .voxels-in .ensures in
     record {
       values = take-replicate _ 13824 (pos 0) (v .1) ∙ ap zeros (v .0);
       marks = take-replicate _ 13824 0 (v .1) ∙ ap (λ (n : ℕ). replicate n 0) (v .0);

@@ -6,6 +6,12 @@ use Rattle.line.proofs.Reading.{line-refused, printed-grid}
 use Rattle.line.proofs.line_in.Statement.{statement}
 use Rattle.line.proofs.line_in.Tie as tie
 
+abbrev after-answer : tie.After-begun-line → tie.After-answer
+after-answer c = c .before .before .before .before .before
+
+abbrev begun : tie.After-read-up-to → tie.Start
+begun c = c .before .before .before .before .before
+
 read-up-to-requires : tie.Need-read-up-to-requires
 read-up-to-requires c κs = search needs
 
@@ -29,7 +35,7 @@ returns c =
     let number = c .before in
     let told = number .before in
     let read = told .before .before .before in
-    let start = read .before .before .before .before .before in
+    let start = begun read in
     c .refused-line .ensures
     ∙ ap printed (line-refused _ _ _ _ (read .read-up-to .ensures) (start .pre .values) _ _ (told .enum-told .given .1) (number .refusal-of .ensures))
 
@@ -48,9 +54,9 @@ same-length-4 c = search needs
 returns-2 : tie.Need-returns-2
 returns-2 c =
     let line = c .before .before .before in
-    let known = line .before .before .before .before .before in
+    let known = after-answer line in
     let read = known .before .before .before in
-    let start = read .before .before .before .before .before in
+    let start = begun read in
     let lent = start .pre in
     printed-grid _ _ _ _ (read .read-up-to .ensures) (lent .values) _ _ _ _ _ _ (line .begun-line .ensures) (known .answer .given .1) (lent .marks)
     (lent .distances) (lent .statuses)

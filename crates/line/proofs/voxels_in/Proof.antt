@@ -10,8 +10,11 @@ use Rattle.line.proofs.Reading.{lentFor-short, lentFor-unfit, lentFor-f
 use Rattle.line.proofs.voxels_in.Statement.{statement}
 use Rattle.line.proofs.voxels_in.Tie as tie
 
+abbrev begun : tie.After-fit-up-to → tie.Start
+begun c = c .before .before .before .before
+
 -- the test of the sides
-fit : (c : tie.After-fit-up-to) → let a = c .before .before .before .before .args in fitUpTo greatestSide (sidesIn (a .file .now)) ≡ c .fit-up-to .result
+fit : (c : tie.After-fit-up-to) → let a = begun c .args in fitUpTo greatestSide (sidesIn (a .file .now)) ≡ c .fit-up-to .result
 fit c = sym (c .fit-up-to .ensures ∙ ap (fitUpTo greatestSide) (c .before .sides-in .ensures))
 
 returns : tie.Need-returns

@@ -22,6 +22,9 @@ Inv-loop status₀ dist marks i₀ status i = (i ≤ length marks) × Each 0 (me
 abbrev μ-loop : tie.MeasureT-loop
 μ-loop status₀ dist marks i₀ status i = length marks - i
 
+abbrev turning : tie.After-slice-known2 Inv-loop μ-loop → tie.In-loop Inv-loop μ-loop
+turning c = c .before .before .before .before
+
 loop-holds : tie.Need-loop-holds Inv-loop μ-loop
 loop-holds c = (omega arith, each-none _ _ _ _ _ (omega arith))
 
@@ -38,13 +41,13 @@ pinned-requires : tie.Need-pinned-requires Inv-loop μ-loop
 pinned-requires c κs = search needs
 
 slice-read-met : tie.Need-slice-read-met Inv-loop μ-loop
-slice-read-met c = let i = c .before .before .before .before in omega (arith, i .loop-test .taken, i .before .loop .inv .1 .len)
+slice-read-met c = let i = turning c in omega (arith, i .loop-test .taken, i .before .loop .inv .1 .len)
 
 met-requires : tie.Need-met-requires Inv-loop μ-loop
 met-requires c κs = search needs
 
 slice-write-status : tie.Need-slice-write-status Inv-loop μ-loop
-slice-write-status c = let i = c .before .before .before .before .before in omega (arith, i .loop-test .taken, i .before .loop .inv .1 .len)
+slice-write-status c = let i = turning (c .before) in omega (arith, i .loop-test .taken, i .before .loop .inv .1 .len)
 
 add-i : tie.Need-add-i Inv-loop μ-loop
 add-i c = search needs

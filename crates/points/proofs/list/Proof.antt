@@ -21,6 +21,9 @@ Inv-loop sides dist position out₀ end room count₀ p₀ out count p = Going (
 abbrev μ-loop : tie.MeasureT-loop
 μ-loop sides dist position out₀ end room count₀ p₀ out count p = end - p
 
+abbrev turning : tie.After-slice-known2 Inv-loop μ-loop → tie.In-loop Inv-loop μ-loop
+turning c = c .before .before .before .before .before
+
 -- the test of the loop
 module _ (c : tie.In-loop Inv-loop μ-loop) where
   abbrev l : tie.At-loop Inv-loop μ-loop
@@ -52,7 +55,7 @@ add-p : tie.Need-add-p Inv-loop μ-loop
 add-p c = search needs
 
 loop-less : tie.Need-loop-less Inv-loop μ-loop
-loop-less c = let i = c .before .before .before .before .before in omega (arith, more i .0)
+loop-less c = let i = turning c in omega (arith, more i .0)
 
 loop-again : tie.Need-loop-again Inv-loop μ-loop
 loop-again c =

@@ -17,6 +17,9 @@ Inv-loop dist marks status₀ current₀ opened₀ status current opened =
 abbrev μ-loop : tie.MeasureT-loop
 μ-loop dist marks status₀ current₀ opened₀ status current opened = left opened current
 
+abbrev after-carve-on : tie.After-open-on Inv-loop μ-loop → tie.After-carve-on Inv-loop μ-loop
+after-carve-on c = c .before .before .before .before
+
 loop-holds : tie.Need-loop-holds Inv-loop μ-loop
 loop-holds c = (refl, going-start _ _ _ _)
 
@@ -29,14 +32,14 @@ open-on-requires c κs = search needs
 loop-less : tie.Need-loop-less Inv-loop μ-loop
 loop-less c =
     let o = c .before .before .before in
-    let v = o .before .before .before .before in
+    let v = after-carve-on o in
     let l = v .before .before in
     going-next _ _ _ _ _ _ _ _ _ _ _ (l .loop-test .taken) (l .before .loop .inv .1) (v .carve-on .ensures) (o .open-on .ensures .0) (o .open-on .ensures .1) .1
 
 loop-again : tie.Need-loop-again Inv-loop μ-loop
 loop-again c =
     let o = c .before .before .before in
-    let v = o .before .before .before .before in
+    let v = after-carve-on o in
     let l = v .before .before in
     let i = l .before .loop .inv in
     let next = going-next _ _ _ _ _ _ _ _ _ _ _ (l .loop-test .taken) (i .1) (v .carve-on .ensures) (o .open-on .ensures .0) (o .open-on .ensures .1) in

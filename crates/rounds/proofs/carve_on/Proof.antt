@@ -7,6 +7,15 @@ use borrow.Author.Needs.{needs}
 use Rattle.rounds.proofs.carve_on.Statement.{statement}
 use Rattle.rounds.proofs.carve_on.Tie as tie
 
+abbrev begun : tie.After-carve → tie.Start
+begun c = c .before .before .before .before
+
+abbrev refused-then : tie.After-enum-told → tie.After-carve
+refused-then c = c .before .before .before .before
+
+abbrev carved-then : tie.After-known-told → tie.After-carve
+carved-then c = c .before .before .before .before .before
+
 carve-requires : tie.Need-carve-requires
 carve-requires c κs = search needs
 
@@ -22,9 +31,9 @@ same-length c = search needs
 returns : tie.Need-returns
 unfolding afterCarve
 returns c =
-    let o = c .before .before .before .before .before in
+    let o = carved-then c in
     let e = c .before .next .given .1 in
-    let a = o .before .before .before .before .args in
+    let a = begun o .args in
     let d = a .dist .now in
     after-answer carvedAnswer (λ r. r .next) _ d (carve (a .marks .now) noLimit (state (a .given) d (a .status .now))) e (o .carve .ensures)
 
@@ -34,9 +43,9 @@ same-length-2 c = search needs
 returns-2 : tie.Need-returns-2
 unfolding afterCarve
 returns-2 c =
-    let o = c .before .before .before .before in
+    let o = refused-then c in
     let e = c .enum-told .given .1 in
-    let a = o .before .before .before .before .args in
+    let a = begun o .args in
     let d = a .dist .now in
     after-answer carvedAnswer (λ r. r .next) _ d (carve (a .marks .now) noLimit (state (a .given) d (a .status .now))) e (o .carve .ensures)
 

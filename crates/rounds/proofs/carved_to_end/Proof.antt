@@ -9,6 +9,15 @@ use borrow.Author.Needs.{needs}
 use Rattle.rounds.proofs.carved_to_end.Statement.{statement}
 use Rattle.rounds.proofs.carved_to_end.Tie as tie
 
+abbrev begun : tie.After-carve-and-open → tie.Start
+begun c = c .before .before .before .before .before
+
+abbrev after-carve-and-open : tie.After-finish-on → tie.After-carve-and-open
+after-carve-and-open c = c .before .before .before .before .before
+
+abbrev after-finish-on : tie.After-struct-told → tie.After-finish-on
+after-finish-on c = c .before .before .before .before .before
+
 carve-and-open-requires : tie.Need-carve-and-open-requires
 carve-and-open-requires c κs = search needs
 
@@ -30,15 +39,15 @@ same-length c = search needs
 same-length-2 : tie.Need-same-length-2
 same-length-2 c = search needs
 
-euler-fits : (c : tie.After-struct-told) → SFits w32 (c .before .before .before .before .before .finish-on .result .euler)
+euler-fits : (c : tie.After-struct-told) → SFits w32 (after-finish-on c .finish-on .result .euler)
 euler-fits c = search needs
 
 returns : tie.Need-returns
 returns c =
     let k = c .before .before .before in
     let f = k .before .before .before in
-    let v = f .before .before .before .before .before in
-    let a = v .before .before .before .before .before in
+    let v = after-carve-and-open f in
+    let a = begun v in
     c .carved-line .ensures
     ∙ ap printed (line-ended _ _ _ _ _ _ _ _ _ _ (v .carve-and-open .kept .1 .1 .1 .0 ∙ a .pre) (v .carve-and-open .ensures) (f .finish-on .ensures)
     (k .kept-voxels .ensures) (toZ-ofZ (euler-fits (c .before))))

@@ -6,6 +6,9 @@ use borrow.Author.Needs.{needs}
 use Rattle.rounds.proofs.finish_on.Statement.{statement}
 use Rattle.rounds.proofs.finish_on.Tie as tie
 
+abbrev after-finish : tie.After-known-told → tie.After-finish
+after-finish c = c .before .before .before .before
+
 finish-requires : tie.Need-finish-requires
 finish-requires c κs = search needs
 
@@ -21,7 +24,7 @@ same-length c = search needs
 returns : tie.Need-returns
 unfolding afterFinish
 returns c =
-    let f = c .before .before .before .before in
+    let f = after-finish c in
     after-answer finishedAnswer (λ r. r) _ (f .finish .last .1 .0) _ (c .before .next .given .1) (f .finish .ensures)
 
 same-length-2 : tie.Need-same-length-2

@@ -13,6 +13,9 @@ use Rattle.surface.proofs.Crossable.{five, six, neither}
 use Rattle.surface.proofs.crossing_refusal.Statement.{statement}
 use Rattle.surface.proofs.crossing_refusal.Tie as tie
 
+abbrev past-fit : tie.After-beyond → tie.Else1
+past-fit c = c .before .before .before .before
+
 abbrev lent-to : tie.Start → State
 lent-to c = state (c .args .given) (c .args .dist .now) (c .args .status .now)
 
@@ -62,14 +65,14 @@ beyond-requires c κs = (found (c .before .before .before) .fit .voxels .lent .s
 returns-3 : tie.Need-returns-3
 returns-3 c =
     let b = c .before in
-    let e = b .before .before .before .before in
+    let e = past-fit b in
     let p = s e in
     follows e 6 (six (p .args .index) (p .args .axis) (p .args .given .sides) (under (b .before)) _ (b .beyond .ensures) (c .if3 .taken))
 
 returns-4 : tie.Need-returns-4
 returns-4 c =
     let b = c .before in
-    let e = b .before .before .before .before in
+    let e = past-fit b in
     let p = s e in
     follows e 0 (neither (p .args .index) (p .args .axis) (p .args .given .sides) (under (b .before)) _ (b .beyond .ensures) (c .if3 .left))
 

@@ -11,11 +11,14 @@ use Rattle.format.specs.Written.{sizeChecks}
 use Rattle.writing.proofs.size_refusal.Statement.{statement}
 use Rattle.writing.proofs.size_refusal.Tie as tie
 
+abbrev begun : tie.Else2 → tie.Start
+begun c = c .before .before .before .before
+
 -- the checks, by what the code found at each
 fits : (c : tie.Else1) → fitSides (c .before .before .args .sides) ≡ true
 fits c = sym (c .before .fit-sides .ensures) ∙ not-false (c .before .fit-sides .result) (c .if1 .left)
 
-long : (c : tie.Else2) → let a = c .before .before .before .before .args in eqb (length (a .values .now)) (size (a .sides)) ≡ true
+long : (c : tie.Else2) → let a = begun c .args in eqb (length (a .values .now)) (size (a .sides)) ≡ true
 long c = eq-eqb _ _ (c .if2 .left ∙ c .before .voxel-count .ensures .0)
 
 fit-sides-requires : tie.Need-fit-sides-requires
@@ -35,7 +38,7 @@ returns-2 c =
 
 returns-3 : tie.Need-returns-3
 returns-3 c =
-    let a = c .before .before .before .before .args in
+    let a = begun c .args in
     sym (hold-none (sizeChecks (a .sides) (a .values .now)) (ap not (fits (c .before .before)), (ap not (long c), tt)))
 
 pub size-refusal-spec : {M : Type 1} → statement M

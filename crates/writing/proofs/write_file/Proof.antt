@@ -13,12 +13,18 @@ use Rattle.writing.proofs.Laying.{lay-on}
 use Rattle.writing.proofs.write_file.Statement.{statement}
 use Rattle.writing.proofs.write_file.Tie as tie
 
+abbrev after-write-header : tie.After-write-layers → tie.After-write-header
+after-write-header c = c .before .before .before .before
+
+abbrev begun : tie.After-write-layers-arg → tie.Start
+begun c = c .before .before .before .before .before .before
+
 write-header-requires : tie.Need-write-header-requires
 write-header-requires c κs = search needs
 
 write-layers-requires : tie.Need-write-layers-requires
 write-layers-requires c κs =
-    let p = c .before .before .before .before .before .before .pre in
+    let p = begun c .pre in
     (record { fits = p .0 .fits; long = p .0 .long; known = p .0 .known; room = search needs }, p .1)
 
 same-length : tie.Need-same-length
@@ -39,7 +45,7 @@ both s T width values lent between after w e f =
 returns : tie.Need-returns
 returns c =
     let l = c .before .before in
-    let h = l .before .before .before .before in
+    let h = after-write-header l in
     both _ _ _ _ _ _ _ (h .before .before .before .pre .1) (h .write-header .ensures) (l .write-layers .ensures)
 
 pub write-file-spec : {M : Type 1} → statement M

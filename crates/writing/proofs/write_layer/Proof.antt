@@ -12,6 +12,9 @@ use Rattle.writing.proofs.Laying.{is-spread}
 use Rattle.writing.proofs.write_layer.Statement.{statement}
 use Rattle.writing.proofs.write_layer.Tie as tie
 
+abbrev after-kind-of : tie.After-slice-known2 → tie.After-kind-of
+after-kind-of c = c .before .before .before .before
+
 long : (c : tie.After-kind-of) → let a = c .before .before .args in length (a .bytes .now) ≡ 3 + a .width * length (a .values .now)
 long c = c .before .before .pre .1
 
@@ -47,7 +50,7 @@ none-left form rest =
 
 returns : tie.Need-returns
 returns c =
-    let k = c .before .before .before .before in
+    let k = after-kind-of c in
     let a = k .before .before .args in
     let l = a .bytes .now in
     rw (c .before .before .write-values .ensures, is-spread 0 3 l (omega (arith, long k)))
@@ -56,7 +59,7 @@ returns c =
 
 same-length : tie.Need-same-length
 same-length c =
-    let k = c .before .before .before .before in
+    let k = after-kind-of c in
     let a = k .before .before .args in
     ap length (returns c) ∙ omega (arith, length-valuesForm (a .width) (a .values .now), long k)
 
