@@ -8,7 +8,7 @@ use native.Mathlib.Omega.{arith}
 use lib.ListN.{length, getD}
 use Rattle.cells.specs.Groups.{any, consIf, filter, appendIf, reached, consUnless, others, enter, gather, groups}
 use Rattle.prelude.proofs.Lists.{Mem, here, there, mem-cons, mem-left, mem-right, mem-split, filter-mem}
-use Rattle.cells.proofs.Groups.{mem-none}
+use Rattle.cells.proofs.Groups.{At, mem-none}
 
 -- ---- no element twice
 
@@ -77,6 +77,10 @@ flat [] = []
 flat (g ∷ gs) = g ++ flat gs
 
 module _ {A : Type 0} where
+  flat-at : (gs : List (List A)) (i : ℕ) (x : A) → At gs i x → Mem x (flat gs)
+  flat-at (g ∷ gs) zero x a = mem-left x g (flat gs) a
+  flat-at (g ∷ gs) (suc i) x a = mem-right x g (flat gs) (flat-at gs i x a)
+
   pub distinct-at : (gs : List (List A)) (i : ℕ) → Distinct (flat gs) → Distinct (getD gs i [])
   distinct-at [] i d = tt
   distinct-at (g ∷ gs) zero d = append-distinct g (flat gs) d .0
