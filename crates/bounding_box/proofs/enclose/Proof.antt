@@ -19,6 +19,9 @@ Inv-loop d sides b₀ rows row₀ b row = (row ≤ rows) × Bounded sides d (sid
 abbrev μ-loop : tie.MeasureT-loop
 μ-loop d sides b₀ rows row₀ b row = rows - row
 
+abbrev begun : tie.In-loop Inv-loop μ-loop → tie.Start Inv-loop μ-loop
+begun c = c .before .before .before .before
+
 mul-rows : tie.Need-mul-rows Inv-loop μ-loop
 mul-rows c = let s = c .before .before in omega (arith, rows-few (s .args .sides) (s .pre .fit))
 
@@ -38,7 +41,7 @@ widened-requires c κs = row-at c
 add-row : tie.Need-add-row Inv-loop μ-loop
 add-row c =
     let t = c .before in
-    let s = t .before .before .before .before in
+    let s = begun t in
     omega (arith, t .loop-test .taken, rows-few (s .args .sides) (s .pre .fit))
 
 loop-less : tie.Need-loop-less Inv-loop μ-loop

@@ -20,6 +20,12 @@ Inv-loop status₀ b sides rows row₀ status row = (row ≤ rows) × Each 0 (λ
 abbrev μ-loop : tie.MeasureT-loop
 μ-loop status₀ b sides rows row₀ status row = rows - row
 
+abbrev turning : tie.After-slice-known2 Inv-loop μ-loop → tie.In-loop Inv-loop μ-loop
+turning c = c .before .before .before .before
+
+abbrev begun : tie.In-loop Inv-loop μ-loop → tie.Start Inv-loop μ-loop
+begun c = c .before .before .before .before
+
 mul-rows : tie.Need-mul-rows Inv-loop μ-loop
 mul-rows c = let s = c .before .before in omega (arith, rows-few (s .args .sides) (s .pre .fit))
 
@@ -34,12 +40,12 @@ row-at c =
     row-of (s .args .sides) (length (l .loop .status)) (l .loop .row) (s .pre .fit) (l .loop .inv .1 .len ∙ s .pre .len) (c .loop-test .taken)
 
 settle-row-requires : tie.Need-settle-row-requires Inv-loop μ-loop
-settle-row-requires c κs = (row-at (c .before), c .before .before .before .before .before .pre .proper)
+settle-row-requires c κs = (row-at (c .before), begun (c .before) .pre .proper)
 
 add-row : tie.Need-add-row Inv-loop μ-loop
 add-row c =
-    let t = c .before .before .before .before in
-    let s = t .before .before .before .before in
+    let t = turning c in
+    let s = begun t in
     omega (arith, t .loop-test .taken, rows-few (s .args .sides) (s .pre .fit))
 
 loop-less : tie.Need-loop-less Inv-loop μ-loop

@@ -6,6 +6,9 @@ use borrow.Author.Needs.{needs}
 use Rattle.bounding_box.proofs.widened.Statement.{statement}
 use Rattle.bounding_box.proofs.widened.Tie as tie
 
+abbrev begun : tie.After-first-of → tie.Start
+begun c = c .before .before .before .before
+
 mul-first : tie.Need-mul-first
 mul-first c = search needs
 
@@ -18,7 +21,7 @@ first-of-requires c κs = search needs
 returns : tie.Need-returns
 returns c =
     let z = c .before in
-    let a = z .before .before .before .before .args in
+    let a = begun z .args in
     let none = z .first-of .ensures .none-before in
     clear (λ k l h e. none k l (omega (arith, c .if1 .taken)) e) refl
 

@@ -13,6 +13,9 @@ use Rattle.format.specs.Patch.{patchLength, indexAt}
 use Rattle.patches.proofs.patch_refusal.Statement.{statement}
 use Rattle.patches.proofs.patch_refusal.Tie as tie
 
+abbrev begun : tie.After-is-tagged → tie.Start
+begun c = c .before .before .before .before
+
 -- the checks, by what the code found at each
 enough : (c : tie.Else1) → let a = c .before .before .before .args in ltb (length (a .file .now)) (a .start + patchLength) ≡ false
 enough c = sym (c .before .is-short .ensures) ∙ c .if1 .left
@@ -20,7 +23,7 @@ enough c = sym (c .before .is-short .ensures) ∙ c .if1 .left
 whole : (c : tie.Else1) → let a = c .before .before .before .args in a .start + patchLength ≤ length (a .file .now)
 whole c = ltb-false _ _ (enough c)
 
-right : (c : tie.Else2) → let a = c .before .before .before .before .before .args in tagged 0x50 (a .file .now) (a .start) ≡ true
+right : (c : tie.Else2) → let a = begun (c .before) .args in tagged 0x50 (a .file .now) (a .start) ≡ true
 right c = sym (c .before .is-tagged .ensures) ∙ not-false _ (c .if2 .left)
 
 is-short-requires : tie.Need-is-short-requires
@@ -37,7 +40,7 @@ returns-2 : tie.Need-returns-2
 unfolding firstFailing
 returns-2 c =
     let t = c .before in
-    let a = t .before .before .before .before .args in
+    let a = begun t .args in
     let wrong : tagged 0x50 (a .file .now) (a .start) ≡ false = sym (t .is-tagged .ensures) ∙ not-true (t .is-tagged .result) (c .if2 .taken) in
     simp (enough (t .before), wrong)
 
@@ -45,7 +48,7 @@ index-at-requires : tie.Need-index-at-requires
 index-at-requires c κs = whole (c .before .before)
 
 -- 5, by the index that the code found
-index : (c : tie.After-index-at) (t : Bool) → let a = c .before .before .before .before .before .before .args in
+index : (c : tie.After-index-at) (t : Bool) → let a = begun (c .before .before) .args in
     leb (a .n) (c .index-at .result) ≡ t → leb (a .n) (indexAt (a .file .now) (a .start)) ≡ t
 index c t e = sym (ap (leb _) (c .index-at .ensures .0)) ∙ e
 
