@@ -6,7 +6,7 @@ use mathlib.Core.List.{List}
 use Prim.Native.Nat.{ℕ, suc, _+_, _-_, _/_, _%_, _≤_, _<_}
 use native.Mathlib.Omega.{arith}
 use native.Mathlib.Decide.{ℕ-discrete, decLt}
-use borrow.Author.Tests.{ltb-true, ltb-false, eqb-true, eqb-false, ne-eqb}
+use borrow.Author.Tests.{ltb-true, ltb-false, eqb-false, ne-eqb}
 use lib.Dec.{eqb, ltb, lit<}
 use lib.IntN.{ℤ}
 use lib.ListN.{length, set, List·getD-eq-default}
@@ -38,10 +38,6 @@ pending-below status i e =
       | inl t ↦ ltb-true i (length status) t
       | inr t ↦ not-both (isPending status i) e (pending-beyond status i (ltb-false i (length status) t))
     ]
-
-pub pending-two : (status : List ℕ) (i : ℕ) → isPending status i ≡ true → 2 ≤ statusOf status i
-unfolding isPending pendingByte
-pending-two status i e = let h = eqb-true (statusOf status i / 2 % 2) 1 e in omega arith
 
 known-kept : (x : ℕ) → Known x → pendingByte x ≡ true → keptByte x ≡ true
 unfolding keptByte pendingByte

@@ -1,24 +1,9 @@
 // Examinations over the index of pending voxels: one that passes is removed, and wakes those around it; one that fails rests.
-ghost use mathlib.Core.Path.{_≡_};
-ghost use mathlib.Core.Bool.{cond};
-ghost use Prim.Native.Nat.{_≤_};
-ghost use Rattle.rules.specs.Status.{rested};
 ghost use Rattle.rules.specs.Marks.{marked};
 ghost use Rattle.pending.specs.Index.{Index};
 ghost use Rattle.examining.specs.Examining.{Workable, Examinable, Examined, Run, Lending, Tallied};
 use pending::Choice;
 use rules::Sides;
-
-// The status that an examination leaves: that of a voxel gone, or x no longer pending.
-fn left(gone: bool, x: u8) -> u8
-    requires { ⌜ 2 ≤ x ⌝ }
-    ensures { λ r. ⌜ r ≡ cond gone 0 (rested x) ⌝ }
-{
-    if gone {
-        return 0;
-    }
-    x - 2
-}
 
 // Examines pending voxel i: 1 where it was removed, 0 where it stays. One gathering serves the test and the waking, and one place in the
 // code clears, so that the compiler sets that work in place.
@@ -39,7 +24,7 @@ fn examine(
     let passes = local_test::passes(block);
     let gone = passes & waking::may_go(dist, marks, i);
     let x = status[i];
-    pending::clear(dist, marks, status, offsets, tree, i, left(gone, x));
+    pending::clear(dist, marks, status, offsets, tree, i, status::left(gone, x));
     if gone {
         index_waking::wake_around(s, dist, marks, status, offsets, tree, i, block);
         return 1;

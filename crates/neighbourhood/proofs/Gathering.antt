@@ -1,49 +1,25 @@
 -- What is gathered around an inner voxel: bit by bit the statuses there, and the block that the local test is asked of.
-use mathlib.Core.Path.{_≡_, refl, sym, ap, ap₂, _∙_}
-use mathlib.Core.Bool.{Bool, true, false, _&&_}
+use mathlib.Core.Path.{_≡_, sym, ap, _∙_}
+use mathlib.Core.Bool.{Bool, true, _&&_}
 use mathlib.Core.List.{List}
 use Prim.Native.Nat.{ℕ, zero, suc, _+_, _*_, _/_, _%_, _≤_, _<_}
 use native.Mathlib.Omega.{arith}
-use native.Mathlib.Nat.{div-one}
-use borrow.Author.Tests.{eq-eqb, ne-eqb, le-leb}
-use lib.Bits.{bitAnd}
-use lib.Dec.{eqb, leb, lit<}
+use borrow.Author.Tests.{le-leb}
+use lib.Dec.{leb, lit<}
 use lib.ListN.{getD}
 use Rattle.cells.specs.Cells.{bit, test}
 use Rattle.closed_sets.proofs.EveryBlock.{place-lt, test-ext}
 use Rattle.prelude.proofs.Bools.{true-and}
 use Rattle.rules.specs.declared.Sides.{Sides}
 use Rattle.rules.specs.Grid.{voxel, index, reaches, neighbour, neighbourhoodOf, neighbourhood}
-use Rattle.rules.specs.Status.{statusOf, keptByte, pendingByte, isKept, isPending, testAt}
+use Rattle.rules.specs.Status.{statusOf, isKept, isPending, testAt}
 use Rattle.bits.specs.Bits.{has, bits}
-use Rattle.bits.proofs.Bits.{has-and, bits-lt, bits-has, bits-ext, has-bits}
+use Rattle.bits.proofs.Bits.{bits-lt, bits-has, bits-ext, has-bits}
+use Rattle.status.proofs.Bytes.{kept-bit, pending-bit}
 use Rattle.touched_cells.specs.Block.{rowIn, Rows, keptIn, blockBit, codeIn, keptOf}
 use Rattle.touched_cells.proofs.Blocks.{kept-in-code}
 use Rattle.neighbourhood.specs.Neighbourhood.{Inner, Few, offset, firstAround, around, rowBit, rowAt, layerAt, cubeAt, statusBit, codeOf, Gathered}
 use Rattle.neighbourhood.proofs.Interior.{interior, around-index}
-
--- ---- the bits of a status
-
-pub kept-bit : (x : ℕ) → has x 0 ≡ keptByte x
-unfolding has keptByte
-kept-bit x = ap (λ (y : ℕ). eqb (y % 2) 1) (div-one x)
-
-pub pending-bit : (x : ℕ) → has x 1 ≡ pendingByte x
-unfolding has pendingByte
-pending-bit x = refl
-
-pub even-gone : (x : ℕ) → x % 2 ≡ 0 → keptByte x ≡ false
-unfolding keptByte
-even-gone x e = ne-eqb (x % 2) 1 (λ q. omega arith)
-
-pub odd-kept : (x : ℕ) → (x % 2 ≡ 0 → ⊥) → keptByte x ≡ true
-unfolding keptByte
-odd-kept x n = let e : x % 2 ≡ 1 = omega arith in eq-eqb (x % 2) 1 e
-
--- bit 0 of bytes joined by and
-pub kept-and : (x y : ℕ) {p : Bool} → keptByte y ≡ p → keptByte (bitAnd x y) ≡ keptByte x && p
-kept-and x y e =
-    sym (kept-bit (bitAnd x y)) ∙ has-and x y 0 ∙ ap₂ _&&_ (kept-bit x) (kept-bit y ∙ e)
 
 -- ---- what is gathered
 

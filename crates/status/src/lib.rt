@@ -1,6 +1,6 @@
 // A status byte: bit 0 says that its voxel is kept, bit 1 that it is pending. Code asks for these bits and changes them by the functions here.
 ghost use mathlib.Core.Path.{_≡_};
-ghost use mathlib.Core.Bool.{true};
+ghost use mathlib.Core.Bool.{true, cond};
 ghost use Prim.Native.Nat.{_≤_};
 ghost use Rattle.cells.specs.Cells.{bit};
 ghost use Rattle.rules.specs.Status.{keptByte, pendingByte, woken, rested};
@@ -43,4 +43,15 @@ pub fn rested(x: u8) -> u8
     ensures { λ r. ⌜ r ≡ rested x ⌝ }
 {
     x - 2
+}
+
+// What an examination leaves of a pending voxel's byte: that of a voxel gone, or the byte made not pending.
+pub fn left(gone: bool, x: u8) -> u8
+    requires { ⌜ pendingByte x ≡ true ⌝ }
+    ensures { λ r. ⌜ r ≡ cond gone 0 (rested x) ⌝ }
+{
+    if gone {
+        return 0;
+    }
+    rested(x)
 }

@@ -21,7 +21,7 @@ use Rattle.neighbourhood.proofs.Interior.{around-apart, around-middle, around-t
 use Rattle.neighbourhood.proofs.Gathering.{code-kept, code-pending}
 use Rattle.waking.specs.Waking.{idleAt, idleBit, Woken, AtBits, fromVoxel}
 use Rattle.waking.proofs.Idle.{idle-position, position-idle}
-use Rattle.waking.proofs.Waking.{pending-stays}
+use Rattle.status.proofs.Bytes.{pending-stays}
 
 -- ---- the rule at a voxel
 

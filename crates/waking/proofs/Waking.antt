@@ -3,20 +3,20 @@ use mathlib.Core.Path.{_≡_, refl, sym, ap, _∙_, subst}
 use mathlib.Core.Logic.{_⊎_, inl, inr}
 use mathlib.Core.Bool.{Bool, true, false, not, cond, _&&_, _||_}
 use mathlib.Core.List.{List}
-use Prim.Native.Nat.{ℕ, _+_, _-_, _*_, _/_, _%_, _^_, _≤_, _<_, min}
+use Prim.Native.Nat.{ℕ, _-_, _/_, _^_, _≤_, _<_}
 use native.Mathlib.Omega.{arith}
 use native.Mathlib.Decide.{ℕ-discrete}
-use borrow.Author.Tests.{eqb-true, eqb-false}
-use lib.Bits.{bitAnd, bitOr, or-add-and, and-step, and-mask}
+use lib.Bits.{bitAnd}
 use lib.IntN.{ℤ}
 use lib.ListN.{length, set, length-set}
 use lib.Seq.{getD-set-same, getD-set-other}
 use Rattle.prelude.proofs.Bools.{two, not-both}
 use Rattle.rules.specs.Grid.{isNegative, distanceAt}
-use Rattle.rules.specs.Status.{statusOf, pendingByte, woken}
+use Rattle.rules.specs.Status.{statusOf, woken}
 use Rattle.rules.specs.Marks.{Marked}
 use Rattle.rules.specs.Machine.{isInside, outside, mayGo}
 use Rattle.rules.proofs.Topology.Bytes.{woken-pending}
+use Rattle.status.proofs.Bytes.{pending-stays}
 use Rattle.bits.specs.Bits.{has}
 use Rattle.neighbourhood.specs.Neighbourhood.{Room}
 use Rattle.neighbourhood.proofs.Interior.{offset-most}
@@ -25,32 +25,6 @@ use Rattle.waking.specs.Waking.{wokenIf, Woken, Only, AtBits, fromVoxel}
 use Rattle.waking.proofs.Idle.{has-below}
 
 -- ---- one status
-
-module _ (x : ℕ) where
-  pub pending-stays : pendingByte x ≡ true → woken x ≡ x
-  unfolding woken
-  pending-stays e = ap (λ (t : Bool). cond t x (x + 2)) e
-
-  idle-wakes : pendingByte x ≡ false → woken x ≡ x + 2
-  unfolding woken
-  idle-wakes e = ap (λ (t : Bool). cond t x (x + 2)) e
-
-  -- bit 1 set
-  pub woken-or : bitOr x 2 ≡ woken x
-  unfolding pendingByte
-  woken-or =
-      let s : bitAnd x 2 ≡ bitAnd (x / 2) 1 * 2 + min (x % 2) 0 = and-step x 2 in
-      let m : bitAnd (x / 2) 1 ≡ x / 2 % 2 = and-mask (x / 2) 1 in
-      let z : min (x % 2) 0 ≡ 0 = omega arith in
-      let o = or-add-and x 2 in
-      elim (two (pendingByte x)) [
-        | inl e ↦ (let h : x / 2 % 2 ≡ 1 = eqb-true (x / 2 % 2) 1 e in let q : bitOr x 2 ≡ x = omega arith in q ∙ sym (pending-stays e))
-        | inr e ↦
-            (let n = eqb-false (x / 2 % 2) 1 e in
-            let h : x / 2 % 2 ≡ 0 = omega arith in
-            let q : bitOr x 2 ≡ x + 2 = omega arith in
-            q ∙ sym (idle-wakes e))
-      ]
 
 pub woken-twice : (x : ℕ) → woken (woken x) ≡ woken x
 woken-twice x = pending-stays (woken x) (woken-pending x)

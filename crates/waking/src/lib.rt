@@ -46,7 +46,7 @@ fn woken_status(d: i32, pinned: bool, x: u8) -> u8
     if (d < 0) | pinned {
         return x;
     }
-    x | 2
+    status::woken(x)
 }
 
 fn wake_one(dist: &[i32], marks: &[u8], status: &mut [u8], j: usize)

@@ -14,7 +14,7 @@ use Rattle.neighbourhood.specs.Neighbourhood.{Inner}
 use Rattle.neighbourhood.proofs.Gathering.{block-test}
 use Rattle.waking.specs.Waking.{idleBit}
 use Rattle.waking.proofs.Removal.{removed-from}
-use Rattle.examining.proofs.Working.{pending-below, pending-two, pending-inner, written-as, gone-examined, rest-examined}
+use Rattle.examining.proofs.Working.{pending-below, pending-inner, written-as, gone-examined, rest-examined}
 use Rattle.examining.proofs.examine.Statement.{statement}
 use Rattle.examining.proofs.examine.Tie as tie
 
@@ -69,9 +69,8 @@ abbrev asked : tie.After-clear → tie.After-may-go
 asked c = c .before .before .before .before .before .before
 
 left-requires : tie.Need-left-requires
-left-requires c κs =
-    let s = start (c .before .before .before .before .before .before) in
-    pending-two (s .args .status .now) (s .args .i) (s .pre .pending)
+unfolding isPending
+left-requires c κs = start (c .before .before .before .before .before .before) .pre .pending
 
 -- a byte that is left is not pending
 left-idle : (t : Bool) (x : ℕ) → pendingByte x ≡ true → pendingByte (cond t 0 (rested x)) ≡ false

@@ -1,6 +1,7 @@
 -- `waking::woken_status` meets its contract.
 use mathlib.Core.Bool.{Bool, cond, _||_}
 use mathlib.Core.Path.{_≡_, sym, ap, _∙_}
+use borrow.Author.Needs.{needs}
 use lib.IntN.{ℤ, pos}
 use lib.Signed.{ltZ}
 use mir.Syntax.{w32}
@@ -9,7 +10,6 @@ use Rattle.rules.specs.Grid.{isNegative}
 use Rattle.prelude.proofs.Signs.{held-negative}
 use Rattle.rules.specs.Status.{woken}
 use Rattle.waking.specs.Waking.{wokenIf}
-use Rattle.waking.proofs.Waking.{woken-or}
 use Rattle.waking.proofs.woken_status.Statement.{statement}
 use Rattle.waking.proofs.woken_status.Tie as tie
 
@@ -22,12 +22,16 @@ returns c =
     let p = c .before in
     sym (ap (λ (t : Bool). cond t (p .args .x) (woken (p .args .x))) (by-machine (p .args .d) (p .args .pinned) (p .fits .d) ∙ c .if1 .taken))
 
+woken-requires : tie.Need-woken-requires
+woken-requires c κs = search needs
+
 returns-2 : tie.Need-returns-2
 unfolding wokenIf
 returns-2 c =
-    let p = c .before in
-    woken-or (p .args .x)
-    ∙ sym (ap (λ (t : Bool). cond t (p .args .x) (woken (p .args .x))) (by-machine (p .args .d) (p .args .pinned) (p .fits .d) ∙ c .if1 .left))
+    let e = c .before in
+    let p = e .before in
+    c .woken .ensures
+    ∙ sym (ap (λ (t : Bool). cond t (p .args .x) (woken (p .args .x))) (by-machine (p .args .d) (p .args .pinned) (p .fits .d) ∙ e .if1 .left))
 
 pub woken-status-spec : {M : Type 1} → statement M
-woken-status-spec = tie.close (tie.spec returns returns-2)
+woken-status-spec = tie.close (tie.spec returns woken-requires returns-2)
