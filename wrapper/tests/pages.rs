@@ -1,10 +1,11 @@
-//! docs/RULES.md and docs/RESULT.md cite definitions as `File.name`: each is in the specs, and each rule cites one. What docs/PROOFS.md and
-//! docs/DECISIONS.md cite by a capital is declared somewhere. README's picture has the crates of crates.txt.
+//! docs/RULES.md and docs/RESULT.md cite definitions as `File.name`: each is in the specs, and each rule cites one. docs/PROOFS.md lists every theorem
+//! of the specs with the file that proves it, and how many lines the rules have. What docs/PROOFS.md, docs/DECISIONS.md and docs/SHAPE.md cite by a
+//! capital is declared somewhere. README's picture has the crates of crates.txt.
 
 mod common;
 
 use common::root;
-use std::collections::{HashMap, HashSet};
+use std::collections::{BTreeSet, HashMap, HashSet};
 use std::path::{Path, PathBuf};
 
 fn text(path: &Path) -> String {
@@ -84,10 +85,10 @@ fn capitals() -> HashSet<String> {
 fn every_capital_is_declared() {
     let names = capitals();
     let capital = |word: &&str| word.starts_with(|c: char| c.is_ascii_uppercase()) && word.chars().all(|c| c.is_ascii_alphanumeric());
-    for page in ["docs/PROOFS.md", "docs/DECISIONS.md"] {
+    for (page, least) in [("docs/PROOFS.md", 100), ("docs/DECISIONS.md", 10), ("docs/SHAPE.md", 3)] {
         let page_text = text(&root().join(page));
         let cited: Vec<&str> = page_text.split('`').skip(1).step_by(2).filter(capital).collect();
-        assert!(cited.len() > 10, "the names of {page} are read");
+        assert!(cited.len() > least, "the names of {page} are read");
         for word in cited {
             assert!(names.contains(word), "{page} cites {word}, which nothing declares");
         }
@@ -103,6 +104,120 @@ fn every_rule_has_a_name() {
         assert!(!cited(row).is_empty(), "no definition stands beside: {row}");
     }
 }
+
+// ---- docs/PROOFS.md: every theorem, and the length of the rules
+
+/// Closed types of the specs that are no theorems, by the reason. Each has its file below crates/ before it.
+const NO_THEOREMS: [(&str, &[&str]); 3] = [
+    (
+        "data that rules and contracts are over",
+        &[
+            "cells/specs/Cells.antt Test",
+            "floods/specs/Flood.antt Fill",
+            "format/specs/File.antt Header",
+            "format/specs/Layer.antt Part",
+            "points/specs/Listing.antt Listing",
+            "points/specs/Listing.antt Walk",
+            "replies/specs/FromC.antt Held",
+            "rules/specs/Answer.antt Buffers",
+            "rules/specs/Answer.antt Carving",
+            "rules/specs/Answer.antt Opening",
+            "rules/specs/Answer.antt Removal",
+            "rules/specs/Body.antt Voxels",
+            "rules/specs/Checks.antt Check",
+            "rules/specs/Demand.antt Run",
+            "rules/specs/Demand.antt Sums",
+            "rules/specs/Grid.antt Voxel",
+            "rules/specs/Machine.antt State",
+            "rules/specs/Marks.antt Marked",
+            "rules/specs/Status.antt Progress",
+        ],
+    ),
+    ("types of the parts that wrong readers exchange", &["format/specs/Wrong.antt Looks", "format/specs/Wrong.antt Places"]),
+    (
+        "statements that are a field of a listed record",
+        &["rules/specs/WrongSteps.antt ByFaces", "rules/specs/WrongSteps.antt OpensFirstFailure"],
+    ),
+];
+
+/// The name of a type without parameters that a line declares, an abbreviation or a record: what it states, it states of everything.
+fn closed(line: &str) -> Option<&str> {
+    let declared = line.strip_suffix(" where").unwrap_or(line).strip_suffix(" : Type 0")?;
+    let words: Vec<&str> = declared.split(' ').skip_while(|w| ["abbrev", "unfoldable"].contains(w)).collect();
+    match words[..] {
+        ["pub", "record", name] | ["pub", name] => Some(name),
+        _ => None,
+    }
+}
+
+/// The closed types of all specification files, each with its file below crates/ before it.
+fn closed_types() -> BTreeSet<String> {
+    let crates = root().join("crates");
+    let mut found = BTreeSet::new();
+    for path in listed(&crates).iter().flat_map(|krate| below(&krate.join("specs"))) {
+        let file = path.strip_prefix(&crates).expect("a file below crates/").display().to_string();
+        found.extend(text(&path).lines().filter_map(closed).map(|name| format!("{file} {name}")));
+    }
+    found
+}
+
+/// The cells of the table rows in a section of docs/PROOFS.md that cite something.
+fn rows(section: &str) -> Vec<Vec<String>> {
+    let page = text(&root().join("docs/PROOFS.md"));
+    let begun = page.lines().skip_while(|line| *line != section).skip(1).take_while(|line| !line.starts_with("## "));
+    let rows = begun.filter(|line| line.starts_with("| ") && line.contains('`'));
+    rows.map(|row| row.trim_matches('|').split(" | ").map(|cell| cell.trim().to_string()).collect()).collect()
+}
+
+/// A proof file declares something of the type: at the start of a line, and nothing follows the type.
+fn proves(file: &str, theorem: &str) -> bool {
+    let path = root().join("crates").join(file);
+    let types = |line: &str| line.split_once(" : ").filter(|(name, _)| !name.starts_with(' ')).map(|(_, of)| of.to_string());
+    path.is_file() && text(&path).lines().filter_map(types).any(|of| of.rsplit('.').next() == Some(theorem))
+}
+
+#[test]
+fn every_theorem_is_listed_with_its_proof() {
+    let (mut listed, mut wrong) = (BTreeSet::new(), Vec::new());
+    for row in rows("## All theorems") {
+        let [theorem, _, stated, proved] = &row[..] else { panic!("not four cells: {row:?}") };
+        let [theorem, stated, proved] = [theorem, stated, proved].map(|cell| cell.trim_matches('`'));
+        if !proves(proved, theorem) {
+            wrong.push(format!("{theorem} is not proved in {proved}"));
+        }
+        if !listed.insert(format!("{stated} {theorem}")) {
+            wrong.push(format!("{theorem} is listed twice"));
+        }
+    }
+    let none: BTreeSet<String> = NO_THEOREMS.iter().flat_map(|(_, types)| types.iter().map(|name| name.to_string())).collect();
+    let closed = closed_types();
+    wrong.extend(none.difference(&closed).map(|name| format!("{name} is no closed type of the specs any more")));
+    let theorems: BTreeSet<String> = closed.difference(&none).cloned().collect();
+    wrong.extend(theorems.difference(&listed).map(|name| format!("{name} has no line on the page")));
+    wrong.extend(listed.difference(&theorems).map(|name| format!("{name} is on the page and is no theorem of that file")));
+    assert!(wrong.is_empty(), "docs/PROOFS.md, \"All theorems\":\n{}", wrong.join("\n"));
+}
+
+/// Lines of a file that are neither imports nor comments nor blank.
+fn definitions(file: &str) -> usize {
+    let file = text(&root().join("crates").join(file));
+    file.lines().map(str::trim).filter(|line| !line.is_empty() && !line.starts_with("--") && !line.starts_with("use ")).count()
+}
+
+#[test]
+fn the_rules_are_as_long_as_is_said() {
+    let section = "## Where the rules are, and how long";
+    let mut sum = 0;
+    for row in rows(section).iter().filter(|row| row.len() == 3 && row[1].contains(".antt")) {
+        let counted: usize = row[1].split('`').skip(1).step_by(2).map(definitions).sum();
+        assert_eq!(row[2], counted.to_string(), "the lines of {}", row[0]);
+        sum += counted;
+    }
+    let all = format!("| All | | {},{:03} |", sum / 1000, sum % 1000);
+    assert!(text(&root().join("docs/PROOFS.md")).contains(&all), "the last row is to be: {all}");
+}
+
+// ---- README: the picture of crates
 
 /// The crates of crates.txt, each with what it cites.
 fn crates() -> HashMap<String, Vec<String>> {
