@@ -4,7 +4,7 @@
 //!                                                 of these kinds alone where any is named
 //!        fuzz show FOLDER KIND NUMBER             prints one conformance script
 //!        fuzz program PROGRAM FOLDER              the program's line for each file of the conformance scripts
-//!        fuzz rewrite REPLAY FOLDER SAMPLES       every good file of these folders, and of three thousand seeds, read, written and read again
+//!        fuzz rewrite REPLAY FOLDER SAMPLES       every good file of these folders, and of four thousand seeds, read, written and read again
 //!        fuzz rewriting FOLDER SAMPLES NUMBER     prints one of its scripts
 //!        fuzz write FOLDER                        makes the conformance files; fails where one of the list's entries is missing
 //!        fuzz list                                that list, with how many calls meet each entry
