@@ -138,7 +138,7 @@ fn work_with(dist: &mut [i32], status: &mut [u8], sides: Sides, values: &[i32], 
     ensures { λ _. ⌜ WorkedOut sides (marked (now (marks .entry))) (filled sides (now (values .entry))) (now (dist .exit)) (now (status .exit)) ⌝ }
 {
     work_out(dist, status, sides, values);
-    meeting::meet(status, dist, marks);
+    first_marks::mark_statuses(status, dist, marks);
 }
 
 // Fills in the worked distances and the status of a new grid, and returns its record. A refusal writes nothing.

@@ -18,7 +18,7 @@ use Rattle.pending.specs.declared.Choice.{Choice}
 use Rattle.pending.specs.declared.Choice.the-variants.{Nothing, At}
 use Rattle.pending.specs.Index.{chosen, Best, Index}
 use Rattle.examining.specs.declared.Count.{Count}
-use Rattle.neighbourhood.specs.Neighbourhood.{Inner}
+use Rattle.rules.specs.Neighbours.{Inner}
 use Rattle.last_removal.specs.LastRemoval.{faceAfter}
 use Rattle.examining.specs.Examining.{Workable, Examined, Run, Tallied}
 use Rattle.examining.proofs.Working.{pending-inner, workable-examine, face-examined}

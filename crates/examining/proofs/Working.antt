@@ -24,7 +24,8 @@ use Rattle.rules.specs.Fit.{Known, FitVoxels}
 use Rattle.rules.proofs.Topology.Surface.{omit}
 use Rattle.rules.proofs.Topology.Around.{place-low}
 use Rattle.rules.proofs.Topology.Steps.{pending-beyond, length-without, kept-without, pending-without, length-stayed, kept-stayed, pending-stayed}
-use Rattle.neighbourhood.specs.Neighbourhood.{Inner, Few, around}
+use Rattle.rules.specs.Neighbours.{Inner}
+use Rattle.neighbourhood.specs.Neighbourhood.{Few, around}
 use Rattle.neighbourhood.proofs.Interior.{around-middle, around-apart}
 use Rattle.neighbourhood.proofs.Gathering.{neighbourhood-around}
 use Rattle.neighbourhood.proofs.Bodies.{kept-inner, fit-body}

@@ -36,7 +36,7 @@ use Rattle.floods.proofs.Pushes.{label-lt}
 use Rattle.floods.proofs.Positions.{corner, offset-in, at-offset, offset-at, near-position, position-near, positions-in}
 use Rattle.labels.specs.Labels.{kindOf, Marked, settledOf}
 use Rattle.labels.proofs.Marking.{Kind, negative, missing, other, kind-is}
-use Rattle.gaps.specs.Gaps.{faces, opens, Reached, Drainable, Drained}
+use Rattle.gaps.specs.Gaps.{faces, opens, Reached, GapsToFlood, OpenGapsFlooded}
 
 few : (p : ℕ) → Mem p facePositions → p < 27
 few p m = face-taxicab p m .1
@@ -102,9 +102,9 @@ module _ (s : Sides) (values : List ℤ) (A : Beginnable s values) (L : List ℕ
   face-near : (u v : ℕ) → getD L u 0 ≡ 1 → shareFace s u v ≡ true → near u v ≡ true
   face-near u v e f = let q = face-at-position s u v f in position-near s F u (inner-gap u e) facePositions v (q .0) (q .1) (q .2)
 
-  pub drainable : (room : ℕ) → room ≡ size s → Drainable (faces (s .a) ab) back L room
+  pub gaps-to-flood : (room : ℕ) → room ≡ size s → GapsToFlood (faces (s .a) ab) back L room
   unfolding size
-  drainable room r =
+  gaps-to-flood room r =
       let most = mul-le-mul (mul-le-mul (F .a-high) (F .b-high)) (F .c-high) in
       record {
         same = r ∙ sym (M .len);
@@ -229,7 +229,7 @@ module _ (s : Sides) (values : List ℤ) (A : Beginnable s values) (L : List ℕ
       → _≡_ {A = ℕ} 0 (cond (measuredNegative (valueAt (filled s values) k)) 1 0)
   as-given k h n m = sym (used k h false (not-filled k n) ∙ ap (λ (t : Bool). cond {A = ℕ} t 1 0) m)
 
-  module _ (l : List ℕ) (D : Drained (faces (s .a) ab) back L l) where
+  module _ (l : List ℕ) (D : OpenGapsFlooded (faces (s .a) ab) back L l) where
     settled-at : (k : ℕ) → k < size s → settledOf (getD l k 0) ≡ cond (measuredNegative (valueAt (filled s values) k)) 1 0
     settled-at k h = ⊎-elim (λ q. ap settledOf q ∙ stayed (getD L k 0) refl q (said k h)) (λ t. taken (t .0) (t .1)) (D .kept k)
       where

@@ -1,2 +1,2 @@
-pub mod Draining
+pub mod OpenGaps
 pub mod Enclosing

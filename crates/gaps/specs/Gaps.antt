@@ -28,7 +28,7 @@ pub record Reached (offsets : List ℕ) (back : ℕ) (l : List ℕ) (v : ℕ) : 
   pub linked : Linked (labelled 1 l) (nearBy offsets back) from v
 
 -- labels on which floods may start, with a work list as long
-pub record Drainable (offsets : List ℕ) (back : ℕ) (l : List ℕ) (room : ℕ) : Type 0 where
+pub record GapsToFlood (offsets : List ℕ) (back : ℕ) (l : List ℕ) (room : ℕ) : Type 0 where
   pub same : room ≡ length l
   pub small : length l ≤ 262144
   pub low : (v : ℕ) → getD l v 0 ≡ 1 → back ≤ v
@@ -41,7 +41,7 @@ pub data Visited (offsets : List ℕ) (back i : ℕ) (l l′ : List ℕ) (work w
   passed : opens offsets (i - back) l ≡ false → l′ ≡ l → Visited offsets back i l l′ work work′
 
 -- all that was reached is taken, and nothing else changed
-pub record Drained (offsets : List ℕ) (back : ℕ) (l l′ : List ℕ) : Type 0 where
+pub record OpenGapsFlooded (offsets : List ℕ) (back : ℕ) (l l′ : List ℕ) : Type 0 where
   pub len : length l′ ≡ length l
   pub kept : (v : ℕ) → (getD l′ v 0 ≡ getD l v 0) ⊎ ((Taken l l′ v) × (Reached offsets back l v))
   pub whole : (v : ℕ) → Reached offsets back l v → getD l′ v 0 ≡ 2

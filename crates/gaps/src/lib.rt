@@ -8,7 +8,7 @@ ghost use lib.ListN.{length, getD};
 ghost use Rattle.rules.specs.Fill.{filled};
 ghost use Rattle.values.specs.Values.{labelsOf};
 ghost use Rattle.gaps.specs.Work.{Accepted};
-ghost use Rattle.gaps.specs.Gaps.{faces as facesOf, opens as opensOf, Drainable, Visited, Drained};
+ghost use Rattle.gaps.specs.Gaps.{faces as facesOf, opens as opensOf, GapsToFlood, Visited, OpenGapsFlooded};
 
 // The offsets at which voxels share a face, in rows of a voxels and layers of ab.
 fn faces(a: usize, ab: usize) -> [usize; 6]
@@ -41,7 +41,7 @@ fn opens(label: &[u8], base: usize, offsets: &[usize]) -> bool
 
 // Floods from voxel i, if its gap is open beside it.
 fn visit(label: &mut [u8], work: &mut [i32], i: usize, offsets: &[usize], back: usize)
-    requires { ⌜ Drainable (now offsets) back (now label) (length (now work)) × (getD (now label) i 0 ≡ 1) ⌝ }
+    requires { ⌜ GapsToFlood (now offsets) back (now label) (length (now work)) × (getD (now label) i 0 ≡ 1) ⌝ }
     ensures { λ _. ⌜ Visited (now (offsets .entry)) back i (now (label .entry)) (now (label .exit)) (now (work .entry)) (now (work .exit)) ⌝ }
 {
     if opens(label, i - back, offsets) {
@@ -50,9 +50,9 @@ fn visit(label: &mut [u8], work: &mut [i32], i: usize, offsets: &[usize], back: 
 }
 
 // Takes every voxel of an open gap.
-fn drain(label: &mut [u8], work: &mut [i32], offsets: &[usize], back: usize)
-    requires { ⌜ Drainable (now offsets) back (now label) (length (now work)) ⌝ }
-    ensures { λ _. ⌜ Drained (now (offsets .entry)) back (now (label .entry)) (now (label .exit)) ⌝ }
+fn flood_open_gaps(label: &mut [u8], work: &mut [i32], offsets: &[usize], back: usize)
+    requires { ⌜ GapsToFlood (now offsets) back (now label) (length (now work)) ⌝ }
+    ensures { λ _. ⌜ OpenGapsFlooded (now (offsets .entry)) back (now (label .entry)) (now (label .exit)) ⌝ }
 {
     let n = label.len();
     let mut i = loops::first_of(label, 1, 0, n);
@@ -70,6 +70,6 @@ pub fn label(status: &mut [u8], dist: &mut [i32], sides: Sides, values: &[i32])
     labels::mark(status, values, sides);
     let ab = sides.a * sides.b;
     let offsets = faces(sides.a, ab);
-    drain(status, dist, &offsets, 1 + sides.a + ab);
+    flood_open_gaps(status, dist, &offsets, 1 + sides.a + ab);
     labels::settle(status);
 }

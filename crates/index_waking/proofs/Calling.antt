@@ -15,12 +15,12 @@ use Rattle.bits.specs.Lowest.{Lowest}
 use Rattle.waking.specs.Waking.{Woken, Only, AtBits, fromVoxel}
 use Rattle.waking.proofs.Waking.{woken-one, woken-bound, Rousing, rousing-start, rousing-next, rousing-done}
 use Rattle.pending.specs.Index.{Index, Written}
-use Rattle.index_waking.specs.IndexWaking.{Roused}
+use Rattle.index_waking.specs.IndexWaking.{WokenIndexed}
 
 -- ---- one voxel
 
 module _ (mk : Marked) (dist : List ℤ) (before offsets tree : List ℕ) (j : ℕ) where
-  pub stays : mayGo mk dist j ≡ false → Index mk dist before offsets tree → Roused (Only (mayGo mk dist) j) mk dist before before offsets tree
+  pub stays : mayGo mk dist j ≡ false → Index mk dist before offsets tree → WokenIndexed (Only (mayGo mk dist) j) mk dist before before offsets tree
   stays e i = record { woken = woken-bound (mayGo mk dist) before j e; index = i }
 
   pub wakes :
@@ -28,7 +28,7 @@ module _ (mk : Marked) (dist : List ℤ) (before offsets tree : List ℕ) (j : �
       → j < length before
       → mayGo mk dist j ≡ true
       → Written mk dist before after offsets tree j (woken (statusOf before j))
-      → Roused (Only (mayGo mk dist) j) mk dist before after offsets tree
+      → WokenIndexed (Only (mayGo mk dist) j) mk dist before after offsets tree
   wakes after h e w =
       record {
         woken = subst (Woken (Only (mayGo mk dist) j) before) (sym (w .status)) (woken-one (mayGo mk dist) before j _ h e refl);
@@ -36,12 +36,12 @@ module _ (mk : Marked) (dist : List ℤ) (before offsets tree : List ℕ) (j : �
       }
 
 -- the bits and the first voxel, as code has them
-pub roused-at :
+pub woken-at :
     {mk : Marked} {dist : List ℤ} {before after offsets tree : List ℕ} (a l : ℕ) {x y at from : ℕ} → x ≡ y → at ≡ from
-    → Roused (AtBits (mayGo mk dist) x (fromVoxel a l at)) mk dist before after offsets tree
-    → Roused (AtBits (mayGo mk dist) y (fromVoxel a l from)) mk dist before after offsets tree
-roused-at {mk} {dist} {before} {after} {offsets} {tree} a l e f w =
-    subst₂ (λ (x at : ℕ). Roused (AtBits (mayGo mk dist) x (fromVoxel a l at)) mk dist before after offsets tree) e f w
+    → WokenIndexed (AtBits (mayGo mk dist) x (fromVoxel a l at)) mk dist before after offsets tree
+    → WokenIndexed (AtBits (mayGo mk dist) y (fromVoxel a l from)) mk dist before after offsets tree
+woken-at {mk} {dist} {before} {after} {offsets} {tree} a l e f w =
+    subst₂ (λ (x at : ℕ). WokenIndexed (AtBits (mayGo mk dist) x (fromVoxel a l at)) mk dist before after offsets tree) e f w
 
 -- ---- the loop
 
@@ -69,7 +69,7 @@ module _ (mk : Marked) (dist : List ℤ) (x : ℕ) (voxelAt : ℕ → ℕ) (befo
       (status offsets tree after offsets1 tree1 : List ℕ) (m t : ℕ)
       → Calling mk dist x voxelAt before offsets0 tree0 status offsets tree m
       → Lowest m t
-      → Roused (Only (mayGo mk dist) (voxelAt (t / 2))) mk dist status after offsets1 tree1
+      → WokenIndexed (Only (mayGo mk dist) (voxelAt (t / 2))) mk dist status after offsets1 tree1
       → length after ≡ length status
       → length offsets1 ≡ length offsets
       → length tree1 ≡ length tree
@@ -88,6 +88,6 @@ module _ (mk : Marked) (dist : List ℤ) (x : ℕ) (voxelAt : ℕ → ℕ) (befo
       (status offsets tree : List ℕ) (m : ℕ)
       → Calling mk dist x voxelAt before offsets0 tree0 status offsets tree m
       → ((t : ℕ) → has m t ≡ false)
-      → Roused (AtBits (mayGo mk dist) x voxelAt) mk dist before status offsets tree
+      → WokenIndexed (AtBits (mayGo mk dist) x voxelAt) mk dist before status offsets tree
   calling-done status offsets tree m k none =
       record { woken = rousing-done (mayGo mk dist) x voxelAt before m status (k .rousing) none; index = k .index }

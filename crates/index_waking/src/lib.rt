@@ -8,7 +8,7 @@ ghost use Rattle.touched_cells.specs.Block.{Rows, codeIn};
 ghost use Rattle.neighbourhood.specs.Neighbourhood.{firstAround};
 ghost use Rattle.waking.specs.Waking.{idleBit, Only, AtBits, fromVoxel};
 ghost use Rattle.pending.specs.Index.{Index};
-ghost use Rattle.index_waking.specs.IndexWaking.{Callables, Roused, Leaving};
+ghost use Rattle.index_waking.specs.IndexWaking.{CallableIndexed, WokenIndexed, Leaving};
 use rules::Sides;
 
 fn wake_one(
@@ -21,7 +21,7 @@ fn wake_one(
 )
     requires { ⌜ Index (marked (now marks)) (now dist) (now status) (now offsets) (now tree) × (j < length (now status)) ⌝ }
     ensures { λ _. ⌜
-        Roused (Only (mayGo (marked (now (marks .entry))) (now (dist .entry))) j) (marked (now (marks .entry))) (now (dist .entry)) (now (status .entry))
+        WokenIndexed (Only (mayGo (marked (now (marks .entry))) (now (dist .entry))) j) (marked (now (marks .entry))) (now (dist .entry)) (now (status .entry))
         (now (status .exit))
         (now (offsets .exit)) (now (tree .exit)) ⌝ }
 {
@@ -43,9 +43,9 @@ fn wake(
     at: usize,
     idle: u64,
 )
-    requires { ⌜ Callables (marked (now marks)) (now dist) (now status) (now offsets) (now tree) a l at idle ⌝ }
+    requires { ⌜ CallableIndexed (marked (now marks)) (now dist) (now status) (now offsets) (now tree) a l at idle ⌝ }
     ensures { λ _. ⌜
-        Roused (AtBits (mayGo (marked (now (marks .entry))) (now (dist .entry))) idle (fromVoxel a l at)) (marked (now (marks .entry)))
+        WokenIndexed (AtBits (mayGo (marked (now (marks .entry))) (now (dist .entry))) idle (fromVoxel a l at)) (marked (now (marks .entry)))
         (now (dist .entry)) (now (status .entry))
         (now (status .exit)) (now (offsets .exit)) (now (tree .exit)) ⌝ }
 {
@@ -77,7 +77,7 @@ pub fn wake_around(
 )
     requires { ⌜ Leaving s (marked (now marks)) (now dist) (now status) (now offsets) (now tree) i × Rows block ⌝ }
     ensures { λ _. ⌜
-        Roused (AtBits (mayGo (marked (now (marks .entry))) (now (dist .entry))) (bits 54 (idleBit (codeIn block))) (fromVoxel (s .a) (s .a * s .b) (firstAround s i)))
+        WokenIndexed (AtBits (mayGo (marked (now (marks .entry))) (now (dist .entry))) (bits 54 (idleBit (codeIn block))) (fromVoxel (s .a) (s .a * s .b) (firstAround s i)))
         (marked (now (marks .entry))) (now (dist .entry)) (now (status .entry)) (now (status .exit)) (now (offsets .exit)) (now (tree .exit)) ⌝ }
 {
     let at = neighbourhood::first_around(s, i);

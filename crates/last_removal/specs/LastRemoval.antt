@@ -4,7 +4,8 @@ use mathlib.Core.List.{List}
 use Prim.Native.Nat.{ℕ}
 use Rattle.rules.specs.declared.Sides.{Sides}
 use Rattle.rules.specs.Status.{testAt, latest}
-use Rattle.neighbourhood.specs.Neighbourhood.{Inner, Statuses}
+use Rattle.rules.specs.Neighbours.{Inner}
+use Rattle.neighbourhood.specs.Neighbourhood.{Statuses}
 
 -- the face of the last removal, from the status bytes after it
 abbrev pub faceAfter : Sides → List ℕ → ℕ → ℕ → ℕ

@@ -11,7 +11,8 @@ use Rattle.rules.specs.declared.Sides.{Sides}
 use Rattle.rules.specs.Grid.{size, onBorder}
 use Rattle.rules.specs.Status.{statusOf, keptByte, isKept}
 use Rattle.rules.specs.Fit.{Known, FitVoxels}
-use Rattle.neighbourhood.specs.Neighbourhood.{Inner, Statuses, Body}
+use Rattle.rules.specs.Neighbours.{Inner}
+use Rattle.neighbourhood.specs.Neighbourhood.{Statuses, Body}
 
 module _ (s : Sides) (status : List ℕ) where
   pub kept-inner : Body s status → (i : ℕ) → i < size s → isKept status i ≡ true → Inner s i
@@ -19,7 +20,7 @@ module _ (s : Sides) (status : List ℕ) where
       record {
         sides = b .sides;
         below = h;
-        inner = elim (two (onBorder s i)) [ inl e ↦ not-both (isKept status i) k (b .border i h e) | inr e ↦ e ];
+        off-border = elim (two (onBorder s i)) [ inl e ↦ not-both (isKept status i) k (b .border i h e) | inr e ↦ e ];
       }
 
   known-few : (x : ℕ) → Known x → x ≤ 3

@@ -18,7 +18,8 @@ use Rattle.bits.proofs.Bits.{bits-lt, bits-has, bits-ext, has-bits}
 use Rattle.status.proofs.Bytes.{kept-bit, pending-bit}
 use Rattle.touched_cells.specs.Block.{rowIn, Rows, keptIn, blockBit, codeIn, keptOf}
 use Rattle.touched_cells.proofs.Blocks.{kept-in-code}
-use Rattle.neighbourhood.specs.Neighbourhood.{Inner, Few, offset, firstAround, around, rowBit, rowAt, layerAt, cubeAt, statusBit, codeOf, Gathered}
+use Rattle.rules.specs.Neighbours.{Inner}
+use Rattle.neighbourhood.specs.Neighbourhood.{Few, offset, firstAround, around, rowBit, rowAt, layerAt, cubeAt, statusBit, codeOf, Gathered}
 use Rattle.neighbourhood.proofs.Interior.{interior, around-index}
 
 -- ---- what is gathered

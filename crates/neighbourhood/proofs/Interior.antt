@@ -10,7 +10,8 @@ use Rattle.prelude.proofs.Bools.{and-true, true-and, or-false}
 use Rattle.rules.specs.declared.Sides.{Sides}
 use Rattle.rules.specs.Grid.{size, Voxel, voxel, index, neighbour, end, onBorder, gap, near, touch}
 use Rattle.rules.proofs.Places.{Fit, fit, InGrid, voxel-eq, voxel-index, index-voxel, index-lt, voxel-in}
-use Rattle.neighbourhood.specs.Neighbourhood.{Inner, offset, firstAround, around, Room}
+use Rattle.rules.specs.Neighbours.{Inner}
+use Rattle.neighbourhood.specs.Neighbourhood.{offset, firstAround, around, Room}
 
 pub record Interior (s : Sides) (v : Voxel) : Type 0 where
   pub x-low : 1 ≤ v .x
@@ -73,7 +74,7 @@ module _ (s : Sides) (i : ℕ) (n : Inner s i) where
   unfolding onBorder
   interior =
       let g = voxel-in s i (omega (arith, sides .a-low)) (omega (arith, sides .b-low)) (n .below) in
-      let p = or-false (end (s .a) (v .x)) (end (s .b) (v .y) || end (s .c) (v .z)) (n .inner) in
+      let p = or-false (end (s .a) (v .x)) (end (s .b) (v .y) || end (s .c) (v .z)) (n .off-border) in
       let q = or-false (end (s .b) (v .y)) (end (s .c) (v .z)) (p .1) in
       let x = inner-side (s .a) (v .x) (g .x-in) (p .0) in
       let y = inner-side (s .b) (v .y) (g .y-in) (q .0) in

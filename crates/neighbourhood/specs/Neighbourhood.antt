@@ -11,12 +11,6 @@ use Rattle.rules.specs.Status.{statusOf, isKept}
 use Rattle.bits.specs.Bits.{has, bits}
 use Rattle.touched_cells.specs.Block.{Rows, codeIn}
 
--- a voxel off the border of a grid
-pub record Inner (s : Sides) (i : ℕ) : Type 0 where
-  pub sides : fitSides s ≡ true
-  pub below : i < size s
-  pub inner : onBorder s i ≡ false
-
 -- statuses of two bits each, and those of a grid
 abbrev pub Few : List ℕ → Type 0
 Few status = (i : ℕ) → statusOf status i ≤ 3

@@ -5,7 +5,8 @@ ghost use lib.ListN.{length};
 ghost use Rattle.cells.specs.Cells.{passes};
 ghost use Rattle.rules.specs.Status.{testAt};
 ghost use Rattle.local_test.specs.Answers.{GroupsOf};
-ghost use Rattle.neighbourhood.specs.Neighbourhood.{Inner, Few, Statuses, firstAround, Room, rowAt, layerAt, cubeAt, Gathered};
+ghost use Rattle.rules.specs.Neighbours.{Inner};
+ghost use Rattle.neighbourhood.specs.Neighbourhood.{Few, Statuses, firstAround, Room, rowAt, layerAt, cubeAt, Gathered};
 use local_test::Groups;
 use rules::Sides;
 

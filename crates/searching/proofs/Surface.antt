@@ -11,7 +11,8 @@ use Rattle.rules.specs.Grid.{neighbourhood}
 use Rattle.rules.specs.Begin.{exposed}
 use Rattle.rules.specs.Status.{isKept}
 use Rattle.rules.proofs.Places.{fit}
-use Rattle.neighbourhood.specs.Neighbourhood.{Inner, around}
+use Rattle.rules.specs.Neighbours.{Inner}
+use Rattle.neighbourhood.specs.Neighbourhood.{around}
 use Rattle.neighbourhood.proofs.Interior.{first-below}
 use Rattle.neighbourhood.proofs.Gathering.{neighbourhood-around}
 use Rattle.searching.specs.Argmax.{enclosed}

@@ -16,7 +16,8 @@ use Rattle.rules.specs.declared.Sides.{Sides}
 use Rattle.rules.specs.Grid.{size, voxels, touch}
 use Rattle.rules.specs.Status.{statusOf, isKept, isPending, woken, removable, statusWithout, without}
 use Rattle.bits.specs.Bits.{has, bits}
-use Rattle.neighbourhood.specs.Neighbourhood.{Inner, firstAround, around, offset, codeOf}
+use Rattle.rules.specs.Neighbours.{Inner}
+use Rattle.neighbourhood.specs.Neighbourhood.{firstAround, around, offset, codeOf}
 use Rattle.neighbourhood.proofs.Interior.{around-apart, around-middle, around-touch, touch-around}
 use Rattle.neighbourhood.proofs.Gathering.{code-kept, code-pending}
 use Rattle.waking.specs.Waking.{idleAt, idleBit, Woken, AtBits, fromVoxel}

@@ -11,7 +11,8 @@ use Rattle.rules.specs.declared.Sides.{Sides}
 use Rattle.rules.specs.Grid.{size, isNegative}
 use Rattle.rules.specs.Status.{statusOf, woken}
 use Rattle.bits.specs.Bits.{has}
-use Rattle.neighbourhood.specs.Neighbourhood.{Inner, Statuses, offset, Room}
+use Rattle.rules.specs.Neighbours.{Inner}
+use Rattle.neighbourhood.specs.Neighbourhood.{Statuses, offset, Room}
 
 -- ---- idle positions: kept and not pending, the middle left out
 

@@ -10,7 +10,7 @@ use Rattle.rules.specs.Marks.{marked}
 use Rattle.rules.specs.Machine.{mayGo}
 use Rattle.rules.proofs.Topology.Bytes.{rested-pending}
 use Rattle.bits.specs.Bits.{bits}
-use Rattle.neighbourhood.specs.Neighbourhood.{Inner}
+use Rattle.rules.specs.Neighbours.{Inner}
 use Rattle.neighbourhood.proofs.Gathering.{block-test}
 use Rattle.waking.specs.Waking.{idleBit}
 use Rattle.waking.proofs.Removal.{removed-from}

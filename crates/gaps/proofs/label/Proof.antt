@@ -7,8 +7,8 @@ use native.Mathlib.Nat.{mul-le-mul}
 use lib.ListN.{length}
 use borrow.Author.Needs.{needs}
 use Rattle.rules.proofs.Places.{Fit, fit}
-use Rattle.gaps.specs.Gaps.{faces, Drainable, Drained}
-use Rattle.gaps.proofs.Enclosing.{drainable, labels-are}
+use Rattle.gaps.specs.Gaps.{faces, GapsToFlood, OpenGapsFlooded}
+use Rattle.gaps.proofs.Enclosing.{gaps-to-flood, labels-are}
 use Rattle.gaps.proofs.label.Statement.{statement}
 use Rattle.gaps.proofs.label.Tie as tie
 
@@ -33,29 +33,29 @@ mul-ab c = let F = fits (begun (marked c)) in omega (arith, mul-le-mul (F .a-hig
 faces-requires : tie.Need-faces-requires
 faces-requires c κs = let F = fits (begun (marked c)) in (F .a-high, mul-le-mul (F .a-high) (F .b-high))
 
-slice-aggregate-drain : tie.Need-slice-aggregate-drain
-slice-aggregate-drain c = search needs
+slice-aggregate-flood-open-gaps : tie.Need-slice-aggregate-flood-open-gaps
+slice-aggregate-flood-open-gaps c = search needs
 
-add-drain : tie.Need-add-drain
-add-drain c = let F = fits (begun (marked (offered (c .before) .before))) in omega (arith, F .a-high)
+add-flood-open-gaps : tie.Need-add-flood-open-gaps
+add-flood-open-gaps c = let F = fits (begun (marked (offered (c .before) .before))) in omega (arith, F .a-high)
 
-add-drain-2 : tie.Need-add-drain-2
-add-drain-2 c = let F = fits (begun (marked (offered (c .before) .before))) in omega (arith, F .a-high, mul-le-mul (F .a-high) (F .b-high))
+add-flood-open-gaps-2 : tie.Need-add-flood-open-gaps-2
+add-flood-open-gaps-2 c = let F = fits (begun (marked (offered (c .before) .before))) in omega (arith, F .a-high, mul-le-mul (F .a-high) (F .b-high))
 
-drain-requires : tie.Need-drain-requires
-drain-requires c κs =
+flood-open-gaps-requires : tie.Need-flood-open-gaps-requires
+flood-open-gaps-requires c κs =
     let o = offered (c .before) in
     let m = marked (o .before) in
     let s = begun m in
     let a = s .args in
-    subst (λ (f : List ℕ). Drainable f (1 + a .sides .a + a .sides .a * a .sides .b) (m .mark .last .0) (length (a .dist .now))) (sym (o .faces .ensures))
-    (drainable (a .sides) (a .values .now) (s .pre .grid) (m .mark .last .0) (m .mark .ensures) _ (s .pre .dist-len))
+    subst (λ (f : List ℕ). GapsToFlood f (1 + a .sides .a + a .sides .a * a .sides .b) (m .mark .last .0) (length (a .dist .now))) (sym (o .faces .ensures))
+    (gaps-to-flood (a .sides) (a .values .now) (s .pre .grid) (m .mark .last .0) (m .mark .ensures) _ (s .pre .dist-len))
 
 settle-requires : tie.Need-settle-requires
 settle-requires c κs = search needs
 
-abbrev drained : tie.After-settle → tie.After-drain
-drained c = c .before .before .before .before .before
+abbrev flooded : tie.After-settle → tie.After-flood-open-gaps
+flooded c = c .before .before .before .before .before
 
 same-length : tie.Need-same-length
 same-length c = search needs
@@ -66,14 +66,14 @@ same-length-2 c = search needs
 returns : tie.Need-returns
 returns c =
     let e = c .before .before in
-    let d = drained e in
+    let d = flooded e in
     let o = offered (d .before .before) in
     let m = marked (o .before) in
     let s = begun m in
     let a = s .args in
-    labels-are (a .sides) (a .values .now) (s .pre .grid) (m .mark .last .0) (m .mark .ensures) (d .drain .last .0)
-    (subst (λ (f : List ℕ). Drained f (1 + a .sides .a + a .sides .a * a .sides .b) (m .mark .last .0) (d .drain .last .0)) (o .faces .ensures)
-    (d .drain .ensures)) _ (e .settle .ensures)
+    labels-are (a .sides) (a .values .now) (s .pre .grid) (m .mark .last .0) (m .mark .ensures) (d .flood-open-gaps .last .0)
+    (subst (λ (f : List ℕ). OpenGapsFlooded f (1 + a .sides .a + a .sides .a * a .sides .b) (m .mark .last .0) (d .flood-open-gaps .last .0)) (o .faces .ensures)
+    (d .flood-open-gaps .ensures)) _ (e .settle .ensures)
 
 pub label-spec : {M : Type 1} → statement M
 label-spec =
@@ -82,10 +82,10 @@ label-spec =
     mark-requires
     mul-ab
     faces-requires
-    slice-aggregate-drain
-    add-drain
-    add-drain-2
-    drain-requires
+    slice-aggregate-flood-open-gaps
+    add-flood-open-gaps
+    add-flood-open-gaps-2
+    flood-open-gaps-requires
     settle-requires
     same-length
     same-length-2

@@ -2,7 +2,7 @@
 use mathlib.Core.Path.{refl, sym, _∙_}
 use borrow.Author.Needs.{needs}
 use Rattle.gaps.specs.Gaps.{flooded, passed}
-use Rattle.gaps.proofs.Draining.{floodable}
+use Rattle.gaps.proofs.OpenGaps.{floodable}
 use Rattle.gaps.proofs.visit.Statement.{statement}
 use Rattle.gaps.proofs.visit.Tie as tie
 

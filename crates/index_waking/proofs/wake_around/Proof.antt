@@ -7,7 +7,7 @@ use Rattle.touched_cells.specs.Block.{codeIn}
 use Rattle.neighbourhood.specs.Neighbourhood.{Room}
 use Rattle.neighbourhood.proofs.Interior.{layer-small, room}
 use Rattle.waking.proofs.Idle.{idle-few}
-use Rattle.index_waking.proofs.Calling.{roused-at}
+use Rattle.index_waking.proofs.Calling.{woken-at}
 use Rattle.index_waking.proofs.wake_around.Statement.{statement}
 use Rattle.index_waking.proofs.wake_around.Tie as tie
 
@@ -55,7 +55,7 @@ returns c =
     let w = w-back .before .before .before in
     let d = w .before .before .before .before .before in
     let a = start d .args in
-    roused-at (a .s .a) (a .s .a * a .s .b) (d .idle-bits .ensures) (d .before .first-around .ensures) (w .wake .ensures)
+    woken-at (a .s .a) (a .s .a * a .s .b) (d .idle-bits .ensures) (d .before .first-around .ensures) (w .wake .ensures)
 
 pub wake-around-spec : {M : Type 1} → statement M
 wake-around-spec =

@@ -1,14 +1,14 @@
--- `drain`: i is the next untaken voxel, and those before it have been visited.
+-- `flood_open_gaps`: i is the next untaken voxel, and those before it have been visited.
 use Prim.Native.Nat.{_-_}
 use native.Mathlib.Omega.{arith}
 use lib.ListN.{length}
 use borrow.Author.Needs.{needs}
-use Rattle.gaps.proofs.Draining.{Drains, drain-begin, drain-ready, drain-more, drain-end}
-use Rattle.gaps.proofs.drain.Statement.{statement}
-use Rattle.gaps.proofs.drain.Tie as tie
+use Rattle.gaps.proofs.OpenGaps.{FloodedSoFar, flooded-begin, flooded-ready, flooded-more, flooded-end}
+use Rattle.gaps.proofs.flood_open_gaps.Statement.{statement}
+use Rattle.gaps.proofs.flood_open_gaps.Tie as tie
 
 abbrev Inv-loop : tie.InvT-loop
-Inv-loop label₀ work₀ offsets back n i₀ label work i = Drains offsets back label₀ (length work₀) n label work i
+Inv-loop label₀ work₀ offsets back n i₀ label work i = FloodedSoFar offsets back label₀ (length work₀) n label work i
 
 abbrev μ-loop : tie.MeasureT-loop
 μ-loop label₀ work₀ offsets back n i₀ label work i = n - i
@@ -19,7 +19,7 @@ first-of-requires c κs = search needs
 loop-holds : tie.Need-loop-holds Inv-loop μ-loop
 loop-holds c =
     let a = c .before .before .before .before .args in
-    drain-begin (a .offsets .now) (a .back) (a .label .now) (a .work .now) (c .first-of .result) (c .first-of .ensures)
+    flooded-begin (a .offsets .now) (a .back) (a .label .now) (a .work .now) (c .first-of .result) (c .first-of .ensures)
 
 abbrev begun : tie.At-loop Inv-loop μ-loop → tie.Start Inv-loop μ-loop
 begun c = c .before .before .before .before .before
@@ -29,7 +29,7 @@ visit-requires c κs =
     let t = c .before .before in
     let l = t .before in
     let s = begun l in (
-      drain-ready (s .args .offsets .now) (s .args .back) (s .args .label .now) _ _ (l .loop .label) (l .loop .work) (l .loop .i) (l .loop .inv) (s .pre),
+      flooded-ready (s .args .offsets .now) (s .args .back) (s .args .label .now) _ _ (l .loop .label) (l .loop .work) (l .loop .i) (l .loop .inv) (s .pre),
       l .loop .inv .next (t .loop-test .taken),
     )
 
@@ -50,7 +50,7 @@ first-of-requires-2 c κs =
     let v = visited c in
     let t = turned v in
     let D = t .before .loop .inv in
-    (omega (arith, t .loop-test .taken), omega (arith, v .visit .kept .0, D .draining .len, D .whole))
+    (omega (arith, t .loop-test .taken), omega (arith, v .visit .kept .0, D .flooding .len, D .whole))
 
 loop-less : tie.Need-loop-less Inv-loop μ-loop
 loop-less c =
@@ -63,12 +63,12 @@ loop-again c =
     let t = turned v in
     let l = t .before in
     let a = begun l .args in
-    drain-more (a .offsets .now) (a .back) (a .label .now) _ _ (l .loop .label) (l .loop .work) (l .loop .i) (l .loop .inv) (t .loop-test .taken)
+    flooded-more (a .offsets .now) (a .back) (a .label .now) _ _ (l .loop .label) (l .loop .work) (l .loop .i) (l .loop .inv) (t .loop-test .taken)
     (v .visit .last .0) (v .visit .last .1 .0) (v .visit .ensures) (v .visit .kept .1 .0) (c .first-of2 .result) (omega arith)
     (c .first-of2 .ensures)
 
 same-length : tie.Need-same-length Inv-loop μ-loop
-same-length c = c .before .loop .inv .draining .len
+same-length c = c .before .loop .inv .flooding .len
 
 same-length-2 : tie.Need-same-length-2 Inv-loop μ-loop
 same-length-2 c = c .before .loop .inv .same
@@ -77,10 +77,10 @@ returns : tie.Need-returns Inv-loop μ-loop
 returns c =
     let l = c .before in
     let a = begun l .args in
-    drain-end (a .offsets .now) (a .back) (a .label .now) _ _ (l .loop .label) (l .loop .work) (l .loop .i) (l .loop .inv) (c .loop-test .left)
+    flooded-end (a .offsets .now) (a .back) (a .label .now) _ _ (l .loop .label) (l .loop .work) (l .loop .i) (l .loop .inv) (c .loop-test .left)
 
-pub drain-spec : {M : Type 1} → statement M
-drain-spec =
+pub flood-open-gaps-spec : {M : Type 1} → statement M
+flood-open-gaps-spec =
     tie.close
     (tie.spec
     Inv-loop

@@ -18,22 +18,22 @@ use Rattle.rules.specs.Machine.{isInside}
 use Rattle.rules.specs.Begin.{isIn, inside, inBox, exposed, worked, waitsFirst, statusAt, startStatus}
 use Rattle.rules.proofs.Topology.Start.{worked-signs}
 use Rattle.loops.specs.InPlace.{Each}
-use Rattle.meeting.specs.Meeting.{metOf, metAt}
+use Rattle.first_marks.specs.FirstMarks.{markedStatus, markedStatusAt}
 use Rattle.beginning.specs.Work.{WorkedOut}
 
 -- kept, in S, hurried, pinned, exposed
-met-rule : (kept in-s h p x : Bool)
+marked-rule : (kept in-s h p x : Bool)
     → let y = cond {A = ℕ} kept (cond (not in-s && x) 3 1) 0 in
     cond (in-s || eqb y 0) y (cond h 3 (cond p 1 y)) ≡ cond kept (cond (not in-s && (h || (not p && x))) 3 1) 0
-met-rule false true h p x = refl
-met-rule false false h p x = refl
-met-rule true true h p x = refl
-met-rule true false true p true = refl
-met-rule true false true p false = refl
-met-rule true false false true true = refl
-met-rule true false false true false = refl
-met-rule true false false false true = refl
-met-rule true false false false false = refl
+marked-rule false true h p x = refl
+marked-rule false false h p x = refl
+marked-rule true true h p x = refl
+marked-rule true false true p true = refl
+marked-rule true false true p false = refl
+marked-rule true false false true true = refl
+marked-rule true false false true false = refl
+marked-rule true false false false true = refl
+marked-rule true false false false false = refl
 
 module _ (s : Sides) (values : List ℤ) (marks : List ℕ) where
   abbrev S : List ℕ
@@ -45,13 +45,13 @@ module _ (s : Sides) (values : List ℤ) (marks : List ℕ) where
   abbrev dist : List ℤ
   dist = worked s values S
 
-  met-same : (k : ℕ) → k < size s → metAt dist (marked marks) k (statusAt s unmarked S kept k) ≡ statusAt s (marked marks) S kept k
-  unfolding metOf statusAt waitsFirst isInside
-  met-same k h =
+  marked-same : (k : ℕ) → k < size s → markedStatusAt dist (marked marks) k (statusAt s unmarked S kept k) ≡ statusAt s (marked marks) S kept k
+  unfolding markedStatus statusAt waitsFirst isInside
+  marked-same k h =
       let m = marked marks in
       let y = cond {A = ℕ} (kept k) (cond (not (isIn S k) && exposed s kept k) 3 1) 0 in
       ap (λ (t : Bool). cond (t || eqb y 0) y (cond (m .hurried k) 3 (cond (m .pinned k) 1 y))) (worked-signs s values k h)
-      ∙ met-rule (kept k) (isIn S k) (m .hurried k) (m .pinned k) (exposed s kept k)
+      ∙ marked-rule (kept k) (isIn S k) (m .hurried k) (m .pinned k) (exposed s kept k)
 
   -- beyond the last mark nothing is asked
   beyond : (k : ℕ) → length marks ≤ k → statusAt s unmarked S kept k ≡ statusAt s (marked marks) S kept k
@@ -60,25 +60,25 @@ module _ (s : Sides) (values : List ℤ) (marks : List ℕ) where
       ap (λ (t : ℕ). cond (kept k) (cond (not (isIn S k) && (hurriedMark t || (not (pinnedMark t) && exposed s kept k))) 3 1) 0)
       (sym (List·getD-eq-default marks 0 h))
 
-  pub met-is : length marks ≤ size s → (before after : List ℕ) → before ≡ startStatus s unmarked S kept
-      → Each 0 (metAt dist (marked marks)) 0 (length marks) before after → after ≡ startStatus s (marked marks) S kept
+  pub marked-is : length marks ≤ size s → (before after : List ℕ) → before ≡ startStatus s unmarked S kept
+      → Each 0 (markedStatusAt dist (marked marks)) 0 (length marks) before after → after ≡ startStatus s (marked marks) S kept
   unfolding startStatus voxels
-  met-is n before after e E =
+  marked-is n before after e E =
       is-map-range (statusAt s (marked marks) S kept) 0 (size s) after (E .len ∙ ap length e ∙ length-map-range (statusAt s unmarked S kept) (size s))
       (λ k h.
       (let was : getD before k 0 ≡ statusAt s unmarked S kept k =
       ap (λ (l : List ℕ). getD l k 0) e ∙ getD-map-range (statusAt s unmarked S kept) 0 (size s) k h in
       elim (two (ltb k (length marks))) [
-        | inl t ↦ E .inside k (omega arith) (ltb-true k _ t) ∙ ap (metAt dist (marked marks) k) was ∙ met-same k h
+        | inl t ↦ E .inside k (omega arith) (ltb-true k _ t) ∙ ap (markedStatusAt dist (marked marks) k) was ∙ marked-same k h
         | inr t ↦ E .outside k (λ q. ltb-false k _ t) ∙ was ∙ beyond k (ltb-false k _ t)
       ]))
 
   pub worked-with : length marks ≤ size s → (d : List ℤ) (before after : List ℕ) → WorkedOut s unmarked values d before
-      → Each 0 (metAt d (marked marks)) 0 (length marks) before after → WorkedOut s (marked marks) values d after
+      → Each 0 (markedStatusAt d (marked marks)) 0 (length marks) before after → WorkedOut s (marked marks) values d after
   worked-with n d before after w E =
       record {
         distances = w .distances;
         statuses =
-            met-is n before after (w .statuses)
-            (subst (λ (l : List ℤ). Each 0 (metAt l (marked marks)) 0 (length marks) before after) (w .distances) E);
+            marked-is n before after (w .statuses)
+            (subst (λ (l : List ℤ). Each 0 (markedStatusAt l (marked marks)) 0 (length marks) before after) (w .distances) E);
       }

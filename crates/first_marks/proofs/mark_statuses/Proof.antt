@@ -1,4 +1,4 @@
--- `meet`: the voxels before i have met their marks.
+-- `first_marks::mark_statuses`: the voxels before i have the status that their marks ask for.
 use mathlib.Core.Path.{_≡_, _∙_, subst}
 use Prim.Native.Nat.{ℕ, _-_, _≤_}
 use native.Mathlib.Omega.{arith}
@@ -12,12 +12,12 @@ use Rattle.rules.specs.Marks.{marked}
 use Rattle.rules.specs.Status.{statusOf}
 use Rattle.loops.specs.InPlace.{Each}
 use Rattle.loops.proofs.InPlace.{each-none, each-more}
-use Rattle.meeting.specs.Meeting.{metOf, metAt}
-use Rattle.meeting.proofs.meet.Statement.{statement}
-use Rattle.meeting.proofs.meet.Tie as tie
+use Rattle.first_marks.specs.FirstMarks.{markedStatus, markedStatusAt}
+use Rattle.first_marks.proofs.mark_statuses.Statement.{statement}
+use Rattle.first_marks.proofs.mark_statuses.Tie as tie
 
 abbrev Inv-loop : tie.InvT-loop
-Inv-loop status₀ dist marks i₀ status i = (i ≤ length marks) × Each 0 (metAt dist (marked marks)) 0 i status₀ status
+Inv-loop status₀ dist marks i₀ status i = (i ≤ length marks) × Each 0 (markedStatusAt dist (marked marks)) 0 i status₀ status
 
 abbrev μ-loop : tie.MeasureT-loop
 μ-loop status₀ dist marks i₀ status i = length marks - i
@@ -40,11 +40,11 @@ hurried-requires c κs = search needs
 pinned-requires : tie.Need-pinned-requires Inv-loop μ-loop
 pinned-requires c κs = search needs
 
-slice-read-met : tie.Need-slice-read-met Inv-loop μ-loop
-slice-read-met c = let i = turning c in omega (arith, i .loop-test .taken, i .before .loop .inv .1 .len)
+slice-read-marked-status : tie.Need-slice-read-marked-status Inv-loop μ-loop
+slice-read-marked-status c = let i = turning c in omega (arith, i .loop-test .taken, i .before .loop .inv .1 .len)
 
-met-requires : tie.Need-met-requires Inv-loop μ-loop
-met-requires c κs = search needs
+marked-status-requires : tie.Need-marked-status-requires Inv-loop μ-loop
+marked-status-requires c κs = search needs
 
 slice-write-status : tie.Need-slice-write-status Inv-loop μ-loop
 slice-write-status c = let i = turning (c .before) in omega (arith, i .loop-test .taken, i .before .loop .inv .1 .len)
@@ -67,9 +67,9 @@ loop-again c =
     let f : SFits w32 z = sfits-of (d .d .given) in
     let e : toZ w32 (ofZ w32 z) ≡ z = toZ-ofZ f in (
       omega (arith, i .loop-test .taken),
-      each-more _ _ _ (l .loop .i) _ (l .loop .status) (c .met .result) (omega arith) (omega (arith, i .loop-test .taken, l .loop .inv .1 .len))
+      each-more _ _ _ (l .loop .i) _ (l .loop .status) (c .marked-status .result) (omega arith) (omega (arith, i .loop-test .taken, l .loop .inv .1 .len))
           (l .loop .inv .1)
-          (c .met .ensures ∙ (λ j. metOf (e j) (h .hurried .ensures j) (p .pinned .ensures j) x)),
+          (c .marked-status .ensures ∙ (λ j. markedStatus (e j) (h .hurried .ensures j) (p .pinned .ensures j) x)),
     )
 
 same-length : tie.Need-same-length Inv-loop μ-loop
@@ -80,10 +80,10 @@ returns c =
     let l = c .before in
     let a = l .before .before .before .args in
     let e : l .loop .i ≡ length (a .marks .now) = omega (arith, l .loop .inv .0, c .loop-test .left) in
-    subst (λ (n : ℕ). Each 0 (metAt (a .dist .now) (marked (a .marks .now))) 0 n (a .status .now) (l .loop .status)) e (l .loop .inv .1)
+    subst (λ (n : ℕ). Each 0 (markedStatusAt (a .dist .now) (marked (a .marks .now))) 0 n (a .status .now) (l .loop .status)) e (l .loop .inv .1)
 
-pub meet-spec : {M : Type 1} → statement M
-meet-spec =
+pub mark-statuses-spec : {M : Type 1} → statement M
+mark-statuses-spec =
     tie.close
     (tie.spec
     Inv-loop
@@ -93,8 +93,8 @@ meet-spec =
     shared-slice-copy-out-d
     hurried-requires
     pinned-requires
-    slice-read-met
-    met-requires
+    slice-read-marked-status
+    marked-status-requires
     slice-write-status
     add-i
     loop-less

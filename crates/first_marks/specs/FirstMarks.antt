@@ -8,8 +8,8 @@ use Rattle.rules.specs.Grid.{isNegative, distanceAt}
 use Rattle.rules.specs.Marks.{Marked}
 
 -- the status x of a voxel whose worked distance is d, with marks
-unfoldable pub metOf : ℤ → Bool → Bool → ℕ → ℕ
-metOf d hurried pinned x = cond (isNegative d || eqb x 0) x (cond hurried 3 (cond pinned 1 x))
+unfoldable pub markedStatus : ℤ → Bool → Bool → ℕ → ℕ
+markedStatus d hurried pinned x = cond (isNegative d || eqb x 0) x (cond hurried 3 (cond pinned 1 x))
 
-abbrev pub metAt : List ℤ → Marked → ℕ → ℕ → ℕ
-metAt dist m k x = metOf (distanceAt dist k) (m .hurried k) (m .pinned k) x
+abbrev pub markedStatusAt : List ℤ → Marked → ℕ → ℕ → ℕ
+markedStatusAt dist m k x = markedStatus (distanceAt dist k) (m .hurried k) (m .pinned k) x

@@ -19,10 +19,10 @@ use Rattle.loops.proofs.Orders.{split}
 use Rattle.floods.specs.Flood.{fillOf, nearBy, Taken, Floodable, Flooded}
 use Rattle.floods.proofs.Counting.{count-labels}
 use Rattle.floods.proofs.Pushes.{label-lt}
-use Rattle.gaps.specs.Gaps.{opens, Reached, Drainable, Visited, flooded, passed, Drained}
+use Rattle.gaps.specs.Gaps.{opens, Reached, GapsToFlood, Visited, flooded, passed, OpenGapsFlooded}
 
 -- where a flood may start
-pub floodable : (offsets : List ℕ) (back i : ℕ) (l : List ℕ) (work : List ℤ) → Drainable offsets back l (length work) → getD l i 0 ≡ 1
+pub floodable : (offsets : List ℕ) (back i : ℕ) (l : List ℕ) (work : List ℤ) → GapsToFlood offsets back l (length work) → getD l i 0 ≡ 1
     → Floodable offsets back (fillOf l work 0) i
 floodable offsets back i l work D e =
     record {
@@ -34,14 +34,14 @@ floodable offsets back i l work D e =
 
 -- L is what the labels were before the first flood
 module _ (offsets : List ℕ) (back : ℕ) (L : List ℕ) where
-  pub record Draining (l : List ℕ) (i : ℕ) : Type 0 where
+  pub record Flooding (l : List ℕ) (i : ℕ) : Type 0 where
     pub len : length l ≡ length L
     pub kept : (v : ℕ) → (getD l v 0 ≡ getD L v 0) ⊎ ((Taken L l v) × (Reached offsets back L v))
     pub closed : (u v : ℕ) → Taken L l u → nearBy offsets back u v ≡ true → getD L v 0 ≡ 1 → Taken L l v
     pub done : (u : ℕ) → u < i → getD L u 0 ≡ 1 → opens offsets (u - back) L ≡ true → Taken L l u
 
-  pub draining-start : Draining L 0
-  draining-start =
+  pub flooding-start : Flooding L 0
+  flooding-start =
       record {
         len = refl;
         kept = λ v. inl refl;
@@ -49,13 +49,13 @@ module _ (offsets : List ℕ) (back : ℕ) (L : List ℕ) where
         done = λ u h. let z : ⊥ = omega arith in absurd z;
       }
 
-  module _ (l : List ℕ) (i : ℕ) (D : Draining l i) where
+  module _ (l : List ℕ) (i : ℕ) (D : Flooding l i) where
     -- a voxel that is untaken was so from the start
     was-one : (v : ℕ) → getD l v 0 ≡ 1 → getD L v 0 ≡ 1
     was-one v e = ⊎-elim (λ q. sym q ∙ e) (λ t. let a = t .0 .made in let z : ⊥ = omega arith in absurd z) (D .kept v)
 
-    pub still-drainable : (room : ℕ) → Drainable offsets back L room → Drainable offsets back l room
-    still-drainable room A =
+    pub still-gaps-to-flood : (room : ℕ) → GapsToFlood offsets back L room → GapsToFlood offsets back l room
+    still-gaps-to-flood room A =
         record {
           same = A .same ∙ sym (D .len);
           small = omega (arith, A .small, D .len);
@@ -76,8 +76,8 @@ module _ (offsets : List ℕ) (back : ℕ) (L : List ℕ) where
             (D .kept v)
 
     -- on to the next untaken voxel
-    pub draining-on : (j : ℕ) → i ≤ j → Absent l 1 i j → Draining l j
-    draining-on j h none =
+    pub flooding-on : (j : ℕ) → i ≤ j → Absent l 1 i j → Flooding l j
+    flooding-on j h none =
         record {
           len = D .len;
           kept = D .kept;
@@ -108,8 +108,8 @@ module _ (offsets : List ℕ) (back : ℕ) (L : List ℕ) where
         here : Taken L l′ i
         here = from-start i (F .whole i (stay (eq-eqb (getD l i 0) 1 untaken)))
 
-        pub draining-flooded : Draining l′ (i + 1)
-        draining-flooded =
+        pub flooding-flooded : Flooding l′ (i + 1)
+        flooding-flooded =
             record {
               len = F .len ∙ D .len;
               kept = λ v. ⊎-elim
@@ -127,10 +127,10 @@ module _ (offsets : List ℕ) (back : ℕ) (L : List ℕ) where
                   (eq-or-lt-of-le (let g : u ≤ i = omega arith in g));
             }
 
-      pub draining-visited : Visited offsets back i l l′ work work′ → Draining l′ (i + 1)
-      draining-visited (flooded o end F) = draining-flooded o end F
-      draining-visited (passed o e) =
-          subst (λ (m : List ℕ). Draining m (i + 1)) (sym e)
+      pub flooding-visited : Visited offsets back i l l′ work work′ → Flooding l′ (i + 1)
+      flooding-visited (flooded o end F) = flooding-flooded o end F
+      flooding-visited (passed o e) =
+          subst (λ (m : List ℕ). Flooding m (i + 1)) (sym e)
           (record {
             len = D .len;
             kept = D .kept;
@@ -142,8 +142,8 @@ module _ (offsets : List ℕ) (back : ℕ) (L : List ℕ) where
           })
 
     -- all visited
-    pub draining-done : length L ≤ i → Drained offsets back L l
-    draining-done h =
+    pub flooding-done : length L ≤ i → OpenGapsFlooded offsets back L l
+    flooding-done h =
         record {
           len = D .len;
           kept = D .kept;
@@ -156,41 +156,41 @@ module _ (offsets : List ℕ) (back : ℕ) (L : List ℕ) where
 
 -- ---- the loop: i is the next untaken voxel
 
-pub record Drains (offsets : List ℕ) (back : ℕ) (L : List ℕ) (room n : ℕ) (l : List ℕ) (work : List ℤ) (i : ℕ) : Type 0 where
+pub record FloodedSoFar (offsets : List ℕ) (back : ℕ) (L : List ℕ) (room n : ℕ) (l : List ℕ) (work : List ℤ) (i : ℕ) : Type 0 where
   pub whole : n ≡ length L
   pub upto : i ≤ n
   pub same : length work ≡ room
   pub next : i < n → getD l i 0 ≡ 1
-  pub draining : Draining offsets back L l i
+  pub flooding : Flooding offsets back L l i
 
 module _ (offsets : List ℕ) (back : ℕ) (L : List ℕ) where
-  pub drain-begin : (work : List ℤ) (i : ℕ) → First L 1 0 (length L) i → Drains offsets back L (length work) (length L) L work i
-  drain-begin work i f =
+  pub flooded-begin : (work : List ℤ) (i : ℕ) → First L 1 0 (length L) i → FloodedSoFar offsets back L (length work) (length L) L work i
+  flooded-begin work i f =
       record {
         whole = refl;
         upto = f .high;
         same = refl;
         next = f .found;
-        draining = draining-on offsets back L L 0 (draining-start offsets back L) i (f .low) (f .none-before);
+        flooding = flooding-on offsets back L L 0 (flooding-start offsets back L) i (f .low) (f .none-before);
       }
 
-  module _ (room n : ℕ) (l : List ℕ) (work : List ℤ) (i : ℕ) (D : Drains offsets back L room n l work i) where
-    pub drain-ready : Drainable offsets back L room → Drainable offsets back l (length work)
-    drain-ready A =
-        subst (λ (r : ℕ). Drainable offsets back l r) (sym (D .same)) (still-drainable offsets back L l i (D .draining) room A)
+  module _ (room n : ℕ) (l : List ℕ) (work : List ℤ) (i : ℕ) (D : FloodedSoFar offsets back L room n l work i) where
+    pub flooded-ready : GapsToFlood offsets back L room → GapsToFlood offsets back l (length work)
+    flooded-ready A =
+        subst (λ (r : ℕ). GapsToFlood offsets back l r) (sym (D .same)) (still-gaps-to-flood offsets back L l i (D .flooding) room A)
 
-    pub drain-more : i < n → (l′ : List ℕ) (work′ : List ℤ) → Visited offsets back i l l′ work work′ → length work′ ≡ length work
-        → {k : ℕ} (j : ℕ) → k ≡ i + 1 → First l′ 1 k n j → Drains offsets back L room n l′ work′ j
-    drain-more more l′ work′ seen e j q f =
+    pub flooded-more : i < n → (l′ : List ℕ) (work′ : List ℤ) → Visited offsets back i l l′ work work′ → length work′ ≡ length work
+        → {k : ℕ} (j : ℕ) → k ≡ i + 1 → First l′ 1 k n j → FloodedSoFar offsets back L room n l′ work′ j
+    flooded-more more l′ work′ seen e j q f =
         record {
           whole = D .whole;
           upto = f .high;
           same = e ∙ D .same;
           next = f .found;
-          draining =
-              draining-on offsets back L l′ (i + 1) (draining-visited offsets back L l i (D .draining) (D .next more) l′ work work′ seen) j
+          flooding =
+              flooding-on offsets back L l′ (i + 1) (flooding-visited offsets back L l i (D .flooding) (D .next more) l′ work work′ seen) j
               (omega (arith, f .low)) (λ v a b. f .none-before v (omega arith) b);
         }
 
-    pub drain-end : n ≤ i → Drained offsets back L l
-    drain-end h = draining-done offsets back L l i (D .draining) (omega (arith, D .whole))
+    pub flooded-end : n ≤ i → OpenGapsFlooded offsets back L l
+    flooded-end h = flooding-done offsets back L l i (D .flooding) (omega (arith, D .whole))
