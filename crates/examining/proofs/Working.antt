@@ -17,7 +17,8 @@ use Rattle.prelude.proofs.Bools.{two, and-true, true-and, and-one, or-true, not
 use Rattle.prelude.proofs.Ranges.{getD-map-range}
 use Rattle.rules.specs.declared.Sides.{Sides}
 use Rattle.rules.specs.Grid.{size, voxels, touch, neighbourhood}
-use Rattle.rules.specs.Status.{statusOf, keptByte, pendingByte, isKept, isPending, testAt, woken, rested, removable, statusWithout, without, goes, examinedAs, examine, latest}
+use Rattle.rules.specs.Status.{statusOf, keptByte, pendingByte, isKept, isPending, testAt, woken, rested, removable, statusWithout, without}
+use Rattle.rules.specs.Status.{goes, examinedAs, examine, latest}
 use Rattle.rules.specs.Marks.{Marked}
 use Rattle.rules.specs.Machine.{mayGo}
 use Rattle.rules.specs.Fit.{Known, FitVoxels}
@@ -75,7 +76,9 @@ module _ (s : Sides) (status : List ℕ) (w : Workable s status) where
       elim (decLt j (size s)) [
         | yes h ↦ subst (λ (x : ℕ). x ≤ 3) (sym (getD-map-range (statusWithout s free status i) 0 (size s) j h))
             (byte (eqb j i) (removable free status j && touch s i j) (statusOf status j) (few j))
-        | no n ↦ subst (λ (x : ℕ). x ≤ 3) (sym (List·getD-eq-default (without s free status i) 0 (omega (arith, length-without s free status lent i)))) (omega arith)
+        | no n ↦
+            (let l = length-without s free status lent i in
+            subst (λ (x : ℕ). x ≤ 3) (sym (List·getD-eq-default (without s free status i) 0 (omega arith))) (omega arith))
       ]
     where
       byte : (e t : Bool) (x : ℕ) → x ≤ 3 → cond e 0 (cond t (woken x) x) ≤ 3

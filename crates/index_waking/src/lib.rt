@@ -77,7 +77,9 @@ pub fn wake_around(
 )
     requires { ⌜ Leaving s (marked (now marks)) (now dist) (now status) (now offsets) (now tree) i × Rows block ⌝ }
     ensures { λ _. ⌜
-        WokenIndexed (AtBits (mayGo (marked (now (marks .entry))) (now (dist .entry))) (bits 54 (idleBit (codeIn block))) (fromVoxel (s .a) (s .a * s .b) (firstAround s i)))
+        WokenIndexed
+        (AtBits (mayGo (marked (now (marks .entry))) (now (dist .entry))) (bits 54 (idleBit (codeIn block)))
+        (fromVoxel (s .a) (s .a * s .b) (firstAround s i)))
         (marked (now (marks .entry))) (now (dist .entry)) (now (status .entry)) (now (status .exit)) (now (offsets .exit)) (now (tree .exit)) ⌝ }
 {
     let at = neighbourhood::first_around(s, i);

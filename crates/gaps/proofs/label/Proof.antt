@@ -72,7 +72,8 @@ returns c =
     let s = begun m in
     let a = s .args in
     labels-are (a .sides) (a .values .now) (s .pre .grid) (m .mark .last .0) (m .mark .ensures) (d .flood-open-gaps .last .0)
-    (subst (λ (f : List ℕ). OpenGapsFlooded f (1 + a .sides .a + a .sides .a * a .sides .b) (m .mark .last .0) (d .flood-open-gaps .last .0)) (o .faces .ensures)
+    (subst (λ (f : List ℕ). OpenGapsFlooded f (1 + a .sides .a + a .sides .a * a .sides .b) (m .mark .last .0) (d .flood-open-gaps .last .0))
+    (o .faces .ensures)
     (d .flood-open-gaps .ensures)) _ (e .settle .ensures)
 
 pub label-spec : {M : Type 1} → statement M

@@ -43,7 +43,8 @@ use Rattle.format.specs.Layer.{readLayer, bytesOf, Part}
 use Rattle.layers.specs.declared.LayerPart.{LayerPart}
 use Rattle.layers.proofs.LayerPart as T
 use Rattle.layers.proofs.LayerPart.Laws as T′
-use Rattle.layers.proofs.Passed.{Arg, sidesVal, bytesVal, at, bytes, Args, Part′, laws, part, inBody, partVal, only, HandsBack, Reads, passed, goes, said}
+use Rattle.layers.proofs.Passed.{Arg, sidesVal, bytesVal, at, bytes, Args, Part′, laws, part, inBody, partVal, only}
+use Rattle.layers.proofs.Passed.{HandsBack, Reads, passed, goes, said}
 use Rattle.layers.proofs.read_layer as rl
 use Rattle.layers.proofs.read_layer.Symbol as rl-def
 use Rattle.layers.proofs.read_layer.Symbol.{name as #rl}
