@@ -7,7 +7,7 @@ use native.Mathlib.Omega.{arith}
 use lib.Bits.{bitAnd, bitXor}
 use lib.Count.{ones}
 use lib.Dec.{eqb}
-use borrow.Author.Tests.{eq-eqb, ne-eqb}
+use borrow.Author.Tests.{eq-eqb}
 use Rattle.cells.specs.Cells.{bit}
 use Rattle.bits.specs.Bits.{has, bits, spaced}
 use Rattle.bits.proofs.Bits.{next, bits-ext, has-bits, bits-and, bits-xor, unlike, ones-more}
@@ -21,19 +21,10 @@ spaced-even s c =
     let h : 2 * c / 2 ≡ c = omega arith in
     ap₂ (λ (b : Bool) (d : ℕ). b && s d) (eq-eqb (2 * c % 2) 0 e) h
 
-pub spaced-odd : (s : ℕ → Bool) (c : ℕ) → (c % 2 ≡ 0 → ⊥) → spaced s c ≡ false
-unfolding spaced
-spaced-odd s c n = ap (λ (b : Bool). b && s (c / 2)) (ne-eqb (c % 2) 0 n)
-
 pub has-spaced : (n : ℕ) (s : ℕ → Bool) (c : ℕ) → c < n → has (bits (n * 2) (spaced s)) (2 * c) ≡ s c
 has-spaced n s c h = has-bits (n * 2) (spaced s) (2 * c) (omega arith) ∙ spaced-even s c
 
 -- ---- all digits
-
-pub spaced-ext : (n : ℕ) (s r : ℕ → Bool) → ((c : ℕ) → c < n → s c ≡ r c) → bits (n * 2) (spaced s) ≡ bits (n * 2) (spaced r)
-unfolding spaced
-spaced-ext n s r h =
-    bits-ext (n * 2) (spaced s) (spaced r) (λ c l. ap (λ (b : Bool). eqb (c % 2) 0 && b) (h (c / 2) (omega arith)))
 
 pub spaced-and : (n : ℕ) (s r : ℕ → Bool) → bitAnd (bits n (spaced s)) (bits n (spaced r)) ≡ bits n (spaced (λ c. s c && r c))
 unfolding spaced

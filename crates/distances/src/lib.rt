@@ -1,7 +1,6 @@
 // Taxicab distances to S by sweeps, up and down along each axis. One function with a stride and a direction serves them all.
 use rules::Sides;
 ghost use mathlib.Core.Path.{_≡_};
-ghost use mathlib.Core.Bool.{Bool};
 ghost use mathlib.Core.List.{List};
 ghost use Prim.Native.Nat.{ℕ};
 ghost use Rattle.distances.specs.Sweep.{positionOf, Lowered, Apart, Slab, Swept, Both, Whole, Axis, Positioned};

@@ -1,12 +1,11 @@
 // The key of a pending voxel, and the greatest key of a stretch of voxels: its pending voxels are met in the order of their index, so that
 // among equal ranks the first met is the one to keep.
 ghost use mathlib.Core.Path.{_≡_};
-ghost use mathlib.Core.Bool.{true, false, cond, _&&_};
-ghost use Prim.Native.Nat.{ℕ, _+_, _-_, _*_, _/_, _%_, _^_, _≤_, _<_};
+ghost use mathlib.Core.Bool.{cond};
+ghost use Prim.Native.Nat.{_+_, _-_, _*_, _/_, _^_, _≤_, _<_};
 ghost use lib.ListN.{length};
 ghost use Rattle.bits.specs.Bits.{has, bits};
 ghost use Rattle.rules.specs.Grid.{distanceAt};
-ghost use Rattle.rules.specs.Status.{isPending};
 ghost use Rattle.rules.specs.Marks.{marked, unmarked};
 ghost use Rattle.keys.specs.Key.{most, Lent, rankOf, hurryOf, rankBy, keyOf, keyAt, voxelKey, width, stretches, greatest, stretchKey, bitKey};
 ghost use Rattle.keys.specs.Key.{Readable};

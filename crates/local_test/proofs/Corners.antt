@@ -2,16 +2,15 @@
 use mathlib.Core.Path.{_≡_, refl, sym, ap, ap₂, _∙_, subst}
 use mathlib.Core.Logic.{inl, inr}
 use mathlib.Core.Bool.{Bool, true, false, cond, _&&_, _||_, true≢false}
-use mathlib.Core.List.{List, [], _∷_}
-use Prim.Native.Nat.{ℕ, _+_, _-_, _*_, _/_, _%_, _^_, _≤_, _<_}
+use mathlib.Core.List.{[]}
+use Prim.Native.Nat.{ℕ, _+_, _-_, _*_, _/_, _%_, _^_, _<_}
 use native.Mathlib.Omega.{arith}
 use lib.Bits.{bitAnd, bitOr, bitXor}
 use lib.Count.{ones}
 use lib.Dec.{eqb, leb, lit<}
-use lib.ListN.{length}
 use borrow.Author.Tests.{eqb-true}
 use Rattle.prelude.specs.Lists.{range}
-use Rattle.prelude.proofs.Bools.{or-true, or-zero, true-and}
+use Rattle.prelude.proofs.Bools.{or-true, true-and}
 use Rattle.cells.specs.Groups.{consIf, filter}
 use Rattle.cells.specs.Cells.{bit, contains, touched, dimension, test}
 use Rattle.closed_sets.specs.Rank.{rankOf4, rankBy, rank}

@@ -16,7 +16,7 @@ use Rattle.rules.specs.Status.{statusOf, isKept, isPending, testAt}
 use Rattle.bits.specs.Bits.{has, bits}
 use Rattle.bits.proofs.Bits.{bits-lt, bits-has, bits-ext, has-bits}
 use Rattle.status.proofs.Bytes.{kept-bit, pending-bit}
-use Rattle.touched_cells.specs.Block.{rowIn, Rows, keptIn, blockBit, codeIn, keptOf}
+use Rattle.touched_cells.specs.Block.{rowIn, Rows, keptIn, blockBit, keptOf}
 use Rattle.touched_cells.proofs.Blocks.{kept-in-code}
 use Rattle.rules.specs.Neighbours.{Inner}
 use Rattle.neighbourhood.specs.Neighbourhood.{Few, offset, firstAround, around, rowBit, rowAt, layerAt, cubeAt, statusBit, codeOf, Gathered}

@@ -2,7 +2,7 @@
 use mathlib.Core.Path.{_≡_, refl, sym, ap, _∙_, subst}
 use mathlib.Core.Bool.{Bool, true, false, cond}
 use mathlib.Core.List.{List}
-use Prim.Native.Nat.{ℕ, _+_, _-_, _*_, _/_, _%_, _≤_, _<_, max}
+use Prim.Native.Nat.{ℕ, _+_, _-_, _/_, _%_, _≤_, _<_, max}
 use native.Mathlib.Omega.{arith}
 use lib.IntN.{ℤ}
 use lib.ListN.{length, getD, set, length-set}
@@ -13,7 +13,7 @@ use Rattle.rules.specs.Marks.{Marked}
 use Rattle.keys.specs.Key.{Lent, rankBy, rankAt, keyOf, keyAt, voxelKey, width, stretches, stretchKey}
 use Rattle.keys.proofs.Ranks.{key-by}
 use Rattle.winners.specs.Tree.{Nodes, Changed, Crowning}
-use Rattle.offsets.specs.Offsets.{offsetOf, Offset, Offsets, heldGroup, group, groups, groupKey}
+use Rattle.offsets.specs.Offsets.{offsetOf, Offsets, heldGroup, group, groups, groupKey}
 use Rattle.pending.specs.Index.{Indexed, Index, Refreshing, Refreshed}
 use Rattle.offsets.proofs.Offsets.{Named, offset-made}
 use Rattle.pending.proofs.Indexing.{offsets-of, indexed-nodes, offsets-set, indexed-set, indexed-kept, indexed-raised}

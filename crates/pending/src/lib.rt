@@ -1,7 +1,7 @@
 // The index of pending voxels: the offsets of stretches, and a winner tree of keys over groups of stretches, so that its root is the key of
 // the voxel to examine next. An operation rescans one stretch, and reads at most one group.
 ghost use mathlib.Core.Path.{_≡_};
-ghost use Prim.Native.Nat.{ℕ, _+_, _-_, _*_, _≤_, _<_};
+ghost use Prim.Native.Nat.{ℕ, _+_, _-_, _≤_, _<_};
 ghost use lib.ListN.{length, getD};
 ghost use mir.Syntax.{w32};
 ghost use mir.Val.{SFits};
@@ -10,8 +10,8 @@ ghost use Rattle.rules.specs.Status.{isPending};
 ghost use Rattle.cells.specs.Groups.{any};
 ghost use Rattle.rules.specs.Grid.{range};
 ghost use Rattle.rules.specs.Marks.{marked};
-ghost use Rattle.keys.specs.Key.{most, Lent, keyAt, voxelOf, greatest, stretches};
-ghost use Rattle.offsets.specs.Offsets.{offsetOf, Held, heldKey, heldGroup, groups, Offsets};
+ghost use Rattle.keys.specs.Key.{most, voxelOf, greatest, stretches};
+ghost use Rattle.offsets.specs.Offsets.{heldGroup, groups};
 ghost use Rattle.pending.specs.Index.{Leafing, Room, Index, Clearing, Written, Raised, Best};
 ghost use Rattle.pending.specs.Index.{adjoin, Refreshing, Refreshed};
 

@@ -1,6 +1,6 @@
 // A winner tree: leaves of any numbers, and inner nodes each the greater of its children, so that the root is the greatest of all.
 ghost use mathlib.Core.Path.{_≡_};
-ghost use Prim.Native.Nat.{ℕ, _+_, _*_, _%_, _≤_, _<_, max};
+ghost use Prim.Native.Nat.{_+_, _*_, _%_, _≤_, _<_, max};
 ghost use lib.ListN.{length, getD};
 ghost use Rattle.winners.specs.Tree.{Nodes, Grown, Changed, Crowning};
 

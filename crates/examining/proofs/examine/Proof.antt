@@ -1,5 +1,5 @@
 -- `examining::examine` meets its contract: by what the test says of the neighbourhood.
-use mathlib.Core.Path.{_≡_, refl, sym, ap, _∙_, subst, ap₂}
+use mathlib.Core.Path.{_≡_, refl, ap, _∙_, ap₂}
 use mathlib.Core.Bool.{Bool, true, false, cond, _&&_}
 use Prim.Native.Nat.{ℕ}
 use native.Mathlib.Omega.{arith}

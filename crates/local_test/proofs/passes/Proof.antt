@@ -1,9 +1,7 @@
 -- `local_test::passes` meets its contract: the kept voxels of a block are those of its code.
 use mathlib.Core.Path.{ap, _∙_}
-use Prim.Native.Nat.{ℕ}
 use borrow.Author.Needs.{needs}
-use Rattle.cells.specs.Cells.{test, passes}
-use Rattle.touched_cells.specs.Block.{keptOf}
+use Rattle.cells.specs.Cells.{passes}
 use Rattle.touched_cells.proofs.Blocks.{test-in-code}
 use Rattle.local_test.proofs.passes.Statement.{statement}
 use Rattle.local_test.proofs.passes.Tie as tie

@@ -8,7 +8,7 @@ use borrow.Author.Tests.{le-leb, lt-leb}
 use lib.Dec.{leb}
 use mir.Syntax.{w32}
 use mir.Val.{SFits}
-use Rattle.prelude.proofs.Bools.{not-true, not-false}
+use Rattle.prelude.proofs.Bools.{not-false}
 use Rattle.prelude.proofs.Signs.{held-negative}
 use Rattle.rules.specs.Status.{isKept}
 use Rattle.rules.specs.Machine.{State, state, isInside}

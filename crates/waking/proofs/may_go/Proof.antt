@@ -1,5 +1,5 @@
 -- `waking::may_go` meets its contract.
-use mathlib.Core.Path.{_≡_, ap₂, sym, _∙_}
+use mathlib.Core.Path.{ap₂, sym, _∙_}
 use mathlib.Core.Bool.{Bool, not, _||_}
 use borrow.Author.Needs.{sfits-of, needs}
 use Rattle.prelude.proofs.Signs.{held-negative}
