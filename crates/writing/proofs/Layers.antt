@@ -19,7 +19,7 @@ use Rattle.format.proofs.Sizes.{length-part}
 use Rattle.format.proofs.Holding.{held, held-between}
 use Rattle.format.proofs.Forms.{length-layerValues, length-layersForm, layersForm-next}
 use Rattle.writing.specs.Room.{Room}
-use Rattle.writing.proofs.Laying.{lay}
+use Rattle.file_records.proofs.Laying.{lay}
 
 -- so many records and the header, by the length of a record that the code found: no sum of the writer's overflows
 pub records-end : (s : Sides) (count total : ℕ) → fitSides s ≡ true → count ≤ s .c → total ≤ 16387 → headerLength + count * total ≤ 1048775

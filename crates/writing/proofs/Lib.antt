@@ -1,4 +1,2 @@
-pub mod Laying
-pub mod Values
 pub mod Layers
 pub mod Checking

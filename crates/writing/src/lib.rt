@@ -10,10 +10,10 @@ ghost use Rattle.rules.specs.Grid.{fitSides};
 ghost use Rattle.rules.specs.Checks.{firstFailing};
 ghost use Rattle.rules.specs.Answer.{outcome};
 ghost use Rattle.format.specs.Bytes.{Width};
-ghost use Rattle.format.specs.Layer.{kindOf, layerLength};
+ghost use Rattle.format.specs.Layer.{layerLength};
 ghost use Rattle.format.specs.File.{headerLength};
 ghost use Rattle.format.specs.Written as spec;
-ghost use Rattle.format.specs.Written.{headerForm, widthFor, Held, valuesForm, layerForm, layersForm, writtenForm, writtenLength, sizeChecks};
+ghost use Rattle.format.specs.Written.{widthFor, layersForm, writtenForm, writtenLength, sizeChecks};
 ghost use Rattle.writing.specs.Room.{Room};
 ghost use Rattle.writing.specs.Answer.{writeAnswer};
 use rules::Sides;
@@ -45,52 +45,6 @@ fn written_length(sides: Sides, width: usize) -> usize
 
 // ---- the written form
 
-fn kind_of(width: usize) -> u8
-    requires { ⌜ Width width ⌝ }
-    ensures { λ r. ⌜ r ≡ kindOf width ⌝ }
-{
-    if width == 4 {
-        return 0x57;
-    }
-    0x4C
-}
-
-fn write_header(sides: Sides, allowed: u16, file: &mut [u8])
-    requires { ⌜ (fitSides sides ≡ true) × (headerLength ≤ length (now file)) ⌝ }
-    ensures { λ _. ⌜ now (file .exit) ≡ headerForm sides allowed ++ drop headerLength (now (file .entry)) ⌝ }
-{
-    file[0] = 0x56;
-    file[1] = 0x48;
-    file[2] = sides.a as u8;
-    file[3] = sides.b as u8;
-    file[4] = sides.c as u8;
-    words::put_word(file, 5, 2, allowed as u32);
-}
-
-// Writes values, width bytes each.
-fn write_values(width: usize, values: &[i32], bytes: &mut [u8])
-    requires { ⌜ (Held width (now values)) × (length (now bytes) ≡ width * length (now values)) ⌝ }
-    ensures { λ _. ⌜ now (bytes .exit) ≡ valuesForm width (now (values .entry)) ⌝ }
-{
-    let mut i = 0;
-    while i < values.len() {
-        words::put_value(bytes, width * i, width, values[i]);
-        i += 1;
-    }
-}
-
-// The record of layer z.
-fn write_layer(width: usize, z: u8, values: &[i32], bytes: &mut [u8])
-    requires { ⌜ (Held width (now values)) × (length (now bytes) ≡ 3 + width * length (now values)) ⌝ }
-    ensures { λ _. ⌜ now (bytes .exit) ≡ layerForm width z (now (values .entry)) ⌝ }
-{
-    bytes[0] = 0x56;
-    bytes[1] = kind_of(width);
-    bytes[2] = z;
-    let end = bytes.len();
-    write_values(width, values, &mut bytes[3..end]);
-}
-
 // Writes the layer records, behind the header.
 fn write_layers(sides: Sides, width: usize, values: &[i32], file: &mut [u8])
     requires { ⌜ (Room sides (now values) (length (now file))) × (width ≡ widthFor (now values)) ⌝ }
@@ -104,7 +58,7 @@ fn write_layers(sides: Sides, width: usize, values: &[i32], file: &mut [u8])
     let mut z = 0;
     while z < sides.c {
         let at = z * count;
-        write_layer(
+        file_records::write_layer(
             width,
             z as u8,
             &values[at..at + count],
@@ -120,7 +74,7 @@ fn write_file(sides: Sides, allowed: u16, width: usize, values: &[i32], file: &m
     ensures { λ _. ⌜ now (file .exit)
         ≡ writtenForm sides allowed (now (values .entry)) ++ drop (writtenLength sides (now (values .entry))) (now (file .entry)) ⌝ }
 {
-    write_header(sides, allowed, file);
+    file_records::write_header(sides, allowed, file);
     write_layers(sides, width, values, file);
 }
 

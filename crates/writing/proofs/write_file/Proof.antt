@@ -9,7 +9,7 @@ use Rattle.rules.specs.declared.Sides.{Sides}
 use Rattle.format.specs.Layer.{layerLength}
 use Rattle.format.specs.File.{headerLength}
 use Rattle.format.specs.Written.{headerForm, widthFor, layersForm, writtenForm, writtenLength}
-use Rattle.writing.proofs.Laying.{lay-on}
+use Rattle.file_records.proofs.Laying.{lay-on}
 use Rattle.writing.proofs.write_file.Statement.{statement}
 use Rattle.writing.proofs.write_file.Tie as tie
 

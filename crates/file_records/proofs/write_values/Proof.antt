@@ -5,9 +5,9 @@ use lib.ListN.{length}
 use mir.Facts.{toZ-ofZ}
 use borrow.Author.Needs.{needs, sfits-of}
 use Rattle.format.proofs.Holding.{held-at}
-use Rattle.writing.proofs.Values.{Laid, laid-start, laid-room, laid-next, laid-done}
-use Rattle.writing.proofs.write_values.Statement.{statement}
-use Rattle.writing.proofs.write_values.Tie as tie
+use Rattle.file_records.proofs.Values.{Laid, laid-start, laid-room, laid-next, laid-done}
+use Rattle.file_records.proofs.write_values.Statement.{statement}
+use Rattle.file_records.proofs.write_values.Tie as tie
 
 abbrev Inv-loop : tie.InvT-loop
 Inv-loop width values bytes₀ i₀ bytes i = Laid width values bytes₀ bytes i

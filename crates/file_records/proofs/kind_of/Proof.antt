@@ -1,7 +1,7 @@
 -- `writing::kind_of` meets its contract.
 use mathlib.Core.Logic.{⊎-elim}
-use Rattle.writing.proofs.kind_of.Statement.{statement}
-use Rattle.writing.proofs.kind_of.Tie as tie
+use Rattle.file_records.proofs.kind_of.Statement.{statement}
+use Rattle.file_records.proofs.kind_of.Tie as tie
 
 returns : tie.Need-returns
 returns c = rw (c .if1 .taken)

@@ -6,9 +6,9 @@ use native.Mathlib.Omega.{arith}
 use lib.ListN.{length, length-set, length-drop}
 use borrow.Author.Needs.{needs}
 use Rattle.rules.proofs.Places.{fit}
-use Rattle.writing.proofs.Laying.{is-spread}
-use Rattle.writing.proofs.write_header.Statement.{statement}
-use Rattle.writing.proofs.write_header.Tie as tie
+use Rattle.file_records.proofs.Laying.{is-spread}
+use Rattle.file_records.proofs.write_header.Statement.{statement}
+use Rattle.file_records.proofs.write_header.Tie as tie
 
 room : (c : tie.Start) → 7 ≤ length (c .args .file .now)
 room c = c .pre .1

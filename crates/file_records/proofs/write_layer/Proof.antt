@@ -8,9 +8,9 @@ use lib.Seq.{drop-length}
 use borrow.Author.Needs.{needs}
 use Rattle.format.specs.Written.{valuesForm}
 use Rattle.format.proofs.Forms.{length-valuesForm}
-use Rattle.writing.proofs.Laying.{is-spread}
-use Rattle.writing.proofs.write_layer.Statement.{statement}
-use Rattle.writing.proofs.write_layer.Tie as tie
+use Rattle.file_records.proofs.Laying.{is-spread}
+use Rattle.file_records.proofs.write_layer.Statement.{statement}
+use Rattle.file_records.proofs.write_layer.Tie as tie
 
 abbrev after-kind-of : tie.After-slice-known2 → tie.After-kind-of
 after-kind-of c = c .before .before .before .before

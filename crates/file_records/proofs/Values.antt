@@ -12,7 +12,7 @@ use Rattle.format.specs.Written.{Held, valuesForm}
 use Rattle.format.proofs.Bytes.{length-valueBytes}
 use Rattle.format.proofs.Sizes.{value-room}
 use Rattle.format.proofs.Forms.{length-valuesForm, valuesForm-next}
-use Rattle.writing.proofs.Laying.{lay-sets}
+use Rattle.file_records.proofs.Laying.{lay-sets}
 
 module _ (width : ℕ) (values : List ℤ) (lent : List ℕ) where
   -- the values below i stand before what was lent
