@@ -1,0 +1,6 @@
+pub mod SplitCells
+pub mod Split
+pub mod Eight
+pub mod Run
+pub mod Fitness
+pub mod Body

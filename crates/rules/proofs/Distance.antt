@@ -54,11 +54,11 @@ gap-lt : (n p q : ℕ) → p < n → q < n → gap p q < n
 unfolding gap
 gap-lt n p q h k = omega arith
 
-gap-zero : (p q : ℕ) → gap p q ≡ 0 → p ≡ q
+pub gap-zero : (p q : ℕ) → gap p q ≡ 0 → p ≡ q
 unfolding gap
 gap-zero p q e = omega arith
 
-gap-none : (p : ℕ) → gap p p ≡ 0
+pub gap-none : (p : ℕ) → gap p p ≡ 0
 unfolding gap
 gap-none p = omega arith
 

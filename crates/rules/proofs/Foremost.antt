@@ -23,17 +23,17 @@ use Rattle.prelude.proofs.Ranges.{range-mem, mem-range}
 
 -- ---- the order of distances
 
-ltZ-self : (a : ℤ) → ltZ a a ≡ false
+pub ltZ-self : (a : ℤ) → ltZ a a ≡ false
 ltZ-self (pos a) = le-ltb a a (omega arith)
 ltZ-self (negsuc a) = le-ltb a a (omega arith)
 
-ltZ-turn : (a b : ℤ) → ltZ a b ≡ true → ltZ b a ≡ false
+pub ltZ-turn : (a b : ℤ) → ltZ a b ≡ true → ltZ b a ≡ false
 ltZ-turn (pos a) (pos b) e = le-ltb b a (omega (arith, ltb-true a b e))
 ltZ-turn (pos a) (negsuc b) e = absurd (true≢false (sym e))
 ltZ-turn (negsuc a) (pos b) e = refl
 ltZ-turn (negsuc a) (negsuc b) e = le-ltb a b (omega (arith, ltb-true b a e))
 
-ltZ-not : (a b c : ℤ) → ltZ a b ≡ false → ltZ b c ≡ false → ltZ a c ≡ false
+pub ltZ-not : (a b c : ℤ) → ltZ a b ≡ false → ltZ b c ≡ false → ltZ a c ≡ false
 ltZ-not (pos a) (pos b) (pos c) e f = le-ltb a c (omega (arith, ltb-false a b e, ltb-false b c f))
 ltZ-not (pos a) b (negsuc c) e f = refl
 ltZ-not (pos a) (negsuc b) (pos c) e f = absurd (true≢false f)

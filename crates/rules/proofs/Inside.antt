@@ -19,7 +19,7 @@ use Rattle.cells.proofs.Groups.{At, mem-none, at-lt, group-filled, group-of, gr
 use Rattle.cells.proofs.GroupsAre.{among-mem, mem-among, mem-getD, getD-mem}
 use Rattle.cells.proofs.GroupsSize.{Distinct, distinct-length, distinct-filter, distinct-at, groups-distinct}
 use Rattle.rules.specs.declared.Sides.{Sides}
-use Rattle.rules.specs.Grid.{size, voxel, range, voxels, gap, near, touch, measuredNegative, valueAt}
+use Rattle.rules.specs.Grid.{Voxel, size, voxel, range, voxels, gap, near, touch, measuredNegative, valueAt}
 use Rattle.rules.specs.Begin.{least, isIn, negatives, larger, largest, inside}
 use Rattle.rules.specs.Meaning.{negative, GroupOf, EveryGroupIsFound, found, IsInside, InsideIsFound, FoundIsInside}
 use Rattle.prelude.proofs.Ranges.{range-mem, mem-range}
@@ -28,14 +28,17 @@ use Rattle.rules.proofs.InsideLeast.{least-le, least-mem}
 
 -- ---- touching
 
-gap-turn : (p q : ℕ) → gap p q ≡ gap q p
+pub gap-turn : (p q : ℕ) → gap p q ≡ gap q p
 unfolding gap
 gap-turn p q = omega arith
 
+pub near-turn : (u v : Voxel) → near u v ≡ near v u
+unfolding near
+near-turn u v = rw (gap-turn (u .x) (v .x), gap-turn (u .y) (v .y), gap-turn (u .z) (v .z))
+
 pub touch-turn : (s : Sides) (i j : ℕ) → touch s i j ≡ touch s j i
-unfolding touch near
-touch-turn s i j =
-    rw (gap-turn (voxel s i .x) (voxel s j .x), gap-turn (voxel s i .y) (voxel s j .y), gap-turn (voxel s i .z) (voxel s j .z))
+unfolding touch
+touch-turn s i j = near-turn (voxel s i) (voxel s j)
 
 pub touch-back : (s : Sides) (i j : ℕ) → touch s i j ≡ true → touch s j i ≡ true
 touch-back s i j e = touch-turn s j i ∙ e

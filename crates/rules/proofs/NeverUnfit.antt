@@ -218,7 +218,7 @@ module _ (s : Sides) (S held : ℕ → Bool) (total : ℕ) (dist : List ℤ) (st
       let h = signs i e in
       (sound .inv .inside i h, elim (two (isPending status i)) [ inl p ↦ not-both (S i) h (sound .inv .waiting i p .1) | inr p ↦ p ])
 
-  fit-sound : FitVoxels s dist status
+  pub fit-sound : FitVoxels s dist status
   unfolding isKept isPending
   fit-sound =
       record {
@@ -228,7 +228,7 @@ module _ (s : Sides) (S held : ℕ → Bool) (total : ℕ) (dist : List ℤ) (st
         inner = λ i e. let k = kept-inside i e in known-settled (statusOf status i) (known i) (k .0) (k .1);
       }
 
-start-known : (s : Sides) (m : Marked) (S : List ℕ) (kept : ℕ → Bool) (i : ℕ) → Known (statusOf (startStatus s m S kept) i)
+pub start-known : (s : Sides) (m : Marked) (S : List ℕ) (kept : ℕ → Bool) (i : ℕ) → Known (statusOf (startStatus s m S kept) i)
 unfolding startStatus voxels statusAt
 start-known s m S kept i =
     elim (decLt i (size s)) [

@@ -30,9 +30,9 @@ use Rattle.rules.proofs.Demand.{all-lend-map, all-lend-any}
 -- ---- one voxel, that is kept or gone as before says: kept, it may not go
 
 -- as before, in a buffer of the grid's size
-record Still (s : Sides) (j : ℕ) (before : Bool) (status : List ℕ) : Type 0 where
-  lent : length status ≡ size s
-  kept : isKept status j ≡ before
+pub record Still (s : Sides) (j : ℕ) (before : Bool) (status : List ℕ) : Type 0 where
+  pub lent : length status ≡ size s
+  pub kept : isKept status j ≡ before
 
 still-omit : (p : ℕ → Bool) (i j : ℕ) (before : Bool) → p j ≡ before → (before ≡ true → j ≡ i → ⊥) → omit p i j ≡ before
 unfolding omit
@@ -62,7 +62,7 @@ module _ (s : Sides) (free : ℕ → Bool) (j : ℕ) (before : Bool) (stays : be
       go true e = still-gone status i (and-true (passes (testAt s status i)) (free i) e .1) k
       go false e = still-rested status i h p k
 
-  still-carving : (ahead : ℕ → ℕ → Bool) → Order ahead → (limit : ℕ) (status : List ℕ) → Still s j before status
+  pub still-carving : (ahead : ℕ → ℕ → Bool) → Order ahead → (limit : ℕ) (status : List ℕ) → Still s j before status
       → Still s j before (carving s free ahead limit status .status)
   unfolding carving
   still-carving ahead order zero status k = k

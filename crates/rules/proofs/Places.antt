@@ -6,8 +6,8 @@ use native.Mathlib.Omega.{arith}
 use native.Mathlib.Nat.{mod-lt, mod-eq-of-lt, div-eq-of-lt, div-add-mod, add-mul-div-left, add-mul-mod-self-left, div-lt-iff-lt-mul, div-div-eq-div-mul}
 use native.Mathlib.Nat.{mul-le-mul-left, mul-comm, mul-assoc}
 use lib.Dec.{leb}
-use borrow.Author.Tests.{leb-true}
-use Rattle.prelude.proofs.Bools.{and-true}
+use borrow.Author.Tests.{leb-true, le-leb}
+use Rattle.prelude.proofs.Bools.{and-true, true-and}
 use Rattle.rules.specs.declared.Sides.{Sides}
 use Rattle.rules.specs.Grid.{fitSide, fitSides, size, Voxel, index, voxel}
 pub use Rattle.rules.specs.Meaning.{InGrid}
@@ -37,6 +37,15 @@ fit s e =
       c-low = leb-true 3 (s .c) (c .0);
       c-high = leb-true (s .c) 64 (c .1);
     }
+
+pub fit-sides : (s : Sides) → Fit s → fitSides s ≡ true
+unfolding fitSides
+fit-sides s f =
+    true-and (fitSide (s .a)) (fitSide (s .b) && fitSide (s .c)) (side (s .a) (f .a-low) (f .a-high))
+    (true-and (fitSide (s .b)) (fitSide (s .c)) (side (s .b) (f .b-low) (f .b-high)) (side (s .c) (f .c-low) (f .c-high)))
+  where
+    side : (n : ℕ) → 3 ≤ n → n ≤ 64 → fitSide n ≡ true
+    side n l u = true-and (leb 3 n) (leb n 64) (le-leb 3 n l) (le-leb n 64 u)
 
 pub voxel-eq : (u v : Voxel) → u .x ≡ v .x → u .y ≡ v .y → u .z ≡ v .z → u ≡ v
 voxel-eq u v e f g = λ i. record { x = e i; y = f i; z = g i }

@@ -22,7 +22,7 @@ use Rattle.rules.specs.Grid.{Voxel, index, voxel, size, gap, touch, apar
 use Rattle.rules.specs.Begin.{exposed}
 use Rattle.rules.specs.Body.{bodyOf, eulerOf}
 use Rattle.rules.proofs.Places.{InGrid, voxel-index, index-voxel, index-lt, voxel-in}
-use Rattle.rules.proofs.Inside.{touch-back}
+use Rattle.rules.proofs.Inside.{gap-turn, touch-back}
 use Rattle.rules.proofs.Topology.Cells.{Gone, euler-gone}
 use Rattle.rules.proofs.Topology.Links.{one-taken, one-put, cells-carry}
 use Rattle.rules.proofs.Topology.Around.{Close, touch-close, close-touch, At, close-at, Inner, inner-in, neighbour-at}
@@ -80,18 +80,13 @@ face-taxicab f m =
 pub face-at : (u v : Voxel) (f : ℕ) → Mem f facePositions → At u v f → apart u v ≡ 1
 face-at u v f m a = apart-at u v f a ∙ face-taxicab f m .0
 
-gap-turn : (u v : ℕ) → gap u v ≡ gap v u
-unfolding gap
-gap-turn u v = omega arith
+pub apart-turn : (u v : Voxel) → apart u v ≡ apart v u
+unfolding apart
+apart-turn u v = rw (gap-turn (u .x) (v .x), gap-turn (u .y) (v .y), gap-turn (u .z) (v .z))
 
 pub face-turn : (s : Sides) (i j : ℕ) → shareFace s i j ≡ true → shareFace s j i ≡ true
-unfolding shareFace taxicab apart
-face-turn s i j e =
-    let u = voxel s i in
-    let v = voxel s j in
-    let h : gap (u .x) (v .x) + gap (u .y) (v .y) + gap (u .z) (v .z) ≡ 1 = eqb-true (gap (u .x) (v .x) + gap (u .y) (v .y) + gap (u .z) (v .z)) 1 e in
-    eq-eqb (gap (v .x) (u .x) + gap (v .y) (u .y) + gap (v .z) (u .z)) 1
-    (omega (arith, gap-turn (u .x) (v .x), gap-turn (u .y) (v .y), gap-turn (u .z) (v .z)))
+unfolding shareFace taxicab
+face-turn s i j e = ap (λ (n : ℕ). eqb n 1) (apart-turn (voxel s j) (voxel s i)) ∙ e
 
 -- ---- the voxel i of the body goes
 
