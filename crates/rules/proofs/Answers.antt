@@ -1,6 +1,6 @@
 -- A call that is done on one input and refused on another neither always refuses nor gives a constant.
 use mathlib.Core.Path.{_≡_, refl, sym, _∙_}
-use mathlib.Core.Bool.{true, false, true≢false}
+use mathlib.Core.Bool.{true, true≢false}
 use Prim.Native.Nat.{ℕ}
 use native.Mathlib.Omega.{arith}
 use Rattle.rules.specs.Answer.{Reply, refused, done, isDone, Answers}

@@ -7,27 +7,29 @@ use native.Mathlib.Omega.{arith}
 use lib.IntN.{ℤ, pos}
 use Rattle.rules.specs.declared.Sides.{Sides}
 use Rattle.rules.specs.declared.Record.{Record}
-use Rattle.rules.specs.Grid.{size, voxels}
+use Rattle.rules.specs.Grid.{size, voxel, voxels}
 use Rattle.rules.specs.Answer.{done, untouched, buffers}
 use Rattle.rules.specs.Fill.{filled}
 use Rattle.rules.specs.Begin.{isIn, inside, inBox, worked, startStatus, newRecord, beginChecks, begunOn, begun, begin}
 use Rattle.rules.specs.Status.{isPending, testAt, anyPending}
-use Rattle.rules.specs.Machine.{State, state, isInside}
+use Rattle.rules.specs.Machine.{State, state}
 use Rattle.rules.specs.Marks.{Marked, marked}
-use Rattle.rules.specs.Demand.{Call, carveUpTo, takeAt, openOne, finishIt, Lends, AllLend, Unchanged, call, run, Demand}
-use Rattle.rules.specs.Demand.{DemandIsMet}
+use Rattle.rules.specs.Demand.{Call, carveUpTo, takeAt, openOne, finishIt, Promise, FromBegin, Lends, AllLend, Unchanged, call, run}
+use Rattle.rules.specs.Demand.{DemandAfter, DemandIsMet}
 use Rattle.rules.specs.Meaning.{found}
 use Rattle.rules.specs.Fit.{Beginnable}
 use Rattle.rules.proofs.Checks.{by-checks}
 use Rattle.prelude.proofs.Ranges.{none-below}
 use Rattle.rules.proofs.Places.{fit}
-use Rattle.rules.proofs.Inside.{inside-some}
+use Rattle.rules.proofs.Inside.{inside-some, inside-members, negative-lt}
+use Rattle.rules.proofs.Boxes.{inside-off-border}
 use Rattle.rules.proofs.Fit.{beginnable}
 use Rattle.rules.proofs.Fill.{beginnable-filled}
-use Rattle.rules.proofs.Topology.Moves.{Inv}
-use Rattle.rules.proofs.Topology.Steps.{Sound, tally, sets}
-use Rattle.rules.proofs.Topology.Calls.{tallyOf, Good, Adds, Held, Keeps, run-keeps}
-use Rattle.rules.proofs.Topology.Start.{box-sound, worked-signs}
+use Rattle.rules.proofs.Topology.Around.{Inner}
+use Rattle.rules.proofs.Topology.Moves.{Shape, Inv}
+use Rattle.rules.proofs.Topology.Steps.{sets}
+use Rattle.rules.proofs.Topology.Calls.{tallyOf, Good, Held, Keeps, run-keeps}
+use Rattle.rules.proofs.Topology.Start.{inGrid, border-inner, start-sound, box-shape, box-holds, worked-signs}
 
 not-pending : (s : Sides) (status : List ℕ) → anyPending s status ≡ false → (i : ℕ) → i < size s → isPending status i ≡ false
 unfolding anyPending voxels
@@ -75,60 +77,94 @@ held-same : (S : ℕ → Bool) (total : ℕ) (marks : List ℕ) (calls : List Ca
 held-same S total marks =
     all-lend-map (λ lent. lent ≡ marks) (Held S (marked marks .pinned) total) (λ lent u j e. ap (λ (l : List ℕ). marked l .pinned j) (sym u) ∙ e)
 
-module _ (s : Sides) (T : ℕ) (values : List ℤ) (marks : List ℕ) (start : ℕ → Bool) (dist : List ℤ) (status : List ℕ)
-    (sound : (held : ℕ → Bool) → ((j : ℕ) → marked marks .pinned j ≡ true → held j ≡ true)
-    → Sound s (isIn (inside s values)) held (found s start) status (tally 0 0 0 (pos 1)))
-    (signs : (i : ℕ) → i < size s → isInside dist i ≡ isIn (inside s values) i) where
+-- a body to start from, on a grid that begin accepts: of the right shape, and S within it
+pub record Startable (s : Sides) (values : List ℤ) (start : ℕ → Bool) : Type 0 where
+  pub accepted : Beginnable s values
+  pub shape : Shape s (inGrid s start) 0 (pos 1)
+  pub holds : (j : ℕ) → isIn (inside s values) j ≡ true → inGrid s start j ≡ true
+
+-- the state that a start hands out
+abbrev pub startState : Sides → ℕ → List ℤ → Marked → (ℕ → Bool) → State
+startState s T values m start = let S = inside s values in state (newRecord s T) (worked s values S) (startStatus s m S start)
+
+abbrev pub FromStart : Promise → Type 0
+FromStart P =
+    (s : Sides) (T : ℕ) (values : List ℤ) (marks : List ℕ) (start : ℕ → Bool) → Startable s values start
+    → P s T values marks start (startState s T values (marked marks) start)
+
+module _ (s : Sides) (values : List ℤ) (start : ℕ → Bool) (from : Startable s values start) where
   abbrev S : ℕ → Bool
   S = isIn (inside s values)
 
-  abbrev started : State
-  started = state (newRecord s T) dist status
+  abbrev total : ℕ
+  total = found s start
 
-  good-start : (held : ℕ → Bool) → ((j : ℕ) → marked marks .pinned j ≡ true → held j ≡ true) → Good S held (found s start) started
-  good-start held within = record { sound = sound held within; signs = λ f. signs }
+  pub some-inside : (i : ℕ) × (S i ≡ true)
+  some-inside = inside-some s values (from .accepted .some) (from .accepted .some-negative)
 
-  -- what holds after the calls, of the held voxels too
-  ran : (calls : List Call) (held : ℕ → Bool) → ((j : ℕ) → marked marks .pinned j ≡ true → held j ≡ true) → AllLend (Held S held (found s start)) started calls
-      → let g = run calls started .end in
-      (Adds started g (run calls started .answers)) × (Inv s S held (found s start) (sets (g .status) (tallyOf (g .rec))))
-  ran calls held within lent =
-      let keeps = run-keeps S held (found s start) calls started lent (good-start held within) in
-      let g = run calls started .end in (
-        keeps .adds,
-        subst (λ (t : Sides). Inv t S held (found s start) (sets (g .status) (tallyOf (g .rec)))) (keeps .adds .sides) (keeps .good .sound .inv),
-      )
+  module _ (T : ℕ) (m : Marked) where
+    abbrev started : State
+    started = startState s T values m start
 
-  pub from-start : (calls : List Call) → let after = run calls started in Demand s values marks start started calls (after .end) (after .answers)
-  unfolding testAt
-  from-start calls =
-      let r = ran calls all-held (λ j e. refl) (held-all S (found s start) calls started) in
-      let adds = r .0 in
-      let inv = r .1 in
-      let g = run calls started .end in
-      let shape = inv .shape in
-      record {
-        same-sides = adds .sides;
-        inside-kept = inv .inside;
-        background-one-piece = shape .outside;
-        euler-of-body = shape .counted;
-        euler-of-openings = adds .euler;
-        unopened-one-piece = λ e. shape .unopened (omega (arith, adds .openings)) .0;
-        unopened-euler = λ e. shape .unopened (omega (arith, adds .openings)) .1;
-        none-passes = λ same quiet i ki si pi.
-            ran calls (marked marks .pinned) (λ j e. e) (held-same S (found s start) marks calls started same) .1
-            .failing i ki si pi (not-pending s (g .status) quiet i (shape .inner i ki .0));
-        examinations-bound = omega (arith, inv .bounded, adds .examinations, adds .removals);
-        openings-count = omega (arith, adds .openings);
-        removals-count = omega (arith, adds .removals);
-        examinations-count = omega (arith, adds .examinations);
-      }
+    pub good-start : (held : ℕ → Bool) → ((j : ℕ) → m .pinned j ≡ true → held j ≡ true) → Good S held total started
+    good-start held within =
+        record { sound = start-sound s m (inside s values) start (from .shape) (from .holds) held within; signs = λ f. worked-signs s values }
 
--- ---- begin
+    -- whatever marks each call gets
+    pub keeps-after : (calls : List Call) → let after = run calls started in Keeps S all-held total started (after .end) (after .answers)
+    keeps-after calls = run-keeps S all-held total calls started (held-all S total calls started) (good-start all-held (λ j e. refl))
+
+pub demand-after : FromStart DemandAfter
+unfolding testAt
+demand-after s T values marks start from calls =
+    let S = isIn (inside s values) in
+    let m = marked marks in
+    let begun = startState s T values m start in
+    let g = run calls begun .end in
+    let keeps = keeps-after s values start from T m calls in
+    let adds = keeps .adds in
+    let here : (held : ℕ → Bool) → Good S held (found s start) g → Inv s S held (found s start) (sets (g .status) (tallyOf (g .rec))) =
+    λ held good. subst (λ (t : Sides). Inv t S held (found s start) (sets (g .status) (tallyOf (g .rec)))) (adds .sides) (good .sound .inv) in
+    let inv = here all-held (keeps .good) in
+    let shape = inv .shape in
+    record {
+      same-sides = adds .sides;
+      inside-kept = inv .inside;
+      background-one-piece = shape .outside;
+      euler-of-body = shape .counted;
+      euler-of-openings = adds .euler;
+      unopened-one-piece = λ e. shape .unopened (omega (arith, adds .openings)) .0;
+      unopened-euler = λ e. shape .unopened (omega (arith, adds .openings)) .1;
+      none-passes = λ same quiet i ki si pi.
+          here (m .pinned) (run-keeps S (m .pinned) (found s start) calls begun (held-same S (found s start) marks calls begun same)
+          (good-start s values start from T m (m .pinned) (λ j e. e)) .good)
+          .failing i ki si pi (not-pending s (g .status) quiet i (shape .inner i ki .0));
+      examinations-bound = omega (arith, inv .bounded, adds .examinations, adds .removals);
+      openings-count = omega (arith, adds .openings);
+      removals-count = omega (arith, adds .removals);
+      examinations-count = omega (arith, adds .examinations);
+    }
+
+-- ---- begin: the solid box is a body to start from
+
+pub box-start : (s : Sides) (values : List ℤ) → Beginnable s values → Startable s values (inBox s (inside s values))
+box-start s values accepted =
+    let first = inside-some s values (accepted .some) (accepted .some-negative) in
+    let f = fit s (accepted .sides) in
+    record {
+      accepted = accepted;
+      shape = box-shape s f (inside s values) off (first .0) (first .1);
+      holds = box-holds s f (inside s values) off (first .0) (first .1);
+    }
+  where
+    off : (i : ℕ) → isIn (inside s values) i ≡ true → (i < size s) × (Inner s (voxel s i))
+    off i m =
+        let h = negative-lt s values i (inside-members s values i m) in
+        (h, border-inner s i h (inside-off-border s values (accepted .border) i m))
 
 -- the state that begin hands out
 abbrev pub handed : Sides → ℕ → List ℤ → Marked → State
-handed s T values m = let S = inside s values in state (newRecord s T) (worked s values S) (startStatus s m S (inBox s S))
+handed s T values m = startState s T values m (inBox s (inside s values))
 
 -- what holds of it for the filled values of every grid that begin accepts, holds of begin's answer and buffers
 module _ (P : State → Type 0) where
@@ -147,41 +183,12 @@ module _ (P : State → Type 0) where
       subst (λ (r : Record). P (state r (g .dist) (g .status))) q
       (holds (beginnable-filled s values (beginnable s values marks dist status p)))) e
 
-module _ (s : Sides) (values : List ℤ) (accepted : Beginnable s values) where
-  pub begun-inside : (i : ℕ) × (isIn (inside s values) i ≡ true)
-  begun-inside = inside-some s values (accepted .some) (accepted .some-negative)
-
-  begun-sound : (m : Marked) (held : ℕ → Bool) → ((j : ℕ) → m .pinned j ≡ true → held j ≡ true)
-      → Sound s (isIn (inside s values)) held (found s (inBox s (inside s values)))
-      (startStatus s m (inside s values) (inBox s (inside s values))) (tally 0 0 0 (pos 1))
-  begun-sound = box-sound s values (fit s (accepted .sides)) (accepted .border) (accepted .some) (accepted .some-negative)
-
-  -- whatever is pinned and hurried
-  pub begun-good : (T : ℕ) (m : Marked) → Good (isIn (inside s values)) all-held (found s (inBox s (inside s values))) (handed s T values m)
-  begun-good T m = record { sound = begun-sound m all-held (λ j e. refl); signs = λ f. worked-signs s values }
-
-  -- what holds after any list of calls, whatever marks each gets
-  pub begun-keeps : (T : ℕ) (marks : List ℕ) (calls : List Call)
-      → let begun = handed s T values (marked marks) in
-      let after = run calls begun in
-      Keeps (isIn (inside s values)) all-held (found s (inBox s (inside s values))) begun (after .end) (after .answers)
-  begun-keeps T marks calls =
-      let S = isIn (inside s values) in
-      let total = found s (inBox s (inside s values)) in
-      let begun = handed s T values (marked marks) in
-      run-keeps S all-held total calls begun (held-all S total calls begun) (begun-good T (marked marks))
-
-  from-begin : (T : ℕ) (marks : List ℕ) (calls : List Call)
-      → let begun = handed s T values (marked marks) in
-      let after = run calls begun in
-      Demand s values marks (inBox s (inside s values)) begun calls (after .end) (after .answers)
-  from-begin T marks calls =
-      let S = inside s values in
-      from-start s T values marks (inBox s S) (worked s values S) (startStatus s (marked marks) S (inBox s S)) (begun-sound (marked marks))
-      (worked-signs s values) calls
+-- and so does what every start promises
+pub from-begin : (P : Promise) → FromStart P → FromBegin P
+from-begin P holds s T values marks dist status r e =
+    let used = filled s values in
+    let box = inBox s (inside s used) in
+    by-begin (P s T used marks box) s T values marks dist status (λ accepted. holds s T used marks box (box-start s used accepted)) r e
 
 pub demand-is-met : DemandIsMet
-demand-is-met s T values marks dist status r e calls =
-    let used = filled s values in
-    by-begin (λ g. let after = run calls g in Demand s used marks (inBox s (inside s used)) g calls (after .end) (after .answers))
-    s T values marks dist status (λ accepted. from-begin s used accepted T marks calls) r e
+demand-is-met = from-begin DemandAfter demand-after

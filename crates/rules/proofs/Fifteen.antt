@@ -1,6 +1,6 @@
--- Where open answers 15, what is kept is determined by S and the pinned voxels of the box: of a grid that begin accepts.
+-- Where open answers 15, what is kept is determined by S and the pinned voxels of the body at the start.
 use mathlib.Core.Path.{_≡_, refl, ap, sym, _∙_, subst}
-use mathlib.Core.Logic.{_↔_, inl, inr}
+use mathlib.Core.Logic.{inl, inr}
 use mathlib.Core.Bool.{Bool, true, false, not, cond, _&&_, _||_}
 use mathlib.Core.List.{List, [], _∷_, _++_}
 use mathlib.Core.Option.{Option, none, some}
@@ -10,67 +10,56 @@ use lib.Dec.{ltb, eqb}
 use lib.IntN.{ℤ}
 use borrow.Author.Tests.{ltb-true, eqb-false, ne-eqb}
 use Rattle.cells.specs.Groups.{any}
-use Rattle.cells.specs.Linked.{Linked, stay, step, OnePiece}
-use Rattle.cells.proofs.Chains.{first-member, append, reverse, follow, widen}
+use Rattle.cells.specs.Linked.{OnePiece}
+use Rattle.cells.proofs.Chains.{widen}
 use Rattle.prelude.proofs.Bools.{and-true, or-true, or-zero, or-false, not-both, two}
 use Rattle.rules.specs.declared.Sides.{Sides}
 use Rattle.rules.specs.Grid.{fitSides, size, touch}
 use Rattle.rules.specs.Checks.{Check, _when_, unless, AllHold}
 use Rattle.rules.specs.Answer.{refused, done, Outcome, outcome, untouched, Buffers, Opening}
-use Rattle.rules.specs.Fill.{filled}
-use Rattle.rules.specs.Begin.{isIn, inside, inBox, begin}
+use Rattle.rules.specs.Begin.{isIn, inside}
 use Rattle.rules.specs.Status.{isKept, anyPending}
 use Rattle.rules.specs.Marks.{marked}
-use Rattle.rules.specs.Machine.{State, state, lentTo, mayGo, markedChecks, quietChecks, toOpen, isNone, theVoxel, opened, openNext}
-use Rattle.rules.specs.Fit.{Beginnable, Marking}
-use Rattle.rules.specs.Demand.{Call, run}
-use Rattle.rules.specs.Meaning.{negative, found, IsInside}
-use Rattle.rules.specs.Fifteen.{clear, OpenToBorder, walls, UnpinnedWalls, Pins, GoneIsOpen, OnlyClosedIn, NoneToOpen, FifteenTells, FifteenWhen}
-use Rattle.rules.specs.Fifteen.{EndsWith15, endStatus, OneBody, FifteenIsLast}
-use Rattle.rules.proofs.Inside.{touch-back, negative-lt, inside-is-found, inside-members}
+use Rattle.rules.specs.Machine.{State, lentTo, mayGo, markedChecks, quietChecks, toOpen, isNone, theVoxel, opened, openNext}
+use Rattle.rules.specs.Fit.{Marking}
+use Rattle.rules.specs.Demand.{FromBegin, Call, run}
+use Rattle.rules.specs.Meaning.{found}
+use Rattle.rules.specs.Fifteen.{clear, OpenToBorder, walls, UnpinnedWalls, Pins, OpenAfter, GoneIsOpen, OnlyClosedIn, NoneToOpenAfter, NoneToOpen}
+use Rattle.rules.specs.Fifteen.{FifteenTellsAfter, FifteenTells, FifteenWhenAfter, FifteenWhen, FifteenLastAfter, FifteenIsLast, endStatus}
+use Rattle.rules.specs.Fifteen.{SameBodyAfter, OneBody}
+use Rattle.rules.proofs.Inside.{inside-one-piece}
 use Rattle.rules.proofs.Checks.{unless-after, hold-append, held-at}
-use Rattle.rules.proofs.Fit.{fit-state, marking, marking-holds}
+use Rattle.rules.proofs.Fit.{marking, marking-holds}
 use Rattle.rules.proofs.Topology.Calls.{Good}
 use Rattle.rules.proofs.Topology.Start.{kept-at-first}
-use Rattle.rules.proofs.Demand.{all-held, handed, by-begin, begun-keeps, demand-is-met}
+use Rattle.rules.proofs.Demand.{all-held, Startable, startState, FromStart, keeps-after, from-begin}
 use Rattle.rules.proofs.Pinned.{gone-stays-gone}
-use Rattle.rules.proofs.NeverUnfit.{never-unfit}
+use Rattle.rules.proofs.NeverUnfit.{end-fit}
 use Rattle.rules.proofs.Border.{gone-open, open-gone, one-piece, may-go, pinned-stays, first-fails, stays}
 
--- ---- a grid that begin accepts
+-- ---- after a start, and any list of calls
 
-inside-one-piece : (s : Sides) (values : List ℤ) → IsInside s values (isIn (inside s values)) → OnePiece (isIn (inside s values)) (touch s)
-inside-one-piece s values is i j mi mj = append (reverse (touch-back s) (from-seed i mi)) (from-seed j mj)
-  where
-    from-seed : (j : ℕ) → isIn (inside s values) j ≡ true → Linked (isIn (inside s values)) (touch s) (is .seed) j
-    from-seed j m =
-        let whole = is .group .whole in
-        let l = is .group .linked j (negative-lt s values j (inside-members s values j m)) m in
-        let first = stay (first-member l) in
-        follow (λ z. (Linked (negative s values) (touch s) (is .seed) z) × (Linked (isIn (inside s values)) (touch s) (is .seed) z))
-        (λ u v p k n. let a = step (p .0) k n in (a, step (p .1) k (whole v a))) l (first, stay (whole (is .seed) first)) .1
-
-module _ (s : Sides) (T : ℕ) (values : List ℤ) (marks : List ℕ) (accepted : Beginnable s values) (calls : List Call) where
+module _ (s : Sides) (T : ℕ) (values : List ℤ) (marks : List ℕ) (start : ℕ → Bool) (from : Startable s values start) (calls : List Call) where
   abbrev S : List ℕ
   S = inside s values
 
   abbrev total : ℕ
-  total = found s (inBox s S)
+  total = found s start
 
   abbrev begun : State
-  begun = handed s T values (marked marks)
+  begun = startState s T values (marked marks) start
 
   abbrev reached : State
   reached = run calls begun .end
 
   good-end : Good (isIn S) all-held total reached
-  good-end = begun-keeps s values accepted T marks calls .good
+  good-end = keeps-after s values start from T (marked marks) calls .good
 
   same-sides : reached .rec .sides ≡ s
-  same-sides = begun-keeps s values accepted T marks calls .adds .sides
+  same-sides = keeps-after s values start from T (marked marks) calls .adds .sides
 
   fit-end : fitSides (reached .rec .sides) ≡ true
-  fit-end = ap fitSides same-sides ∙ accepted .sides
+  fit-end = ap fitSides same-sides ∙ from .accepted .sides
 
   gone-end : (solid : ℕ → Bool) → ((j : ℕ) → j < size s → solid j ≡ true → isKept (reached .status) j ≡ true)
       → (i : ℕ) → i < size s → isKept (reached .status) i ≡ false → OpenToBorder s solid i
@@ -82,15 +71,14 @@ module _ (s : Sides) (T : ℕ) (values : List ℤ) (marks : List ℕ) (accepted 
   inside-end : (j : ℕ) → isIn S j ≡ true → isKept (reached .status) j ≡ true
   inside-end = good-end .sound .inv .inside
 
-  -- what is kept is of the box: what is not there is gone from the start
-  boxed : (v : ℕ) → isKept (reached .status) v ≡ true → inBox s S v ≡ true
-  boxed v k =
+  -- what is kept is of the body at the start: what is not there is gone from the start
+  of-start : (v : ℕ) → isKept (reached .status) v ≡ true → start v ≡ true
+  of-start v k =
       let below : v < size s = subst (λ (t : Sides). v < size t) same-sides (good-end .sound .inv .shape .inner v k .0) in
-      elim (two (inBox s S v)) [
+      elim (two (start v)) [
         | inl b ↦ b
         | inr b ↦
-            not-both (isKept (reached .status) v) k
-            (gone-stays-gone begun v (kept-at-first s (marked marks) S (inBox s S) v below ∙ b) calls)
+            not-both (isKept (reached .status) v) k (gone-stays-gone begun v (kept-at-first s (marked marks) S start v below ∙ b) calls)
       ]
 
   module _ (lent : List ℕ) (pins : Pins lent begun calls) (working : reached .rec .finished ≡ false)
@@ -101,55 +89,54 @@ module _ (s : Sides) (T : ℕ) (values : List ℤ) (marks : List ℕ) (accepted 
     abbrev free : ℕ → Bool
     free = mayGo (marked lent) (reached .dist)
 
-    walls-kept : (j : ℕ) → j < size s → walls s S lent j ≡ true → isKept (reached .status) j ≡ true
+    walls-kept : (j : ℕ) → j < size s → walls S lent start j ≡ true → isKept (reached .status) j ≡ true
     unfolding walls
     walls-kept j h e =
-        elim (or-true (isIn S j) (pinned j && inBox s S j) e) [
+        elim (or-true (isIn S j) (pinned j && start j) e) [
           | inl m ↦ inside-end j m
           | inr m ↦
-              let p = and-true (pinned j) (inBox s S j) m in
-              pinned-stays lent begun calls pins j (p .0) (kept-at-first s (marked marks) S (inBox s S) j h ∙ p .1)
+              let p = and-true (pinned j) (start j) m in
+              pinned-stays lent begun calls pins j (p .0) (kept-at-first s (marked marks) S start j h ∙ p .1)
         ]
 
     free-end : (v : ℕ) → isKept (reached .status) v ≡ true → isIn S v ≡ false → pinned v ≡ false → free v ≡ true
     free-end = may-go (isIn S) all-held total reached good-end fit-end lent working
 
-    past-walls : (v : ℕ) → isKept (reached .status) v ≡ true → walls s S lent v ≡ false → free v ≡ true
+    past-walls : (v : ℕ) → isKept (reached .status) v ≡ true → walls S lent start v ≡ false → free v ≡ true
     unfolding walls
     past-walls v k e =
-        let o = or-false (isIn S v) (pinned v && inBox s S v) e in
-        free-end v k (o .0) (first-fails (pinned v) (inBox s S v) (boxed v k) (o .1))
+        let o = or-false (isIn S v) (pinned v && start v) e in free-end v k (o .0) (first-fails (pinned v) (start v) (of-start v k) (o .1))
 
-    only-closed-in : OnlyClosedIn s S lent (reached .status)
+    only-closed-in : OnlyClosedIn s S lent start (reached .status)
     only-closed-in =
         record {
           gone-is-open = λ i h. (
-            gone-end (walls s S lent) walls-kept i h,
-            subst (λ (t : Sides). OpenToBorder t (walls s S lent) i → isKept (reached .status) i ≡ false) same-sides
-                (open-gone (isIn S) all-held total reached good-end fit-end free (walls s S lent) none-left past-walls i),
+            gone-end (walls S lent start) walls-kept i h,
+            subst (λ (t : Sides). OpenToBorder t (walls S lent start) i → isKept (reached .status) i ≡ false) same-sides
+                (open-gone (isIn S) all-held total reached good-end fit-end free (walls S lent start) none-left past-walls i),
           );
           body-one-piece = λ unpinned.
               subst (λ (t : Sides). OnePiece (isIn S) (touch t) → OnePiece (isKept (reached .status)) (touch t)) same-sides
               (one-piece (isIn S) all-held total reached good-end fit-end free (isIn S) none-left (λ v k m. free-end v k m (unpinned v k m)) inside-end)
-              (inside-one-piece s values (inside-is-found s values (accepted .some) (accepted .some-negative)));
+              (inside-one-piece s values (from .accepted .some) (from .accepted .some-negative));
         }
 
 pub unpinned-walls : UnpinnedWalls
 unfolding walls
-unpinned-walls s S marks i e = ap (λ (t : Bool). isIn S i || (t && inBox s S i)) e ∙ or-zero (isIn S i)
+unpinned-walls S marks start i e = ap (λ (t : Bool). isIn S i || (t && start i)) e ∙ or-zero (isIn S i)
+
+pub open-after : FromStart OpenAfter
+open-after s T values marks start from calls =
+    gone-end s T values marks start from calls (isIn (inside s values)) (λ j h m. inside-end s T values marks start from calls j m)
 
 pub gone-is-open : GoneIsOpen
-gone-is-open s T values marks dist status r e calls =
-    let used = filled s values in
-    by-begin (λ g. (i : ℕ) → i < size s → isKept (run calls g .end .status) i ≡ false → OpenToBorder s (isIn (inside s used)) i) s T values marks dist status
-    (λ accepted. gone-end s T used marks accepted calls (isIn (inside s used)) (λ j h m. inside-end s T used marks accepted calls j m)) r e
+gone-is-open = from-begin OpenAfter open-after
+
+none-to-open-after : FromStart NoneToOpenAfter
+none-to-open-after s T values marks start from calls = only-closed-in s T values marks start from calls
 
 pub none-to-open : NoneToOpen
-none-to-open s T values marks dist status r e calls lent =
-    let used = filled s values in
-    by-begin (λ g. let h = run calls g .end in
-    Pins lent g calls → h .rec .finished ≡ false → toOpen (mayGo (marked lent) (h .dist)) h ≡ none → OnlyClosedIn s (inside s used) lent (h .status))
-    s T values marks dist status (λ accepted. only-closed-in s T used marks accepted calls lent) r e
+none-to-open = from-begin NoneToOpenAfter none-to-open-after
 
 -- ---- the number
 
@@ -210,24 +197,25 @@ module _ (lent : List ℕ) (g : State) where
       (marking-holds lent g (t .marking))
       ∙ λ i. unless (rest (t .quiet i) (t .left i) (isNone (t .none-left i))) (untouched (lentTo g)) work)
 
-pub fifteen-tells : FifteenTells
-fifteen-tells s T values marks dist status r e calls lent pins q =
-    let b = begin s T values marks dist status in
-    let t = fifteen-none lent (run calls (state r (b .lent .dist) (b .lent .status)) .end) q in
-    none-to-open s T values marks dist status r e calls lent pins (t .marking .working .unfinished) (t .none-left)
+pub fifteen-tells-after : FromStart FifteenTellsAfter
+fifteen-tells-after s T values marks start from calls lent pins q =
+    let t = fifteen-none lent (run calls (startState s T values (marked marks) start) .end) q in
+    only-closed-in s T values marks start from calls lent pins (t .marking .working .unfinished) (t .none-left)
 
-pub fifteen-when : FifteenWhen
-fifteen-when s T values marks dist status r e calls lent =
-    let b = begin s T values marks dist status in
-    let g = run calls (state r (b .lent .dist) (b .lent .status)) .end in
-    let fits = fit-state g (never-unfit s T values marks dist status r e calls) in
+pub fifteen-tells : FifteenTells
+fifteen-tells = from-begin FifteenTellsAfter fifteen-tells-after
+
+pub fifteen-when-after : FromStart FifteenWhenAfter
+fifteen-when-after s T values marks start from calls lent =
+    let m = marked marks in
+    let g = run calls (startState s T values m start) .end in
+    let adds = keeps-after s values start from T m calls .adds in
+    let fits = end-fit s values start from T m calls in
     let few = fits .openings in
-    let sides = demand-is-met s T values marks dist status r e calls .same-sides in
-    let same : anyPending (g .rec .sides) (g .status) ≡ anyPending s (g .status) = ap (λ (t : Sides). anyPending t (g .status)) sides in
-    let allowed : g .rec .allowed ≡ T = by-begin (λ h. run calls h .end .rec .allowed ≡ T) s T values marks dist status
-    (λ accepted. begun-keeps s (filled s values) accepted T marks calls .adds .allowed) r e in (
+    let same : anyPending (g .rec .sides) (g .status) ≡ anyPending s (g .status) = ap (λ (t : Sides). anyPending t (g .status)) (adds .sides) in
+    let allowed : g .rec .allowed ≡ T = adds .allowed in (
       λ q. let t = fifteen-none lent g q in (
-        t .marking .lent ∙ ap size sides,
+        t .marking .lent ∙ ap size (adds .sides),
         t .marking .known,
         t .marking .working .unfinished,
         sym same ∙ t .quiet,
@@ -235,57 +223,58 @@ fifteen-when s T values marks dist status r e calls lent =
         t .none-left,
       ),
       λ p. none-fifteen lent g (record {
-        marking = record { working = record { fit = fits; unfinished = p .2 }; lent = p .0 ∙ ap size (sym sides); known = p .1 };
+        marking = record { working = record { fit = fits; unfinished = p .2 }; lent = p .0 ∙ ap size (sym (adds .sides)); known = p .1 };
         quiet = same ∙ p .3;
         left = ne-eqb (g .rec .openings) (g .rec .allowed) (λ z. omega (arith, p .4));
         none-left = p .5;
       }),
     )
 
+pub fifteen-when : FifteenWhen
+fifteen-when = from-begin FifteenWhenAfter fifteen-when-after
+
+pub fifteen-last-after : FromStart FifteenLastAfter
+fifteen-last-after s T values marks start from calls lent more q pins =
+    let reached = run calls (startState s T values (marked marks) start) .end in
+    let t = fifteen-none lent reached q in
+    stays (isIn (inside s values)) (found s start) reached (good-end s T values marks start from calls) (fit-end s T values marks start from calls)
+    (t .marking .working .unfinished) lent (t .none-left) more pins
+
+pub fifteen-is-last : FifteenIsLast
+fifteen-is-last = from-begin FifteenLastAfter fifteen-last-after
+
 -- ---- two lists that end with 15
 
-module _ (s : Sides) (solid : ℕ → Bool) (i : ℕ) (h : i < size s) where
-  ends-gone : (e : EndsWith15 s solid) → (isKept (endStatus e) i ≡ false) ↔ (OpenToBorder s solid i)
-  ends-gone e =
-      let tells =
-      fifteen-tells s (e .T) (e .values) (e .marks) (e .dist) (e .status) (e .rec) (e .begins) (e .calls) (e .lent) (e .pins) (e .ends) .gone-is-open i h in
-      (λ k. let o = tells .0 k in (o .0, o .1, widen there (o .2)), λ o. tells .1 (o .0, o .1, widen back (o .2)))
-    where
-      own : ℕ → Bool
-      own = walls s (inside s (filled s (e .values))) (e .lent)
+module _ (s : Sides) (S marks S′ marks′ status status′ : List ℕ) (start start′ : ℕ → Bool)
+    (closed : OnlyClosedIn s S marks start status) (closed′ : OnlyClosedIn s S′ marks′ start′ status′)
+    (same : (i : ℕ) → i < size s → walls S marks start i ≡ walls S′ marks′ start′ i) where
+  same-clear : (j : ℕ) → clear s (walls S marks start) j ≡ clear s (walls S′ marks′ start′) j
+  same-clear j =
+      elim (two (ltb j (size s))) [
+        | inl l ↦ ap (λ (t : Bool). ltb j (size s) && not t) (same j (ltb-true j (size s) l))
+        | inr l ↦ rw l
+      ]
 
-      same : (j : ℕ) → clear s own j ≡ clear s solid j
-      same j =
-          elim (two (ltb j (size s))) [
-            | inl l ↦ ap (λ (t : Bool). ltb j (size s) && not t) (e .walls-are j (ltb-true j (size s) l))
-            | inr l ↦ rw l
-          ]
-
-      there : (j : ℕ) → clear s own j ≡ true → clear s solid j ≡ true
-      there j o = sym (same j) ∙ o
-
-      back : (j : ℕ) → clear s solid j ≡ true → clear s own j ≡ true
-      back j o = same j ∙ o
-
-  ends-same : (e f : EndsWith15 s solid) → isKept (endStatus e) i ≡ isKept (endStatus f) i
-  ends-same e f = go _ _ (λ k. ends-gone f .1 (ends-gone e .0 k)) (λ k. ends-gone e .1 (ends-gone f .0 k))
+  pub same-kept : (i : ℕ) → i < size s → isKept status i ≡ isKept status′ i
+  same-kept i h =
+      go (isKept status i) (isKept status′ i)
+      (λ k. let o = closed .gone-is-open i h .0 k in closed′ .gone-is-open i h .1 (o .0, o .1, widen (λ j c. sym (same-clear j) ∙ c) (o .2)))
+      (λ k. let o = closed′ .gone-is-open i h .0 k in closed .gone-is-open i h .1 (o .0, o .1, widen (λ j c. same-clear j ∙ c) (o .2)))
     where
       go : (p q : Bool) → (p ≡ false → q ≡ false) → (q ≡ false → p ≡ false) → p ≡ q
       go true true f g = refl
       go true false f g = g refl
       go false q f g = sym (f refl)
 
-pub one-body : OneBody
-one-body s solid e f i h = ends-same s solid i h e f
+pub same-body-after : FromStart (λ s T values marks start begun. FromStart (SameBodyAfter s values start begun))
+same-body-after s T values marks start from s′ T′ values′ marks′ start′ from′ sides e f =
+    let S′ = inside s′ values′ in
+    same-kept s (inside s values) (e .lent) S′ (f .lent) (endStatus e) (endStatus f) start start′
+    (fifteen-tells-after s T values marks start from (e .calls) (e .lent) (e .pins) (e .ends))
+    (subst (λ (t : Sides). OnlyClosedIn t S′ (f .lent) start′ (endStatus f)) sides
+    (fifteen-tells-after s′ T′ values′ marks′ start′ from′ (f .calls) (f .lent) (f .pins) (f .ends)))
 
-pub fifteen-is-last : FifteenIsLast
-fifteen-is-last s T values marks dist status r e calls lent more =
-    let used = filled s values in
-    by-begin (λ g. let h = run calls g .end in
-    openNext lent h .answer ≡ refused 15 → Pins lent h more → (i : ℕ) → isKept (run more h .end .status) i ≡ isKept (h .status) i)
-    s T values marks dist status
-    (λ accepted q pins.
-    let reached = run calls (handed s T used (marked marks)) .end in
-    let t = fifteen-none lent reached q in
-    stays (isIn (inside s used)) (found s (inBox s (inside s used))) reached (good-end s T used marks accepted calls) (fit-end s T used marks accepted calls)
-    (t .marking .working .unfinished) lent (t .none-left) more pins) r e
+pub one-body : OneBody
+one-body =
+    from-begin (λ s T values marks start begun. FromBegin (SameBodyAfter s values start begun)) (λ s T values marks start from.
+    from-begin (SameBodyAfter s values start (startState s T values (marked marks) start)) (same-body-after s T values marks start from))

@@ -1,4 +1,4 @@
--- Worked distances stay within the range and three sides: begin makes none that lies farther, and of the calls only finish changes any.
+-- Worked distances stay within the range and three sides: a start makes none that lies farther, and of the calls only finish changes any.
 use mathlib.Core.Path.{_≡_, refl, sym, ap, _∙_}
 use mathlib.Core.Bool.{Bool, true, false, cond, _&&_, _||_, true≢false}
 use mathlib.Core.List.{List, [], _∷_, map}
@@ -16,7 +16,6 @@ use Rattle.rules.specs.declared.Sides.{Sides}
 use Rattle.rules.specs.Value.{beyond, stray, measuredNegative, measuredNonNegative, amount}
 use Rattle.rules.specs.Grid.{size, range, voxels, taxicab, valueAt, distanceAt}
 use Rattle.rules.specs.Answer.{untouched}
-use Rattle.rules.specs.Fill.{filled}
 use Rattle.rules.specs.Begin.{least, greatest, isIn, inside, facing, greatestFacing, distance, workedAt, worked}
 use Rattle.rules.specs.Status.{isKept}
 use Rattle.rules.specs.Marks.{Marked, marked}
@@ -24,13 +23,13 @@ use Rattle.rules.specs.Machine.{State, after, lentTo, mayGo, sooner, mar
 use Rattle.rules.specs.Machine.{take, toOpen}
 use Rattle.rules.specs.Machine.{theVoxel, opened, openNext, closed, closedAt, finishedOf, finish}
 use Rattle.rules.specs.Demand.{Call, carveUpTo, takeAt, openOne, finishIt, call, run}
-use Rattle.rules.specs.LongRange.{farthest, WithinRange, StaysWithinRange}
+use Rattle.rules.specs.LongRange.{farthest, WithinRange, WithinRangeAfter, StaysWithinRange}
 use Rattle.rules.specs.Fit.{Beginnable}
 use Rattle.rules.proofs.Checks.{by-checks}
 use Rattle.rules.proofs.Places.{fit}
 use Rattle.rules.proofs.Inside.{inside-members}
 use Rattle.rules.proofs.Fit.{none-stray}
-use Rattle.rules.proofs.Demand.{handed, by-begin}
+use Rattle.rules.proofs.Demand.{startState, FromStart, from-begin}
 
 -- ---- a value that is not stray
 
@@ -50,7 +49,7 @@ unfolding measuredNonNegative
 nonNegative-high (pos n) e t = amount-high (pos n) e
 nonNegative-high (negsuc n) e t = absurd (true≢false (sym t))
 
--- ---- what begin leaves
+-- ---- what a start leaves
 
 -- distances written for every voxel
 mapped-near : (n : ℕ) (f : ℕ → ℤ) → ((i : ℕ) → natAbs (f i) ≤ farthest) → (i : ℕ) → natAbs (distanceAt (map f (range 0 n)) i) ≤ farthest
@@ -108,9 +107,9 @@ module _ (s : Sides) (values : List ℤ) (accepted : Beginnable s values) where
       go false true false e f = omega (arith, M-high, steps-few i)
       go false false false e f = omega (arith, M-high, steps-few i)
 
-  begun-near : (T : ℕ) (m : Marked) → WithinRange (handed s T values m)
+  start-near : (T : ℕ) (m : Marked) (start : ℕ → Bool) → WithinRange (startState s T values m start)
   unfolding worked voxels
-  begun-near T m = mapped-near (size s) (workedAt s values S M) worked-near
+  start-near T m start = mapped-near (size s) (workedAt s values S M) worked-near
 
 -- ---- what the calls leave
 
@@ -150,7 +149,9 @@ unfolding run
 run-near [] g near = near
 run-near (c ∷ cs) g near = run-near cs (call c g .end) (call-near g near c)
 
+pub within-range-after : FromStart WithinRangeAfter
+within-range-after s T values marks start from calls =
+    run-near calls (startState s T values (marked marks) start) (start-near s values (from .accepted) T (marked marks) start)
+
 pub stays-within-range : StaysWithinRange
-stays-within-range s T values marks dist status r e calls =
-    by-begin (λ g. WithinRange (run calls g .end)) s T values marks dist status
-    (λ accepted. let used = filled s values in run-near calls (handed s T used (marked marks)) (begun-near s used accepted T (marked marks))) r e
+stays-within-range = from-begin WithinRangeAfter within-range-after

@@ -18,18 +18,16 @@ use Rattle.prelude.proofs.Ranges.{getD-map-range, length-map-range, none-below}
 use Rattle.prelude.proofs.Integers.{difference-size, sum-size}
 use Rattle.rules.specs.declared.Sides.{Sides}
 use Rattle.rules.specs.Grid.{size, range, voxel, voxels, onBorder, neighbourhood, isNegative, distanceAt}
-use Rattle.rules.specs.Checks.{AllHold}
 use Rattle.rules.specs.Answer.{Outcome, Buffers, untouched, Carving}
-use Rattle.rules.specs.Fill.{filled}
-use Rattle.rules.specs.Begin.{exposed, isIn, inside, inBox, greatestFacing, workedAt, worked, waitsFirst, statusAt, startStatus, newRecord}
+use Rattle.rules.specs.Begin.{exposed, isIn, inside, greatestFacing, workedAt, worked, waitsFirst, statusAt, startStatus, newRecord}
 use Rattle.rules.specs.Meaning.{found}
 use Rattle.rules.specs.Status.{statusOf, keptByte, pendingByte, isKept, isPending, anyPending, testAt, removable, openable, carving}
 use Rattle.rules.specs.Marks.{Marked, marked, strayMark}
-use Rattle.rules.specs.Machine.{State, after, lentTo, isInside, outside, mayGo, farther, sooner, stateChecks, markedChecks, takeChecks, openChecks}
+use Rattle.rules.specs.Machine.{State, after, lentTo, isInside, outside, mayGo, farther, sooner, markedChecks, takeChecks, openChecks}
 use Rattle.rules.specs.Machine.{finishChecks, carved, carve, taken, take, toOpen, isNone, theVoxel, opened, openNext, closed, closedAt}
 use Rattle.rules.specs.Machine.{finishedOf, finish}
-use Rattle.rules.specs.Fit.{Beginnable, Lent, Known, FitVoxels, FitState, Marking, Openable}
-use Rattle.rules.specs.Demand.{Call, carveUpTo, takeAt, openOne, finishIt, AllLend, call, run, NeverUnfit, CarveEnds}
+use Rattle.rules.specs.Fit.{Lent, Known, FitVoxels, FitState, Marking, Openable}
+use Rattle.rules.specs.Demand.{Call, carveUpTo, takeAt, openOne, finishIt, AllLend, call, run, FitAfter, NeverUnfit, CarveEndsAfter, CarveEnds}
 use Rattle.rules.proofs.Checks.{by-checks, unless-held}
 use Rattle.rules.proofs.Foremost.{farther-order, sooner-order, first-foremost}
 use Rattle.rules.proofs.Fit as checked
@@ -39,7 +37,7 @@ use Rattle.rules.proofs.Topology.Count.{found-all, found-omit}
 use Rattle.rules.proofs.Topology.Around.{Inner}
 use Rattle.rules.proofs.Topology.Steps.{Tally, Sound}
 use Rattle.rules.proofs.Topology.Calls.{tallyOf, Good, Held, call-keeps, may-go-is, carving-ends}
-use Rattle.rules.proofs.Demand.{all-held, held-all, handed, by-begin, begun-good, begun-keeps, begun-inside}
+use Rattle.rules.proofs.Demand.{all-held, held-all, Startable, startState, FromStart, some-inside, good-start, keeps-after, from-begin}
 
 -- what the calls keep besides: the bytes are fit, openings are allowed and removals too, and each opening moves the Euler number by 8 at most
 record Fair (g : State) : Type 0 where
@@ -197,7 +195,7 @@ module _ (S held : ℕ → Bool) (total : ℕ) where
         euler = omega (arith, b .fair .euler, b .fair .removals, inv .spent);
       }
 
--- ---- a grid that begin accepts
+-- ---- after a start
 
 pub inner-border : (s : Sides) (i : ℕ) → Inner s (voxel s i) → onBorder s i ≡ false
 unfolding onBorder
@@ -249,92 +247,83 @@ is-carved marks limit g w =
     let m = marked marks in
     unless-held (untouched (lentTo g)) (carved (mayGo m (g .dist)) (sooner m (g .dist)) limit g) (markedChecks marks g) (marking-holds marks g w)
 
-module _ (s : Sides) (T : ℕ) (values : List ℤ) (accepted : Beginnable s values) where
-  abbrev S : List ℕ
-  S = inside s values
+length-worked : (s : Sides) (values : List ℤ) → length (worked s values (inside s values)) ≡ size s
+unfolding worked voxels
+length-worked s values = let S = inside s values in length-map-range (workedAt s values S (greatestFacing s values S)) (size s)
+
+module _ (s : Sides) (values : List ℤ) (start : ℕ → Bool) (from : Startable s values start) (T : ℕ) (m : Marked) where
+  abbrev S : ℕ → Bool
+  S = isIn (inside s values)
 
   abbrev total : ℕ
-  total = found s (inBox s S)
+  total = found s start
 
-  length-worked : length (worked s values S) ≡ size s
-  unfolding worked voxels
-  length-worked = length-map-range (workedAt s values S (greatestFacing s values S)) (size s)
+  abbrev started : State
+  started = startState s T values m start
 
-  -- what begin hands out, whatever is pinned and hurried
-  both-begun : (m : Marked) → Both (isIn S) all-held total (handed s T values m)
-  both-begun m =
-      let good = begun-good s values accepted T m in
-      let first = handed s T values m in
-      let lent : Lent s (first .dist) (first .status) =
-      record { sides = accepted .sides; distances = length-worked; statuses = good .sound .lent } in
-      let voxels : FitVoxels s (first .dist) (first .status) =
-      fit-sound s (isIn S) all-held total (first .dist) (first .status) (tallyOf (newRecord s T)) (good .sound) lent (start-known s m S (inBox s S))
-      (λ i e. sym (good .signs refl i (omega (arith, inside-below (first .dist) i e, length-worked))) ∙ e) in
+  both-start : Both S all-held total started
+  both-start =
+      let good = good-start s values start from T m all-held (λ j e. refl) in
+      let lent : Lent s (started .dist) (started .status) =
+      record { sides = from .accepted .sides; distances = length-worked s values; statuses = good .sound .lent } in
+      let voxels : FitVoxels s (started .dist) (started .status) =
+      fit-sound s S all-held total (started .dist) (started .status) (tallyOf (newRecord s T)) (good .sound) lent (start-known s m (inside s values) start)
+      (λ i e. sym (good .signs refl i (omega (arith, inside-below (started .dist) i e, length-worked s values))) ∙ e) in
       record { good = good; fair = record { voxels = voxels; openings = omega arith; removals = omega arith; euler = omega arith } }
 
-  both-fits : (g : State) → Both (isIn S) all-held total g → g .rec .sides ≡ s → FitState g
+  both-fits : (g : State) → Both S all-held total g → g .rec .sides ≡ s → FitState g
   both-fits g b e =
-      let first = begun-inside s values accepted in
-      both-fit (isIn S) all-held total g b (subst (λ (t : Sides). total ≤ size t) (sym e) (found-all s (inBox s S))) (first .0) (first .1)
+      let first = some-inside s values start from in
+      both-fit S all-held total g b (subst (λ (t : Sides). total ≤ size t) (sym e) (found-all s start)) (first .0) (first .1)
 
-  pub begun-fit : (m : Marked) → FitState (handed s T values m)
-  begun-fit m = both-fits (handed s T values m) (both-begun m) refl
+  pub start-fit : FitState started
+  start-fit = both-fits started both-start refl
 
-  module _ (marks : List ℕ) (calls : List Call) where
-    abbrev first-state : State
-    first-state = handed s T values (marked marks)
+  module _ (calls : List Call) where
+    abbrev reached : State
+    reached = run calls started .end
 
-    abbrev start-end : State
-    start-end = run calls first-state .end
+    both-end : Both S all-held total reached
+    both-end = run-both S all-held total calls started (held-all S total calls started) both-start
 
-    both-end : Both (isIn S) all-held total start-end
-    both-end =
-        run-both (isIn S) all-held total calls first-state (held-all (isIn S) total calls first-state) (both-begun (marked marks))
+    same-sides : reached .rec .sides ≡ s
+    same-sides = keeps-after s values start from T m calls .adds .sides
 
-    same-sides : start-end .rec .sides ≡ s
-    same-sides = begun-keeps s values accepted T marks calls .adds .sides
-
-    end-fit : FitState start-end
-    end-fit = both-fits start-end both-end same-sides
-
-    end-holds : AllHold (stateChecks start-end)
-    end-holds = state-fits start-end end-fit
+    pub end-fit : FitState reached
+    end-fit = both-fits reached both-end same-sides
 
     -- a carve then, with marks that 2 and 29 let through
-    module _ (lent : List ℕ) (limit : ℕ) (f : start-end .rec .finished ≡ false) where
+    module _ (lent : List ℕ) (limit : ℕ) (f : reached .rec .finished ≡ false) where
       abbrev free : ℕ → Bool
-      free = mayGo (marked lent) (start-end .dist)
+      free = mayGo (marked lent) (reached .dist)
 
       abbrev ahead : ℕ → ℕ → Bool
-      ahead = sooner (marked lent) (start-end .dist)
+      ahead = sooner (marked lent) (reached .dist)
 
-      end-quiet : 27 * size s ≤ limit → anyPending s (carved free ahead limit start-end .lent .status) ≡ false
+      end-quiet : 27 * size s ≤ limit → anyPending s (carved free ahead limit reached .lent .status) ≡ false
       unfolding carved
       end-quiet h =
-          let g = start-end in
-          let m = marked lent in
+          let g = reached in
           subst (λ (t : Sides). anyPending t (carving (g .rec .sides) free ahead limit (g .status) .status) ≡ false) same-sides
-          (carving-ends (g .rec .sides) (isIn S) (m .pinned) all-held free ahead (sooner-order m (g .dist)) total
-          (λ j e. refl) (may-go-is (isIn S) all-held total g (both-end .good) m f) limit (g .status) (tallyOf (g .rec)) (both-end .good .sound)
-          (omega (arith, found-all s (inBox s S))))
+          (carving-ends (g .rec .sides) S (marked lent .pinned) all-held free ahead (sooner-order (marked lent) (g .dist)) total
+          (λ j e. refl) (may-go-is S all-held total g (both-end .good) (marked lent) f) limit (g .status) (tallyOf (g .rec)) (both-end .good .sound)
+          (omega (arith, found-all s start)))
 
-      end-carved : length lent ≡ size s → strayMark lent ≡ false → carve lent limit start-end ≡ carved free ahead limit start-end
+      end-carved : length lent ≡ size s → strayMark lent ≡ false → carve lent limit reached ≡ carved free ahead limit reached
       end-carved n k =
-          is-carved lent limit start-end (record { working = record { fit = end-fit; unfinished = f }; lent = n ∙ ap size (sym same-sides); known = k })
+          is-carved lent limit reached (record { working = record { fit = end-fit; unfinished = f }; lent = n ∙ ap size (sym same-sides); known = k })
+
+pub fit-after : FromStart FitAfter
+fit-after s T values marks start from calls =
+    let m = marked marks in state-fits (run calls (startState s T values m start) .end) (end-fit s values start from T m calls)
 
 pub never-unfit : NeverUnfit
-never-unfit s T values marks dist status r e calls =
-    by-begin (λ g. AllHold (stateChecks (run calls g .end))) s T values marks dist status
-    (λ accepted. end-holds s T (filled s values) accepted marks calls) r e
+never-unfit = from-begin FitAfter fit-after
+
+pub carve-ends-after : FromStart CarveEndsAfter
+carve-ends-after s T values marks start from calls lent n k limit h f =
+    let c = end-carved s values start from T (marked marks) calls lent limit f n k in
+    (c, ap (λ (o : Outcome Buffers Carving). anyPending s (o .lent .status)) c ∙ end-quiet s values start from T (marked marks) calls lent limit f h)
 
 pub carve-ends : CarveEnds
-carve-ends s T values marks dist status r e calls lent n k limit h =
-    by-begin (λ g. let end = run calls g .end in
-    let m = marked lent in
-    end .rec .finished ≡ false
-    → (carve lent limit end ≡ carved (mayGo m (end .dist)) (sooner m (end .dist)) limit end) × (anyPending s (carve lent limit end .lent .status) ≡ false))
-    s T values marks dist status
-    (λ accepted f.
-    let used = filled s values in
-    let c = end-carved s T used accepted marks calls lent limit f n k in
-    (c, ap (λ (o : Outcome Buffers Carving). anyPending s (o .lent .status)) c ∙ end-quiet s T used accepted marks calls lent limit f h)) r e
+carve-ends = from-begin CarveEndsAfter carve-ends-after

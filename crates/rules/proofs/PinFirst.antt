@@ -41,8 +41,8 @@ use Rattle.rules.proofs.Topology.Steps.{tally, length-without, pendingW
 use Rattle.rules.proofs.Topology.Steps.{pending-stayed}
 use Rattle.rules.proofs.Topology.Calls.{carving-ends}
 use Rattle.rules.proofs.Topology.Start.{inGrid, status-lent, kept-start, pending-start, worked-signs}
-use Rattle.rules.proofs.Demand.{all-held, handed, begun-good}
-use Rattle.rules.proofs.NeverUnfit.{begun-fit}
+use Rattle.rules.proofs.Demand.{all-held, good-start, box-start, handed}
+use Rattle.rules.proofs.NeverUnfit.{start-fit}
 use Rattle.rules.proofs.Slices.{next, quiet, carvings-add}
 
 -- ---- the two readings of mark bytes
@@ -383,12 +383,14 @@ module _ (s : Sides) (T : ℕ) (values : List ℤ) (accepted : Beginnable s valu
       let g = handed s T values m in
       let free = mayGo m distances in
       let ahead = sooner m distances in
-      let w : Marking marks g = record { working = record { fit = begun-fit s T values accepted m; unfinished = refl }; lent = n; known = k } in
+      let box = inBox s S in
+      let from = box-start s values accepted in
+      let w : Marking marks g = record { working = record { fit = start-fit s values box from T m; unfinished = refl }; lent = n; known = k } in
       ap (λ (o : Outcome Buffers Carving). anyPending s (after (λ r. r .next) g o .status))
       (unless-held (untouched (lentTo g)) (carved free ahead limit g) (markedChecks marks g) (marking-holds marks g w))
-      ∙ carving-ends s (isIn S) (m .pinned) all-held free ahead (sooner-order m distances) (found s (inBox s S)) (λ j e. refl)
+      ∙ carving-ends s (isIn S) (m .pinned) all-held free ahead (sooner-order m distances) (found s box) (λ j e. refl)
       (λ j l. unfold mayGo outside in ap (λ (t : Bool). not t && not (m .pinned j)) (worked-signs s values j l))
-      limit (first m) (tally 0 0 0 (pos 1)) (begun-good s values accepted T m .sound) (omega (arith, found-all s (inBox s S)))
+      limit (first m) (tally 0 0 0 (pos 1)) (good-start s values box from T m all-held (λ j e. refl) .sound) (omega (arith, found-all s box))
 
   -- by the sets now, and by those before
   record Same (now before : Marked) : Type 0 where

@@ -12,18 +12,17 @@ use Rattle.rules.specs.declared.Record.{Record}
 use Rattle.rules.specs.Grid.{size}
 use Rattle.rules.specs.Checks.{firstFailing, AllHold}
 use Rattle.rules.specs.Answer.{Reply, done, Outcome, outcome, untouched, Buffers, buffers, Carving}
-use Rattle.rules.specs.Begin.{begin}
 use Rattle.rules.specs.Status.{Progress, progress, latest, counted, isPending, anyPending, testAt, firstOf, goes, examine, examining, carving}
 use Rattle.rules.specs.Marks.{marked}
 use Rattle.rules.specs.Machine.{State, state, after, lentTo, mayGo, sooner, count, stateChecks, markedChecks, carved, carve}
 use Rattle.rules.specs.Fit.{Marking}
 use Rattle.rules.specs.Demand.{Call, carveUpTo, Run, stop, Sums, sums, nothing, both, ofCarve, call, run}
-use Rattle.rules.specs.Slices.{inTwo, CarvingsAdd, CarvedInTwo, CarvesAdd, CarvesJoin}
+use Rattle.rules.specs.Slices.{inTwo, CarvingsAdd, CarvedInTwo, CarvesAddAfter, CarvesAdd, CarvesJoinAfter, CarvesJoin}
 use Rattle.rules.proofs.Checks.{all-hold, call-refused}
 use Rattle.rules.proofs.Fit.{fit-state, marking}
-use Rattle.rules.proofs.Demand.{run-append, demand-is-met}
+use Rattle.rules.proofs.Demand.{run-append, Startable, startState, FromStart, demand-after, from-begin}
 use Rattle.rules.proofs.Latest.{latest-assoc, carving-face}
-use Rattle.rules.proofs.NeverUnfit.{is-carved, never-unfit}
+use Rattle.rules.proofs.NeverUnfit.{is-carved, end-fit, fit-after}
 
 -- ---- the examinations
 
@@ -232,42 +231,44 @@ module _ (lent : List ℕ) (m n : ℕ) (more : List Call) (g : State) where
       (ap₂ (λ (a b : Reply Carving). both (ofCarve a) (ofCarve b)) (t .first-answer) (t .second-answer)
       ∙ ap (λ (o : Outcome Buffers Carving). ofCarve (o .answer)) (sym (t .whole)))
 
--- ---- a grid that begin accepts
+-- ---- after a start, and any list of calls
 
-module _ (s : Sides) (T : ℕ) (values : List ℤ) (marks : List ℕ) (dist : List ℤ) (status : List ℕ) (r : Record)
-    (e : begin s T values marks dist status .answer ≡ done r) (calls : List Call) where
-  abbrev started : State
-  started = let b = begin s T values marks dist status in state r (b .lent .dist) (b .lent .status)
+module _ (s : Sides) (T : ℕ) (values : List ℤ) (marks : List ℕ) (start : ℕ → Bool) (from : Startable s values start) (calls : List Call) where
+  abbrev begun : State
+  begun = startState s T values (marked marks) start
 
   abbrev g : State
-  g = run calls started .end
+  g = run calls begun .end
 
   after-call : (c : Call) → AllHold (stateChecks (call c g .end))
   unfolding run
   after-call c =
-      subst (λ (h : State). AllHold (stateChecks h)) (run-append calls (c ∷ []) started) (never-unfit s T values marks dist status r e (calls ++ (c ∷ [])))
+      subst (λ (h : State). AllHold (stateChecks h)) (run-append calls (c ∷ []) begun) (fit-after s T values marks start from (calls ++ (c ∷ [])))
 
   add-calls : (lent : List ℕ) → Marking lent g → (m n : ℕ) → CarvedInTwo lent m n g
   add-calls lent w m n = carved-in-two lent m n g w (after-call (carveUpTo lent m))
 
-pub carves-add : CarvesAdd
-carves-add s T values marks dist status r e calls lent l k f =
-    let b = begin s T values marks dist status in
-    let g = run calls (state r (b .lent .dist) (b .lent .status)) .end in
-    add-calls s T values marks dist status r e calls lent
+pub carves-add-after : FromStart CarvesAddAfter
+carves-add-after s T values marks start from calls lent l k f =
+    add-calls s T values marks start from calls lent
     (record {
-      working = record { fit = fit-state g (never-unfit s T values marks dist status r e calls); unfinished = f };
-      lent = l ∙ ap size (sym (demand-is-met s T values marks dist status r e calls .same-sides));
+      working = record { fit = end-fit s values start from T (marked marks) calls; unfinished = f };
+      lent = l ∙ ap size (sym (demand-after s T values marks start from calls .same-sides));
       known = k;
     })
 
-pub carves-join : CarvesJoin
-carves-join s T values marks dist status r e calls more lent m n =
-    let b = begin s T values marks dist status in
-    let g = run calls (state r (b .lent .dist) (b .lent .status)) .end in
+pub carves-add : CarvesAdd
+carves-add = from-begin CarvesAddAfter carves-add-after
+
+pub carves-join-after : FromStart CarvesJoinAfter
+carves-join-after s T values marks start from calls more lent m n =
+    let g = run calls (startState s T values (marked marks) start) .end in
     elim (ℕ-discrete (firstFailing (markedChecks lent g)) 0) [
       | yes z ↦
           let w = marking g lent (all-hold (markedChecks lent g) refl z) in
-          join-carved lent m n more g (add-calls s T values marks dist status r e calls lent w m n)
+          join-carved lent m n more g (add-calls s T values marks start from calls lent w m n)
       | no f ↦ join-refused lent m n more g f
     ]
+
+pub carves-join : CarvesJoin
+carves-join = from-begin CarvesJoinAfter carves-join-after

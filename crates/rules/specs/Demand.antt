@@ -88,6 +88,15 @@ EveryBegun P =
     → begin s T values marks dist status .answer ≡ done r
     → let b = begin s T values marks dist status in P s T values marks (state r (b .lent .dist) (b .lent .status))
 
+-- what a start promises: of the sides, T, the values that it works on, the marks that it is lent, the body that it starts with, and the record and the
+-- buffers as it leaves them
+abbrev pub Promise : Type 1
+Promise = Sides → ℕ → List ℤ → List ℕ → (ℕ → Bool) → State → Type 0
+
+-- begin works on the values with gaps filled, and starts with the smallest box that holds their S
+abbrev pub FromBegin : Promise → Type 0
+FromBegin P = EveryBegun (λ s T values marks begun. let used = filled s values in P s T used marks (inBox s (inside s used)) begun)
+
 -- ---- the marks that a list of calls is lent, from a state on: a refused call does nothing, so its marks do not count
 
 abbrev pub isRefused : {A : Type 0} → Reply A → Bool
@@ -116,7 +125,7 @@ AllLend P g (c ∷ cs) = (refuses g c ≡ false → Lends P c) × (AllLend P (ca
 abbrev pub Unchanged : List ℕ → State → List Call → Type 0
 Unchanged marks g calls = AllLend (λ lent. lent ≡ marks) g calls
 
--- ---- what holds after the list, whatever calls it has: begin was lent the marks and left the state begun, and start is the body that it left
+-- ---- what holds after the list, whatever calls it has: the start was lent the marks and left the state begun, and start is the body that it left
 
 pub record Demand (s : Sides) (values : List ℤ) (marks : List ℕ) (start : ℕ → Bool) (begun : State) (calls : List Call) (g : State) (answers : Sums)
     : Type 0 where
@@ -142,14 +151,13 @@ pub record Demand (s : Sides) (values : List ℤ) (marks : List ℕ) (start : �
   pub removals-count : g .rec .removals ≡ answers .removed
   pub examinations-count : g .rec .examinations ≡ answers .examined
 
--- any list of calls from there (proofs/Demand.antt): S, the inside, is that of the values with gaps filled
+-- any list of calls from there (proofs/Demand.antt)
+abbrev pub DemandAfter : Promise
+DemandAfter s T values marks start begun =
+    (calls : List Call) → let after = run calls begun in Demand s values marks start begun calls (after .end) (after .answers)
+
 abbrev pub DemandIsMet : Type 0
-DemandIsMet =
-    EveryBegun (λ s T values marks begun.
-    (calls : List Call)
-    → let after = run calls begun in
-    let used = filled s values in
-    Demand s used marks (inBox s (inside s used)) begun calls (after .end) (after .answers))
+DemandIsMet = FromBegin DemandAfter
 
 -- a voxel that every call of a list pins, refused ones aside, is not lost, from any state (proofs/Pinned.antt)
 abbrev pub PinnedAreKept : Type 0
@@ -165,15 +173,20 @@ GoneStaysGone =
 -- ---- what the program relies on
 
 -- no list of calls makes a begun grid unfit: no call of it is refused with 1 or 7, nor with 2 but for the length of its own marks (proofs/NeverUnfit.antt)
+abbrev pub FitAfter : Promise
+FitAfter s T values marks start begun = (calls : List Call) → AllHold (stateChecks (run calls begun .end))
+
 abbrev pub NeverUnfit : Type 0
-NeverUnfit = EveryBegun (λ s T values marks begun. (calls : List Call) → AllHold (stateChecks (run calls begun .end)))
+NeverUnfit = FromBegin FitAfter
 
 -- a carve of 27 n examinations or more, on a grid that is not finished, with n marks of at most 3, is not refused and leaves nothing pending
-abbrev pub CarveEnds : Type 0
-CarveEnds =
-    EveryBegun (λ s T values marks begun.
+abbrev pub CarveEndsAfter : Promise
+CarveEndsAfter s T values marks start begun =
     (calls : List Call) (lent : List ℕ) → length lent ≡ size s → strayMark lent ≡ false → (limit : ℕ) → 27 * size s ≤ limit
     → let g = run calls begun .end in
     let m = marked lent in
     g .rec .finished ≡ false
-    → (carve lent limit g ≡ carved (mayGo m (g .dist)) (sooner m (g .dist)) limit g) × (anyPending s (carve lent limit g .lent .status) ≡ false))
+    → (carve lent limit g ≡ carved (mayGo m (g .dist)) (sooner m (g .dist)) limit g) × (anyPending s (carve lent limit g .lent .status) ≡ false)
+
+abbrev pub CarveEnds : Type 0
+CarveEnds = FromBegin CarveEndsAfter

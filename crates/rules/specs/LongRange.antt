@@ -4,7 +4,7 @@ use Prim.Native.Nat.{ℕ, _≤_}
 use lib.IntN.{natAbs}
 use Rattle.rules.specs.Grid.{distanceAt}
 use Rattle.rules.specs.Machine.{State}
-use Rattle.rules.specs.Demand.{EveryBegun, Call, run}
+use Rattle.rules.specs.Demand.{Promise, FromBegin, Call, run}
 
 -- the range, and d, which is at most three sides of 64
 abbrev pub farthest : ℕ
@@ -13,6 +13,9 @@ farthest = 1000000192
 abbrev pub WithinRange : State → Type 0
 WithinRange g = (i : ℕ) → natAbs (distanceAt (g .dist) i) ≤ farthest
 
--- after begin and any list of calls (proofs/LongRange.antt): 32 bits hold every distance
+-- after any list of calls (proofs/LongRange.antt): 32 bits hold every distance
+abbrev pub WithinRangeAfter : Promise
+WithinRangeAfter s T values marks start begun = (calls : List Call) → WithinRange (run calls begun .end)
+
 abbrev pub StaysWithinRange : Type 0
-StaysWithinRange = EveryBegun (λ s T values marks begun. (calls : List Call) → WithinRange (run calls begun .end))
+StaysWithinRange = FromBegin WithinRangeAfter

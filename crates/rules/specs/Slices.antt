@@ -10,7 +10,7 @@ use Rattle.rules.specs.Answer.{done, outcome, Carving}
 use Rattle.rules.specs.Status.{Progress, progress, latest, carving}
 use Rattle.rules.specs.Marks.{strayMark}
 use Rattle.rules.specs.Machine.{State, carve}
-use Rattle.rules.specs.Demand.{EveryBegun, Call, carveUpTo, call, run}
+use Rattle.rules.specs.Demand.{Promise, FromBegin, Call, carveUpTo, call, run}
 
 -- ---- m + n examinations are m, and n after them
 
@@ -40,18 +40,22 @@ pub record CarvedInTwo (lent : List ℕ) (m n : ℕ) (g : State) : Type 0 where
         next = second .next;
       })) (carve lent n (call (carveUpTo lent m) g .end) .lent)
 
--- a grid that begin accepts, after any list of calls, not finished; both carves are lent the same n marks of at most 3
-abbrev pub CarvesAdd : Type 0
-CarvesAdd =
-    EveryBegun (λ s T values marks begun.
+-- after any list of calls, not finished; both carves are lent the same n marks of at most 3
+abbrev pub CarvesAddAfter : Promise
+CarvesAddAfter s T values marks start begun =
     (calls : List Call) (lent : List ℕ) → length lent ≡ size s → strayMark lent ≡ false
-    → let g = run calls begun .end in g .rec .finished ≡ false → (m n : ℕ) → CarvedInTwo lent m n g)
+    → let g = run calls begun .end in g .rec .finished ≡ false → (m n : ℕ) → CarvedInTwo lent m n g
+
+abbrev pub CarvesAdd : Type 0
+CarvesAdd = FromBegin CarvesAddAfter
 
 -- so in any list of calls two carves in a row that are lent the same marks, whatever they are, may be made one, with the same state and the same sums
 -- after the list: where one is refused, all three are
-abbrev pub CarvesJoin : Type 0
-CarvesJoin =
-    EveryBegun (λ s T values marks begun.
+abbrev pub CarvesJoinAfter : Promise
+CarvesJoinAfter s T values marks start begun =
     (calls more : List Call)
     → let g = run calls begun .end in
-    (lent : List ℕ) (m n : ℕ) → run (carveUpTo lent m ∷ carveUpTo lent n ∷ more) g ≡ run (carveUpTo lent (m + n) ∷ more) g)
+    (lent : List ℕ) (m n : ℕ) → run (carveUpTo lent m ∷ carveUpTo lent n ∷ more) g ≡ run (carveUpTo lent (m + n) ∷ more) g
+
+abbrev pub CarvesJoin : Type 0
+CarvesJoin = FromBegin CarvesJoinAfter

@@ -80,7 +80,7 @@ module _ (s : Sides) (b : Bounds) (fits : Fits s b) where
   unfolding boxed
   boxed-index v g = ap₂ _&&_ (lt-ltb (index s v) (size s) (index-lt s v g)) (ap (inside-box b) (voxel-of v g))
 
-  pub boxed-inner : AllInner s (boxed s b)
+  boxed-inner : AllInner s (boxed s b)
   unfolding boxed
   boxed-inner j e =
       let r = and-true (ltb j (size s)) (inside-box b (voxel s j)) e in

@@ -1,6 +1,6 @@
 -- The moves of the carving machine on sets of voxels, and what every move keeps. A move says which voxel is examined or goes, and neither who
 -- chose it nor why.
-use mathlib.Core.Path.{_≡_, ap, ap₂, sym, _∙_}
+use mathlib.Core.Path.{_≡_, ap, sym, _∙_}
 use mathlib.Core.Logic.{_⊎_, inl, inr}
 use mathlib.Core.Bool.{Bool, true, false, not, _&&_, _||_}
 use mathlib.Core.List.{List, map}

@@ -20,19 +20,19 @@ use Rattle.rules.specs.Begin.{startStatus}
 use Rattle.rules.specs.Marks.{Marked}
 use Rattle.rules.specs.Status.{statusOf, keptByte, pendingByte, isKept, isPending}
 use Rattle.rules.specs.Machine.{isInside}
-use Rattle.rules.specs.Meaning.{found, negative}
+use Rattle.rules.specs.Meaning.{found}
 use Rattle.prelude.proofs.Ranges.{getD-map-range, length-map-range}
 use Rattle.rules.proofs.Places.{Fit, index-lt}
 use Rattle.rules.proofs.InsideLeast.{least-le, least-is, le-greatest, greatest-is, mem-map, map-mem}
-use Rattle.rules.proofs.Inside.{isIn-mem, mem-isIn, inside-some, inside-members, negative-lt}
+use Rattle.rules.proofs.Inside.{isIn-mem, mem-isIn, inside-members}
 use Rattle.rules.proofs.Distance.{voxel-inside}
-use Rattle.rules.proofs.Boxes.{in-box, inside-off-border}
+use Rattle.rules.proofs.Boxes.{in-box}
 use Rattle.rules.proofs.Topology.Around.{Inner, neighbour-at, neighbourhood-at}
 use Rattle.rules.proofs.Topology.Removal.{face-taxicab}
 use Rattle.rules.proofs.Topology.Count.{found-same}
 use Rattle.rules.proofs.Topology.Moves.{Shape, Inv, Start, start-inv}
 use Rattle.rules.proofs.Topology.BoxCells.{among, Bounds, box}
-use Rattle.rules.proofs.Topology.Box.{Fits, inside-box, boxed, boxed-inner, boxed-shape}
+use Rattle.rules.proofs.Topology.Box.{Fits, inside-box, boxed, boxed-shape}
 use Rattle.rules.proofs.Topology.Steps.{sets, Sound, tally, kept-beyond, pending-beyond}
 
 -- ---- the box lies off the border
@@ -266,21 +266,3 @@ worked-signs s values i h =
     ∙ worked-sign (isIn S i) (measuredNonNegative (valueAt values i)) (facing s S i) (valueAt values i) (cond (facing s S i) M (M + distance s S i))
     (λ m. negative-sign (valueAt values i) (and-true (ltb i (size s)) (measuredNegative (valueAt values i)) (inside-members s values i m) .1))
     (non-negative-sign (valueAt values i))
-
--- the solid box is a body to start from
-module _ (s : Sides) (values : List ℤ) (sides : Fit s)
-    (clear : (i : ℕ) → i < size s → onBorder s i ≡ true → measuredNegative (valueAt values i) ≡ false)
-    (v : ℕ) (some-negative : negative s values v ≡ true) where
-  abbrev S : List ℕ
-  S = inside s values
-
-  off-border : (i : ℕ) → isIn S i ≡ true → (i < size s) × (Inner s (voxel s i))
-  off-border i m =
-      let h = negative-lt s values i (inside-members s values i m) in
-      (h, border-inner s i h (inside-off-border s values clear i m))
-
-  pub box-sound : (m : Marked) (held : ℕ → Bool) → ((j : ℕ) → m .pinned j ≡ true → held j ≡ true)
-      → Sound s (isIn S) held (found s (inBox s S)) (startStatus s m S (inBox s S)) (tally 0 0 0 (pos 1))
-  box-sound m held =
-      let f = inside-some s values v some-negative in
-      start-sound s m S (inBox s S) (box-shape s sides S off-border (f .0) (f .1)) (box-holds s sides S off-border (f .0) (f .1)) held

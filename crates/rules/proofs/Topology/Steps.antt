@@ -11,7 +11,7 @@ use lib.Seq.{getD-set-same, getD-set-other}
 use lib.IntN.{ℤ, pos, _+ℤ_, _-ℤ_}
 use borrow.Author.Tests.{eq-eqb, ne-eqb}
 use Rattle.cells.specs.Cells.{passes}
-use Rattle.prelude.proofs.Bools.{and-true, and-zero, and-one, not-true, not-both}
+use Rattle.prelude.proofs.Bools.{and-true, and-zero, and-one, not-true}
 use Rattle.rules.specs.declared.Sides.{Sides}
 use Rattle.rules.specs.Grid.{size, voxels, touch}
 use Rattle.rules.specs.Begin.{exposed}
