@@ -22,6 +22,7 @@ use Rattle.rules.proofs.Inside.{inside-some, inside-members, negative-lt}
 use Rattle.rules.proofs.Topology.Around.{Inner}
 use Rattle.rules.proofs.Topology.Moves.{Shape}
 use Rattle.rules.proofs.Topology.Start.{inGrid, worked-signs}
+use Rattle.rules.proofs.Demand.{Startable}
 use Rattle.coarse.specs.Blocks.{halved, halfOf, blockOf, blockDistance, blockDistances, blockMarks, splitBody}
 use Rattle.coarse.specs.Coarse.{firstStatus, coarseRun}
 use Rattle.coarse.proofs.SplitCells.{doubled}
@@ -135,3 +136,7 @@ module _ (s : Sides) (values : List ℤ) (accepted : Beginnable s values) (off :
         let b = block-inside i e in
         true-and (ltb i (size s)) (isKept (run .status) (blockOf s i)) (lt-ltb i (size s) (inside-below i e))
         (run-negative h half-fit (blockMarks s m) blocks blocks-off (some-block .0) (some-block .1) (some-block .2) (blockOf s i) (b .0) (b .1))
+
+    -- what a coarse start works from
+    pub split-start : Startable s values body
+    split-start = record { accepted = accepted; shape = body-shape; holds = body-holds }

@@ -12,7 +12,7 @@ use borrow.Author.Tests.{ltb-true, ltb-false, le-ltb, eqb-false, eq-eqb}
 use Rattle.cells.specs.Groups.{any}
 use Rattle.cells.specs.Linked.{stay, step}
 use Rattle.prelude.proofs.Bools.{and-true, and-zero, or-false, true-or, not-both, two}
-use Rattle.prelude.proofs.Ranges.{none-below, below-none}
+use Rattle.prelude.proofs.Ranges.{none-below, any-run-ext}
 use Rattle.rules.specs.declared.Sides.{Sides}
 use Rattle.rules.specs.Grid.{Voxel, size, index, voxel, voxels, end, onBorder, gap, apart, taxicab, shareFace, measuredNegative, valueAt}
 use Rattle.rules.specs.Meaning.{negative}
@@ -22,10 +22,11 @@ use Rattle.rules.specs.Gaps.{Enclosed}
 use Rattle.rules.proofs.Places.{InGrid, voxel-index, index-lt}
 use Rattle.rules.proofs.Distance.{gap-none}
 use Rattle.rules.proofs.Fill.{missing-from, filled-is-enclosed, filled-lt, filled-other}
-use Rattle.rules.proofs.Topology.Around.{Inner}
+use Rattle.rules.proofs.Topology.Around.{inner-in}
 use Rattle.rules.proofs.Topology.Start.{border-inner}
 use Rattle.coarse.specs.Coarse.{unfitSide, nearEnd, nearBorder, unfitCoarse}
 use Rattle.coarse.specs.Eight.{Even}
+use Rattle.coarse.specs.Promises.{FilledAsFit}
 
 -- along an axis, a coordinate that no block at the border has
 abbrev pub Within : ℕ → ℕ → Type 0
@@ -114,9 +115,11 @@ module _ (s : Sides) (values : List ℤ) (accepted : Beginnable s values) (i : �
   gapped : Enclosed s values i
   gapped = filled-is-enclosed s values i .0 f
 
+  abbrev AtEnd : Voxel → Type 0
+  AtEnd w = (end (s .a) (w .x) ≡ true) ⊎ ((end (s .b) (w .y) ≡ true) ⊎ (end (s .c) (w .z) ≡ true))
+
   -- a face neighbour of it is missing and off the border, or measured negative and so off the border too
-  not-beside : (w : Voxel) → InGrid s w → apart v w ≡ 1
-      → (end (s .a) (w .x) ≡ true) ⊎ ((end (s .b) (w .y) ≡ true) ⊎ (end (s .c) (w .z) ≡ true)) → ⊥
+  not-beside : (w : Voxel) → InGrid s w → apart v w ≡ 1 → AtEnd w → ⊥
   unfolding onBorder shareFace taxicab
   not-beside w g a b =
       let j = index s w in
@@ -133,74 +136,54 @@ module _ (s : Sides) (values : List ℤ) (accepted : Beginnable s values) (i : �
       meets {p} {q} {r} (inl e) = true-or p (q || r) (inl e)
       meets {p} {q} {r} (inr e) = true-or p (q || r) (inr (true-or q r e))
 
-  inner : Inner s v
-  inner = border-inner s i (filled-lt s values i f) (gapped .off-border i (stay (gapped .missing)))
+  -- along an axis: at moves the voxel to a coordinate there
+  along : (side x : ℕ) (at : ℕ → Voxel) → 1 ≤ x → suc x < side → ((q : ℕ) → q < side → InGrid s (at q)) → ((q : ℕ) → apart v (at q) ≡ gap x q)
+      → ((q : ℕ) → end side q ≡ true → AtEnd (at q)) → Within side x
+  along side x at low high in-grid steps ends = (
+    elim (decLe 2 x) [
+      | yes h ↦ h
+      | no n ↦ absurd (not-beside (at 0) (in-grid 0 (omega arith)) (steps 0 ∙ gap-up x 0 (omega arith)) (ends 0 refl))
+    ],
+    elim (decLe (x + 3) side) [
+      | yes h ↦ h
+      | no n ↦
+          absurd (not-beside (at (suc x)) (in-grid (suc x) high) (steps (suc x) ∙ gap-down x (suc x) refl) (ends (suc x) (high-end side (suc x) (omega arith))))
+    ],
+  )
 
-  along-x : Within (s .a) (v .x)
+  within : (Within (s .a) (v .x)) × (Within (s .b) (v .y)) × (Within (s .c) (v .z))
   unfolding apart
-  along-x =
-      let u = inner in
+  within =
+      let u = border-inner s i (filled-lt s values i f) (gapped .off-border i (stay (gapped .missing))) in
+      let g = inner-in s v u in
+      let x = gap-none (v .x) in
       let y = gap-none (v .y) in
       let z = gap-none (v .z) in (
-        elim (decLe 2 (v .x)) [
-          | yes h ↦ h
-          | no n ↦ absurd (not-beside (record { x = 0; y = v .y; z = v .z }) (record { x-in = omega arith; y-in = omega arith; z-in = omega arith })
-              (omega (arith, gap-up (v .x) 0 (omega arith))) (inl refl))
-        ],
-        elim (decLe (v .x + 3) (s .a)) [
-          | yes h ↦ h
-          | no n ↦ absurd (not-beside (record { x = suc (v .x); y = v .y; z = v .z }) (record { x-in = omega arith; y-in = omega arith; z-in = omega arith })
-              (omega (arith, gap-down (v .x) (suc (v .x)) refl)) (inl (high-end (s .a) (suc (v .x)) (omega arith))))
-        ],
-      )
-
-  along-y : Within (s .b) (v .y)
-  unfolding apart
-  along-y =
-      let u = inner in
-      let x = gap-none (v .x) in
-      let z = gap-none (v .z) in (
-        elim (decLe 2 (v .y)) [
-          | yes h ↦ h
-          | no n ↦ absurd (not-beside (record { x = v .x; y = 0; z = v .z }) (record { x-in = omega arith; y-in = omega arith; z-in = omega arith })
-              (omega (arith, gap-up (v .y) 0 (omega arith))) (inr (inl refl)))
-        ],
-        elim (decLe (v .y + 3) (s .b)) [
-          | yes h ↦ h
-          | no n ↦ absurd (not-beside (record { x = v .x; y = suc (v .y); z = v .z }) (record { x-in = omega arith; y-in = omega arith; z-in = omega arith })
-              (omega (arith, gap-down (v .y) (suc (v .y)) refl)) (inr (inl (high-end (s .b) (suc (v .y)) (omega arith)))))
-        ],
-      )
-
-  along-z : Within (s .c) (v .z)
-  unfolding apart
-  along-z =
-      let u = inner in
-      let x = gap-none (v .x) in
-      let y = gap-none (v .y) in (
-        elim (decLe 2 (v .z)) [
-          | yes h ↦ h
-          | no n ↦ absurd (not-beside (record { x = v .x; y = v .y; z = 0 }) (record { x-in = omega arith; y-in = omega arith; z-in = omega arith })
-              (omega (arith, gap-up (v .z) 0 (omega arith))) (inr (inr refl)))
-        ],
-        elim (decLe (v .z + 3) (s .c)) [
-          | yes h ↦ h
-          | no n ↦ absurd (not-beside (record { x = v .x; y = v .y; z = suc (v .z) }) (record { x-in = omega arith; y-in = omega arith; z-in = omega arith })
-              (omega (arith, gap-down (v .z) (suc (v .z)) refl)) (inr (inr (high-end (s .c) (suc (v .z)) (omega arith)))))
-        ],
+        along (s .a) (v .x) (λ q. record { x = q; y = v .y; z = v .z }) (u .x-low) (u .x-high)
+            (λ q l. record { x-in = l; y-in = g .y-in; z-in = g .z-in }) (λ q. omega arith) (λ q e. inl e),
+        along (s .b) (v .y) (λ q. record { x = v .x; y = q; z = v .z }) (u .y-low) (u .y-high)
+            (λ q l. record { x-in = g .x-in; y-in = l; z-in = g .z-in }) (λ q. omega arith) (λ q e. inr (inl e)),
+        along (s .c) (v .z) (λ q. record { x = v .x; y = v .y; z = q }) (u .z-low) (u .z-high)
+            (λ q l. record { x-in = g .x-in; y-in = g .y-in; z-in = l }) (λ q. omega arith) (λ q e. inr (inr e)),
       )
 
   filled-far : nearBorder s i ≡ false
   unfolding nearBorder
-  filled-far = ap₂ _||_ (off-end (s .a) (v .x) along-x) (ap₂ _||_ (off-end (s .b) (v .y) along-y) (off-end (s .c) (v .z) along-z))
+  filled-far =
+      ap₂ _||_ (off-end (s .a) (v .x) (within .0)) (ap₂ _||_ (off-end (s .b) (v .y) (within .1)) (off-end (s .c) (v .z) (within .2)))
 
--- so number 31 holds of the filled values too
-pub fit-filled : (s : Sides) (values : List ℤ) → Beginnable s values → unfitCoarse s values ≡ false → unfitCoarse s (filled s values) ≡ false
+-- so number 31 comes out the same
+pub filled-as-fit : FilledAsFit
 unfolding unfitCoarse voxels
-fit-filled s values accepted e =
-    ap₂ _||_ (parts s values e .0) (below-none (tooNear s (filled s values)) (size s) (λ i h. go i h (two (isFilled s values i))))
+filled-as-fit s values accepted =
+    ap (λ (t : Bool). unfitSides s || t) (any-run-ext (tooNear s (filled s values)) (tooNear s values) 0 (size s) (λ i l h. same i (omega arith)))
   where
-    go : (i : ℕ) → i < size s → (isFilled s values i ≡ true) ⊎ (isFilled s values i ≡ false) → tooNear s (filled s values) i ≡ false
-    go i h (inl f) =
-        let n : Bool = measuredNegative (valueAt (filled s values) i) in ap (λ (t : Bool). n && t) (filled-far s values accepted i f) ∙ and-zero n
-    go i h (inr f) = ap (λ (w : ℤ). measuredNegative w && nearBorder s i) (filled-other s values i h f) ∙ none-near s values e i h
+    never : (i : ℕ) (vs : List ℤ) → isFilled s values i ≡ true → tooNear s vs i ≡ false
+    never i vs f = let n : Bool = measuredNegative (valueAt vs i) in ap (λ (t : Bool). n && t) (filled-far s values accepted i f) ∙ and-zero n
+
+    same : (i : ℕ) → i < size s → tooNear s (filled s values) i ≡ tooNear s values i
+    same i h =
+        elim (two (isFilled s values i)) [
+          | inl f ↦ never i (filled s values) f ∙ sym (never i values f)
+          | inr f ↦ ap (λ (w : ℤ). measuredNegative w && nearBorder s i) (filled-other s values i h f)
+        ]

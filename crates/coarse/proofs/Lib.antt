@@ -4,3 +4,4 @@ pub mod Eight
 pub mod Run
 pub mod Fitness
 pub mod Body
+pub mod Promises

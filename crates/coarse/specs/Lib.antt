@@ -1,3 +1,4 @@
 pub mod Blocks
 pub mod Coarse
 pub mod Eight
+pub mod Promises

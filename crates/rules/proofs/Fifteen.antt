@@ -132,7 +132,7 @@ open-after s T values marks start from calls =
 pub gone-is-open : GoneIsOpen
 gone-is-open = from-begin OpenAfter open-after
 
-none-to-open-after : FromStart NoneToOpenAfter
+pub none-to-open-after : FromStart NoneToOpenAfter
 none-to-open-after s T values marks start from calls = only-closed-in s T values marks start from calls
 
 pub none-to-open : NoneToOpen

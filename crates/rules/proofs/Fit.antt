@@ -30,6 +30,23 @@ use Rattle.rules.proofs.Checks.{hold-append, failsAt, held-at}
 
 -- ---- begin
 
+-- what its checks ask of the values
+module _ (s : Sides) (values : List ℤ) where
+  pub beginnable-by : fitSides s ≡ true → length values ≡ size s → any stray values ≡ false
+      → any (λ i. onBorder s i && measuredNegative (valueAt values i)) (voxels s) ≡ false
+      → any (λ i. measuredNegative (valueAt values i)) (voxels s) ≡ true → Beginnable s values
+  unfolding voxels
+  beginnable-by sides len known border some =
+      let v = any-below (λ i. measuredNegative (valueAt values i)) (size s) some in
+      record {
+        sides = sides;
+        len = len;
+        known = known;
+        border = checked-border s values border;
+        some = v .0;
+        some-negative = true-and (ltb (v .0) (size s)) (measuredNegative (valueAt values (v .0))) (lt-ltb (v .0) (size s) (v .1)) (v .2);
+      }
+
 -- 2: each length
 pub record SameLength (n : ℕ) (values : List ℤ) (marks : List ℕ) (dist : List ℤ) (status : List ℕ) : Type 0 where
   pub values-len : length values ≡ n
@@ -58,17 +75,9 @@ module _ (s : Sides) (values : List ℤ) (marks : List ℕ) (dist : List ℤ) (s
   begin-marks = begin-held 29
 
   pub beginnable : Beginnable s values
-  unfolding voxels
   beginnable =
-      let v = any-below (λ i. measuredNegative (valueAt values i)) (size s) (not-false _ (begin-held 4)) in
-      record {
-        sides = not-false (fitSides s) (begin-held 1);
-        len = begin-lengths .values-len;
-        known = begin-held 28;
-        border = checked-border s values (begin-held 3);
-        some = v .0;
-        some-negative = true-and (ltb (v .0) (size s)) (measuredNegative (valueAt values (v .0))) (lt-ltb (v .0) (size s) (v .1)) (v .2);
-      }
+      beginnable-by s values (not-false (fitSides s) (begin-held 1)) (begin-lengths .values-len) (begin-held 28) (begin-held 3)
+      (not-false _ (begin-held 4))
 
 -- past the end of the buffer the value is missing
 pub none-stray : (values : List ℤ) → any stray values ≡ false → (i : ℕ) → stray (valueAt values i) ≡ false
