@@ -5,3 +5,5 @@ pub mod Run
 pub mod Fitness
 pub mod Body
 pub mod Promises
+pub mod Examples
+pub mod Wrong

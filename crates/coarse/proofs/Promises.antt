@@ -165,6 +165,7 @@ coarse-body s values marks accepted off =
     let inner = blocks-off s values accepted off in
     let b = some-block s values accepted off in
     record {
+      statuses = refl;
       split = λ i l. unfold splitBody in kept-at-first s m S body i l;
       inside-kept = λ i e. kept-start s m S body i ∙ body-holds s values accepted off m i e;
       distances = refl;

@@ -4,7 +4,7 @@ use mathlib.Core.Path.{_≡_, refl, ap, _∙_}
 use mathlib.Core.Logic.{inl, inr}
 use mathlib.Core.Bool.{Bool, true, false, not, _&&_}
 use mathlib.Core.List.{List}
-use Prim.Native.Nat.{ℕ, _+_, _*_, _<_}
+use Prim.Native.Nat.{ℕ, _+_, _<_}
 use native.Mathlib.Omega.{arith}
 use lib.IntN.{ℤ, pos}
 use lib.ListN.{length}
@@ -90,7 +90,7 @@ module _ (h : Sides) (sides : Fit h) (m : Marked) (dist : List ℤ)
   unfolding coarseRun
   run-sound =
       carving-sound h (isIn B) (m .pinned) (m .pinned) (mayGo m dist) (sooner m dist) (sooner-order m dist) total (λ j e. e) may-go-blocks
-      (27 * size h) (firstStatus h m dist) (tally 0 0 0 (pos 1)) (first-sound (m .pinned) (λ j e. e))
+      _ (firstStatus h m dist) (tally 0 0 0 (pos 1)) (first-sound (m .pinned) (λ j e. e))
 
   pub run-shape : Shape h (isKept (run .status)) 0 (pos 1)
   run-shape = run-sound .inv .shape
@@ -99,7 +99,7 @@ module _ (h : Sides) (sides : Fit h) (m : Marked) (dist : List ℤ)
   unfolding coarseRun
   run-ends =
       carving-ends h (isIn B) (m .pinned) (m .pinned) (mayGo m dist) (sooner m dist) (sooner-order m dist) total (λ j e. e) may-go-blocks
-      (27 * size h) (firstStatus h m dist) (tally 0 0 0 (pos 1)) (first-sound (m .pinned) (λ j e. e)) (omega (arith, found-all h (blockBox h dist)))
+      _ (firstStatus h m dist) (tally 0 0 0 (pos 1)) (first-sound (m .pinned) (λ j e. e)) (omega (arith, found-all h (blockBox h dist)))
 
   pub run-negative : (j : ℕ) → j < size h → isInside dist j ≡ true → isKept (run .status) j ≡ true
   run-negative j l e = run-sound .inv .inside j (lists j l e)
@@ -107,7 +107,7 @@ module _ (h : Sides) (sides : Fit h) (m : Marked) (dist : List ℤ)
   pub run-pinned : (j : ℕ) → j < size h → blockBox h dist j ≡ true → m .pinned j ≡ true → isKept (run .status) j ≡ true
   unfolding coarseRun firstStatus
   run-pinned j l b p =
-      still-carving h (mayGo m dist) j true stays (sooner m dist) (sooner-order m dist) (27 * size h) (firstStatus h m dist)
+      still-carving h (mayGo m dist) j true stays (sooner m dist) (sooner-order m dist) _ (firstStatus h m dist)
       (record { lent = first-sound (m .pinned) (λ j e. e) .lent; kept = kept-at-first h m B (blockBox h dist) j l ∙ b }) .kept
     where
       stays : true ≡ true → mayGo m dist j ≡ false

@@ -2,3 +2,5 @@ pub mod Blocks
 pub mod Coarse
 pub mod Eight
 pub mod Promises
+pub mod Examples
+pub mod Wrong

@@ -10,7 +10,7 @@ use Rattle.rules.specs.declared.Record.{Record}
 use Rattle.rules.specs.Grid.{size, isIn}
 use Rattle.rules.specs.Answer.{refused, done}
 use Rattle.rules.specs.Fill.{isFilled, filled}
-use Rattle.rules.specs.Begin.{inside, worked, begin}
+use Rattle.rules.specs.Begin.{inside, worked, startStatus, begin}
 use Rattle.rules.specs.Fit.{Beginnable}
 use Rattle.rules.specs.Marks.{Marked, marked}
 use Rattle.rules.specs.Status.{isKept, anyPending, testAt}
@@ -92,7 +92,9 @@ CoarseFilledAreKept =
 -- ---- what it leaves in the four buffers, for the values with gaps filled
 
 pub record CoarseBody (s : Sides) (values : List ℤ) (m : Marked) (l : FourBuffers) : Type 0 where
-  -- the kept voxels are those of the kept blocks
+  -- the status of the voxels is begin's for the kept blocks split again, in place of the box
+  pub statuses : l .voxels .status ≡ startStatus s m (inside s values) (splitBody s (l .blocks .status))
+  -- so the kept voxels are those of the kept blocks
   pub split : (i : ℕ) → i < size s → isKept (l .voxels .status) i ≡ isKept (l .blocks .status) (blockOf s i)
   -- S lies within them
   pub inside-kept : (i : ℕ) → isIn (inside s values) i ≡ true → isKept (l .voxels .status) i ≡ true

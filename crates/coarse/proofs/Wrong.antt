@@ -1,0 +1,96 @@
+-- A coarse start by another rule does something else: by computation, each on one input that tells the two apart.
+use mathlib.Core.Path.{_≡_, ap, sym}
+use mathlib.Core.Bool.{false, true≢false}
+use mathlib.Core.List.{List, [], _∷_}
+use Prim.Native.Nat.{ℕ}
+use native.Mathlib.Omega.{arith}
+use lib.Dec.{eqb}
+use lib.ListN.{replicate, set}
+use lib.IntN.{ℤ, pos, negsuc, natAbs}
+use Rattle.rules.specs.Answer.{buffers}
+use Rattle.rules.specs.Checks.{firstFailing}
+use Rattle.rules.specs.Status.{Progress, statusOf}
+use Rattle.rules.specs.Marks.{Marked, unmarked, noMarks}
+use Rattle.rules.specs.Cases.{sides, markAt}
+use Rattle.coarse.specs.Coarse.{fourBuffers}
+use Rattle.coarse.specs.Examples.{grid, lent, diagonal, pinnedAt, slab, aroundIt, twoBlocks}
+use Rattle.coarse.specs.Wrong.{greatestFrom, WrongBlocks, WrongRuns, WrongSplits, WrongFitness}
+use Rattle.coarse.proofs.Examples.{coarse-rules, two-blocks}
+
+-- ---- blocks, in the grid of two of them
+
+-- a run whose status at a block, or whose count, is another
+status-differs : (j : ℕ) (p q : Progress) → (statusOf (p .status) j ≡ statusOf (q .status) j → ⊥) → p ≡ q → ⊥
+status-differs j p q f e = f (ap (λ (r : Progress). statusOf (r .status) j) e)
+
+count-differs : (p q : Progress) → (p .examined ≡ q .examined → ⊥) → p ≡ q → ⊥
+count-differs p q f e = f (ap (λ (r : Progress). r .examined) e)
+
+-- a pinned voxel, and beside it a hurried one
+both : Marked
+both = record { pinned = eqb 148; hurried = eqb 149 }
+
+pub wrong-blocks : WrongBlocks
+unfolding coarse-rules greatestFrom both
+wrong-blocks =
+    record {
+      greatest-of-eight = λ h. let z : _≡_ {A = ℕ} 5 0 = ap natAbs (h (sides 6 6 6) (negsuc 4 ∷ []) 0) in omega arith;
+      pinned-by-all = λ h. status-differs 22 _ _ (λ e. let z : _≡_ {A = ℕ} 1 0 = e in omega arith) (h slab [] both diagonal);
+      pinned-by-the-first = λ h. status-differs 22 _ _ (λ e. let z : _≡_ {A = ℕ} 1 0 = e in omega arith) (h slab [] (pinnedAt 149) diagonal);
+      pinned-in-the-box = λ h. status-differs 22 _ _ (λ e. let z : _≡_ {A = ℕ} 1 0 = e in omega arith) (h slab (155 ∷ 164 ∷ []) both diagonal);
+      hurries-in-the-run = λ h. count-differs _ _ (λ e. let z : _≡_ {A = ℕ} 1 2 = e in omega arith) (h slab [] both diagonal);
+    }
+
+-- ---- the run
+
+-- 5, 5, 3: two corners of nine blocks are negative, and ten examinations are made
+corners : List ℤ
+corners = set (set (replicate 75 (pos 5)) 31 (negsuc 4)) 43 (negsuc 4)
+
+pub wrong-runs : WrongRuns
+unfolding coarse-rules corners
+wrong-runs =
+    record {
+      stops-early = λ h. count-differs _ _ (λ e. let z : _≡_ {A = ℕ} 10 9 = e in omega arith) (h (sides 5 5 3) unmarked corners);
+      box-of-pins = λ h. status-differs 17 _ _ (λ e. let z : _≡_ {A = ℕ} 0 1 = e in omega arith) (h (sides 4 4 3) (pinnedAt 17) diagonal);
+      no-box = λ h. count-differs _ _ (λ e. let z : _≡_ {A = ℕ} 2 0 = e in omega arith) (h (sides 4 4 3) unmarked diagonal);
+    }
+
+-- ---- the split
+
+pub wrong-splits : WrongSplits
+unfolding coarse-rules twoBlocks
+wrong-splits =
+    record {
+      all-pending = λ h. let z : _≡_ {A = ℕ} 1 3 = h (sides 8 8 8) unmarked (293 ∷ []) aroundIt 292 in omega arith;
+      hurries-lost = λ h.
+          let m : Marked = record { pinned = λ i. false; hurried = eqb 292 } in
+          let z : _≡_ {A = ℕ} 3 1 = h (sides 8 8 8) m (293 ∷ []) aroundIt 292 in
+          omega arith;
+      pins-lost = λ h. let z : _≡_ {A = ℕ} 1 3 = h (sides 8 8 8) (pinnedAt 301) (293 ∷ []) aroundIt 301 in omega arith;
+      counts-in-the-record = λ h.
+          let z : _≡_ {A = ℕ} 0 1 = h slab 1 (grid slab (155 ∷ 164 ∷ [])) (set (markAt slab 148 1) 149 2) (lent slab) _ (two-blocks .answer) in
+          omega arith;
+    }
+
+-- ---- number 31, of 6, 6, 6 but for the odd side and the order
+
+pub wrong-fitness : WrongFitness
+unfolding coarse-rules firstFailing
+wrong-fitness =
+    record {
+      no-side-of-6 = λ h. true≢false (sym (h (sides 6 6 6) []));
+      odd-sides = λ h. true≢false (h (sides 7 6 6) []);
+      low-of-1 = λ h. true≢false (h (sides 6 6 6) (grid (sides 6 6 6) (85 ∷ [])));
+      low-of-3 = λ h. true≢false (sym (h (sides 6 6 6) (grid (sides 6 6 6) (86 ∷ []))));
+      high-less-2 = λ h. true≢false (h (sides 6 6 6) (grid (sides 6 6 6) (88 ∷ [])));
+      high-less-4 = λ h. true≢false (sym (h (sides 6 6 6) (grid (sides 6 6 6) (129 ∷ []))));
+      inside-alone = λ h. true≢false (h (sides 6 6 6) (grid (sides 6 6 6) (46 ∷ 128 ∷ 129 ∷ [])));
+      before-4 = λ h. let z : _≡_ {A = ℕ} 4 31 = h (sides 3 3 3) (grid (sides 3 3 3) []) (noMarks (sides 3 3 3)) (lent (sides 3 3 3)) in omega arith;
+      before-3 = λ h. let z : _≡_ {A = ℕ} 3 31 = h (sides 3 3 3) (grid (sides 3 3 3) (0 ∷ [])) (noMarks (sides 3 3 3)) (lent (sides 3 3 3)) in omega arith;
+      lengths-of-blocks = λ h. let z : _≡_ {A = ℕ} 4 2 = h (sides 3 3 3) (grid (sides 3 3 3) []) (noMarks (sides 3 3 3)) (lent (sides 3 3 3)) in omega arith;
+      lengths-unread = λ h.
+          let l = fourBuffers (lent (sides 3 3 3) .voxels) (buffers [] []) in
+          let z : _≡_ {A = ℕ} 2 4 = h (sides 3 3 3) (grid (sides 3 3 3) []) (noMarks (sides 3 3 3)) l in
+          omega arith;
+    }
