@@ -1,5 +1,5 @@
 -- A coarse start by another rule does something else: by computation, each on one input that tells the two apart.
-use mathlib.Core.Path.{_≡_, ap, sym}
+use mathlib.Core.Path.{_≡_, refl, ap, sym}
 use mathlib.Core.Bool.{false, true≢false}
 use mathlib.Core.List.{List, [], _∷_}
 use Prim.Native.Nat.{ℕ}
@@ -12,9 +12,10 @@ use Rattle.rules.specs.Checks.{firstFailing}
 use Rattle.rules.specs.Status.{Progress, statusOf}
 use Rattle.rules.specs.Marks.{Marked, unmarked, noMarks}
 use Rattle.rules.specs.Cases.{sides, markAt}
-use Rattle.coarse.specs.Coarse.{fourBuffers}
-use Rattle.coarse.specs.Examples.{grid, lent, diagonal, pinnedAt, slab, aroundIt, twoBlocks}
-use Rattle.coarse.specs.Wrong.{greatestFrom, WrongBlocks, WrongRuns, WrongSplits, WrongFitness}
+use Rattle.rules.proofs.Answers.{answers, same-answer}
+use Rattle.coarse.specs.Coarse.{fourBuffers, CoarseStart}
+use Rattle.coarse.specs.Examples.{grid, lent, coarseOf, diagonal, pinnedAt, slab, aroundIt, twoBlocks}
+use Rattle.coarse.specs.Wrong.{greatestFrom, WrongBlocks, WrongRuns, WrongSplits, WrongFitness, OwnParts, CoarseAnswers}
 use Rattle.coarse.proofs.Examples.{coarse-rules, two-blocks}
 
 -- ---- blocks, in the grid of two of them
@@ -93,4 +94,25 @@ wrong-fitness =
           let l = fourBuffers (lent (sides 3 3 3) .voxels) (buffers [] []) in
           let z : _≡_ {A = ℕ} 2 4 = h (sides 3 3 3) (grid (sides 3 3 3) []) (noMarks (sides 3 3 3)) l in
           omega arith;
+    }
+
+-- ---- its own parts, and its answers
+
+pub own-parts : OwnParts
+unfolding coarse-rules
+own-parts =
+    record {
+      marks = λ s S m. refl;
+      run = λ h m dist. refl;
+      split = λ s m S body i. refl;
+      unfit = λ s values. refl;
+      checks = λ s v m l. refl;
+    }
+
+pub coarse-answers : CoarseAnswers
+unfolding coarse-rules twoBlocks
+coarse-answers =
+    record {
+      starts = answers (λ marks. coarseOf slab (155 ∷ 164 ∷ []) marks .answer) (set (markAt slab 148 1) 149 2) [] 2 refl refl;
+      starts-otherwise = λ c h. let e : _≡_ {A = ℕ} 0 1 = ap (λ (a : CoarseStart). a .next .allowed) (same-answer _ _ c (h 0) (h 1)) in omega arith;
     }

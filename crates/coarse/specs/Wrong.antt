@@ -2,7 +2,7 @@
 use mathlib.Core.Path.{_≡_}
 use mathlib.Core.Bool.{Bool, true, false, not, cond, _&&_, _||_}
 use mathlib.Core.List.{List, [], _∷_, map}
-use Prim.Native.Nat.{ℕ, _+_, _%_}
+use Prim.Native.Nat.{ℕ, _+_, _*_, _%_}
 use lib.Dec.{leb, ltb, eqb}
 use lib.ListN.{length}
 use lib.IntN.{ℤ, pos}
@@ -12,15 +12,17 @@ use Rattle.rules.specs.declared.Sides.{Sides}
 use Rattle.rules.specs.Value.{stray}
 use Rattle.rules.specs.Grid.{fitSides, size, voxel, voxels, onBorder, isIn, distanceAt, measuredNegative, valueAt}
 use Rattle.rules.specs.Checks.{Check, _when_, firstFailing}
-use Rattle.rules.specs.Answer.{done}
-use Rattle.rules.specs.Begin.{inside, inBox, exposed, statusAt, startStatus}
+use Rattle.rules.specs.Answer.{done, NoConstant, Answers}
+use Rattle.rules.specs.Begin.{inside, inBox, exposed, waitsFirst, statusAt, startStatus}
 use Rattle.rules.specs.Meaning.{found}
-use Rattle.rules.specs.Marks.{Marked, strayMark, wrongMarks}
+use Rattle.rules.specs.Marks.{Marked, strayMark, wrongMarks, noMarks}
 use Rattle.rules.specs.Status.{Progress, carving}
 use Rattle.rules.specs.Machine.{mayGo, sooner}
+use Rattle.rules.specs.Cases.{sides}
 use Rattle.coarse.specs.Blocks.{halved, eight, blockDistance, blockMarks, splitBody}
 use Rattle.coarse.specs.Coarse.{negativeBlocks, blockBox, firstStatus, coarseRun, unfitSide, nearEnd, unfitCoarse, FourBuffers, CoarseStart}
 use Rattle.coarse.specs.Coarse.{wrongLengths, coarseChecks, beginCoarse}
+use Rattle.coarse.specs.Examples.{grid, lent, coarseOf, slab}
 
 -- ---- blocks
 
@@ -154,3 +156,19 @@ pub record WrongFitness : Type 0 where
   pub before-3 : OtherChecks (λ s v m l. firstChecks wrongLengths s v m l (tooNear s v ∷ border s v ∷ noNegative s v ∷ []))
   pub lengths-of-blocks : OtherChecks (λ s v m l. firstChecks lengthsOfBlocks s v m l (border s v ∷ noNegative s v ∷ tooNear s v ∷ []))
   pub lengths-unread : OtherChecks (λ s v m l. firstChecks lengthsOfVoxels s v m l (border s v ∷ noNegative s v ∷ tooNear s v ∷ []))
+
+-- ---- by its own parts each is the rule
+
+pub record OwnParts : Type 0 where
+  pub marks : (s : Sides) (S : List ℕ) (m : Marked) → blockMarks s m ≡ pinnedBy any s S m
+  pub run : (h : Sides) (m : Marked) (dist : List ℤ) → coarseRun h m dist ≡ runFrom (λ h dist. 27 * size h) firstStatus h m dist
+  pub split : (s : Sides) (m : Marked) (S : List ℕ) (body : ℕ → Bool) (i : ℕ)
+      → statusAt s m S body i ≡ cond (body i) (cond (not (isIn S i) && waitsFirst s m body i) 3 1) 0
+  pub unfit : (s : Sides) (values : List ℤ) → unfitCoarse s values ≡ unfitBy unfitSide (nearBy 2 3) negativeAt s values
+  pub checks : (s : Sides) (v : List ℤ) (m : List ℕ) (l : FourBuffers)
+      → coarseChecks s v m l ≡ firstChecks wrongLengths s v m l (border s v ∷ noNegative s v ∷ tooNear s v ∷ [])
+
+-- a coarse start neither always refuses nor gives a constant; nor do two that are done answer the same
+pub record CoarseAnswers : Type 0 where
+  pub starts : Answers (λ (marks : List ℕ). coarseOf slab (155 ∷ 164 ∷ []) marks .answer)
+  pub starts-otherwise : NoConstant (λ (T : ℕ). let s = sides 6 6 6 in beginCoarse s T (grid s (86 ∷ [])) (noMarks s) (lent s) .answer)

@@ -17,3 +17,7 @@ pub answers : {I A : Type 0} (call : I → Reply A) (i j : I) (n : ℕ) → isDo
 answers call i j n e f =
     let r = given (call i) e in
     record { accepts = (i, r); varies = λ c h. apart (r .0) n c (sym (r .1) ∙ h i) (sym f ∙ h j) }
+
+-- and two that are done would be one answer, where the call were a constant
+pub same-answer : {A : Type 0} (a b : A) (c : Reply A) → done a ≡ c → done b ≡ c → a ≡ b
+same-answer a b c e f = cc

@@ -9,7 +9,7 @@ use lib.Dec.{eqb}
 use lib.ListN.{replicate}
 use lib.IntN.{ℤ, pos, negsuc, natAbs}
 use Rattle.rules.specs.declared.Record.{Record}
-use Rattle.rules.specs.Answer.{Reply, done, Outcome, Buffers, Carving}
+use Rattle.rules.specs.Answer.{Outcome, Buffers, Carving}
 use Rattle.rules.specs.Status.{statusOf}
 use Rattle.rules.specs.Marks.{marked, unmarked, noMarks}
 use Rattle.rules.specs.PinFirst.{markedBefore, beginBy, carveBy}
@@ -23,16 +23,12 @@ use Rattle.rules.specs.Cases.{sides, plainTake, carvedTo, valuesD, caseD
 use Rattle.rules.specs.Wrong.{carvingBy, onlyClears, byKAlone, dropsFailed, byFaceGroups, invents, WrongMachines, MachineAnswers}
 use Rattle.rules.specs.Wrong.{beginWriting, takeWriting, WrongRefusals}
 use Rattle.rules.specs.Wrong.{fillsBy, walledIn, offBorder, WrongFills, carveOtherwise, WrongMarks, WrongThrees, WrongLast}
-use Rattle.rules.proofs.Answers.{apart, answers}
+use Rattle.rules.proofs.Answers.{apart, answers, same-answer}
 use Rattle.rules.proofs.Fill.{filled-is-enclosed}
 use Rattle.rules.proofs.Cases.{all-rules}
 
 numbers-differ : (m n : ℕ) → pos m ≡ pos n → (m ≡ n → ⊥) → ⊥
 numbers-differ m n e f = f (ap natAbs e)
-
--- two answers that differ
-same-answer : {A : Type 0} (a b : A) (c : Reply A) → done a ≡ c → done b ≡ c → a ≡ b
-same-answer a b c e f = cc
 
 pub wrong-machines : WrongMachines
 unfolding all-rules carvingBy onlyClears byKAlone dropsFailed byFaceGroups invents bodyOf body.some covered sum sum3 corners edges faces cubes eulerOf
