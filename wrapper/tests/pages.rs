@@ -113,6 +113,8 @@ const NO_THEOREMS: [(&str, &[&str]); 3] = [
         "data that rules and contracts are over",
         &[
             "cells/specs/Cells.antt Test",
+            "coarse/specs/Coarse.antt CoarseStart",
+            "coarse/specs/Coarse.antt FourBuffers",
             "floods/specs/Flood.antt Fill",
             "format/specs/File.antt Header",
             "format/specs/Layer.antt Part",
