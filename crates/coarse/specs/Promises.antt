@@ -31,11 +31,11 @@ EveryCoarse P =
     (s : Sides) (T : ℕ) (values : List ℤ) (marks : List ℕ) (lent : FourBuffers) (c : CoarseStart)
     → beginCoarse s T values marks lent .answer ≡ done c → P s T values marks (beginCoarse s T values marks lent .lent) c
 
--- the state that it hands out
+-- the state that a coarse start hands out
 abbrev pub coarseState : FourBuffers → CoarseStart → State
 coarseState l c = state (c .next) (l .voxels .dist) (l .voxels .status)
 
--- it works on the values with gaps filled, and starts with the kept blocks that it leaves, split again
+-- a coarse start works on the values with gaps filled, and starts with the kept blocks that it leaves, split again
 abbrev pub FromCoarse : Promise → Type 0
 FromCoarse P = EveryCoarse (λ s T values marks l c. P s T (filled s values) marks (splitBody s (l .blocks .status)) (coarseState l c))
 
@@ -119,23 +119,22 @@ FilledAsFit = (s : Sides) (values : List ℤ) → Beginnable s values → unfitC
 
 -- ---- beside a plain start of the same values, whatever T, the marks and the buffers
 
-module _ (P : Sides → List ℤ → State → State → Type 0) where
-  -- the values as given, and the states that the plain and the coarse start hand out
-  abbrev pub BothStarts : Type 0
-  BothStarts =
-      (s : Sides) (T T′ : ℕ) (values : List ℤ) (marks marks′ : List ℕ) (dist : List ℤ) (status : List ℕ) (lent : FourBuffers) (r : Record) (c : CoarseStart)
-      → begin s T values marks dist status .answer ≡ done r → beginCoarse s T′ values marks′ lent .answer ≡ done c
-      → let b = begin s T values marks dist status in
-      P s values (state r (b .lent .dist) (b .lent .status)) (coarseState (beginCoarse s T′ values marks′ lent .lent) c)
+-- of the sides, and of the states that the plain and the coarse start hand out
+abbrev pub BothStarts : (Sides → State → State → Type 0) → Type 0
+BothStarts P =
+    (s : Sides) (T T′ : ℕ) (values : List ℤ) (marks marks′ : List ℕ) (dist : List ℤ) (status : List ℕ) (lent : FourBuffers) (r : Record) (c : CoarseStart)
+    → begin s T values marks dist status .answer ≡ done r → beginCoarse s T′ values marks′ lent .answer ≡ done c
+    → let b = begin s T values marks dist status in
+    P s (state r (b .lent .dist) (b .lent .status)) (coarseState (beginCoarse s T′ values marks′ lent .lent) c)
 
 -- the voxels have the same distances
 abbrev pub SameDistances : Type 0
-SameDistances = BothStarts (λ s values plain coarse. plain .dist ≡ coarse .dist)
+SameDistances = BothStarts (λ s plain coarse. plain .dist ≡ coarse .dist)
 
 -- where open answers 15 after a list of calls from each, and was lent marks that pin nothing, the same voxels are kept
 abbrev pub PlainAndCoarse : Type 0
 PlainAndCoarse =
-    BothStarts (λ s values plain coarse.
+    BothStarts (λ s plain coarse.
     (calls calls′ : List Call) (lent lent′ : List ℕ) → ((j : ℕ) → marked lent .pinned j ≡ false) → ((j : ℕ) → marked lent′ .pinned j ≡ false)
     → let g = run calls plain .end in
     let g′ = run calls′ coarse .end in
