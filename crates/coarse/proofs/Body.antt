@@ -13,7 +13,7 @@ use Rattle.prelude.proofs.Ranges.{getD-map-range, length-map-range}
 use Rattle.rules.specs.declared.Sides.{Sides}
 use Rattle.rules.specs.Grid.{fitSides, Voxel, size, index, voxel, voxels, isIn, isNegative}
 use Rattle.rules.specs.Begin.{inside, worked}
-use Rattle.rules.specs.Fit.{Beginnable, FitVoxels}
+use Rattle.rules.specs.Fit.{Beginnable}
 use Rattle.rules.specs.Marks.{Marked}
 use Rattle.rules.specs.Status.{Progress, isKept}
 use Rattle.rules.specs.Machine.{isInside}
@@ -24,11 +24,11 @@ use Rattle.rules.proofs.Topology.Moves.{Shape}
 use Rattle.rules.proofs.Topology.Start.{inGrid, worked-signs}
 use Rattle.rules.proofs.Demand.{Startable}
 use Rattle.coarse.specs.Blocks.{halved, halfOf, blockOf, blockDistance, blockDistances, blockMarks, splitBody}
-use Rattle.coarse.specs.Coarse.{firstStatus, coarseRun}
+use Rattle.coarse.specs.Coarse.{coarseRun}
 use Rattle.coarse.proofs.SplitCells.{doubled}
 use Rattle.coarse.proofs.Split.{blockIndex, splitOf, split-shape}
 use Rattle.coarse.proofs.Eight.{block-voxel, block-lt, in-eight, of-eight, negative-part, part-negative}
-use Rattle.coarse.proofs.Run.{first-fit, run-shape, run-negative}
+use Rattle.coarse.proofs.Run.{run-shape, run-negative}
 use Rattle.coarse.proofs.Fitness.{CoarseFit}
 
 module _ (s : Sides) (values : List ℤ) (accepted : Beginnable s values) (off : CoarseFit s values) where
@@ -111,9 +111,6 @@ module _ (s : Sides) (values : List ℤ) (accepted : Beginnable s values) (off :
 
     abbrev body : ℕ → Bool
     body = splitBody s (run .status)
-
-    pub first-blocks-fit : FitVoxels h blocks (firstStatus h (blockMarks s m) blocks)
-    first-blocks-fit = first-fit h half-fit (blockMarks s m) blocks blocks-off (some-block .0) (some-block .1) (some-block .2) length-blocks
 
     split-sides : doubled h ≡ s
     unfolding halved

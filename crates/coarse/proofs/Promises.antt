@@ -94,7 +94,7 @@ module _ (s : Sides) (T : ℕ) (values : List ℤ) (marks : List ℕ) (lent : Fo
         subst (λ (c : CoarseStart). P (leaves s used marks) c) q (holds (beginnable-filled s values (given h)) (fits h))) e
 
 -- what every start promises
-from-coarse : (P : Promise) → FromStart P → FromCoarse P
+pub from-coarse : (P : Promise) → FromStart P → FromCoarse P
 from-coarse P holds s T values marks lent c e =
     let used = filled s values in
     by-coarse s T values marks lent (λ l c. P s T used marks (splitBody s (l .blocks .status)) (coarseState l c))

@@ -81,7 +81,7 @@ module _ (h : Sides) (sides : Fit h) (m : Marked) (dist : List ℤ)
 
   -- ---- the run: what may go is what is neither negative nor pinned
 
-  pub may-go-blocks : (j : ℕ) → j < size h → mayGo m dist j ≡ (not (isIn B j) && not (m .pinned j))
+  may-go-blocks : (j : ℕ) → j < size h → mayGo m dist j ≡ (not (isIn B j) && not (m .pinned j))
   unfolding mayGo outside
   may-go-blocks j l =
       ap (λ (t : Bool). not t && not (m .pinned j)) (both-ways (isInside dist j) (isIn B j) (lists j l) (λ e. listed j e .1))
