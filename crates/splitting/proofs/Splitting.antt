@@ -1,0 +1,272 @@
+-- The voxels of kept blocks: their bytes by three blocks, and by the rule.
+use mathlib.Core.Path.{_≡_, refl, ap, ap₂, sym, _∙_, subst}
+use mathlib.Core.Logic.{_⊎_, inl, inr}
+use mathlib.Core.Bool.{Bool, true, false, not, cond, _&&_, _||_}
+use mathlib.Core.List.{List, map}
+use Prim.Native.Nat.{ℕ, _+_, _-_, _*_, _/_, _%_, _≤_, _<_}
+use native.Mathlib.Omega.{arith}
+use native.Mathlib.Decide.{decLt}
+use native.Mathlib.Nat.{mul-le-mul}
+use lib.Dec.{ltb}
+use lib.IntN.{ℤ}
+use lib.ListN.{length}
+use borrow.Author.Tests.{ltb-false, le-ltb}
+use Rattle.cells.specs.Groups.{any}
+use Rattle.prelude.proofs.Bools.{two, not-both, and-one, or-false}
+use Rattle.rules.specs.declared.Sides.{Sides}
+use Rattle.rules.specs.Grid.{Voxel, size, index, voxel, voxels, onBorder, neighbour, neighbourhood, neighbourhoodOf, facePositions, isIn}
+use Rattle.rules.specs.Begin.{exposed, waitsFirst, statusAt, startStatus}
+use Rattle.rules.specs.Marks.{unmarked}
+use Rattle.rules.specs.Status.{isKept}
+use Rattle.rules.specs.Machine.{isInside}
+use Rattle.rules.proofs.Places.{InGrid, fit, voxel-index, index-lt}
+use Rattle.rules.proofs.Topology.Around.{Inner, neighbour-at, neighbourhood-at}
+use Rattle.rules.proofs.Topology.Start.{border-inner}
+use Rattle.loops.proofs.Below.{map-same}
+use Rattle.loops.proofs.Rows.{row-voxel, row-of, rows-more}
+use Rattle.coarse.specs.Blocks.{halved, halfOf, blockOf, splitBody}
+use Rattle.coarse.specs.Coarse.{nearEnd}
+use Rattle.splitting.specs.Split.{byteBy, byteOf, Splittable, across, blockRow, Paired, pairByte}
+
+-- ---- where a voxel is exposed
+
+-- along an axis, the blocks of the two neighbours of a voxel
+abbrev before : ℕ → ℕ
+before x = (x + 0 - 1) / 2
+
+abbrev after : ℕ → ℕ
+after x = (x + 2 - 1) / 2
+
+-- one of them is the voxel's own
+pair : (f : ℕ → Bool) (x : ℕ) → 2 ≤ x → f (x / 2) ≡ true → (f (before x) && f (after x)) ≡ f (across x)
+pair f x l e =
+    elim (decLt (x % 2) 1) [
+      | yes p ↦ ap₂ (λ (m n : ℕ). f m && f n) (omega arith) (omega arith) ∙ ap (λ (t : Bool). f (across x) && t) e ∙ and-one (f (across x))
+      | no p ↦ ap₂ (λ (m n : ℕ). f m && f n) (omega arith) (omega arith) ∙ ap (λ (t : Bool). t && f (across x)) e
+    ]
+
+-- one of six is not
+six : (z y x x′ y′ z′ : Bool)
+    → not z || (not y || (not x || (not x′ || (not y′ || (not z′ || false))))) ≡ not ((z && z′) && ((y && y′) && (x && x′)))
+six false y x x′ y′ z′ = refl
+six true false x x′ y′ false = refl
+six true false x x′ y′ true = refl
+six true true false x′ y′ false = refl
+six true true false x′ false true = refl
+six true true false x′ true true = refl
+six true true true false y′ false = refl
+six true true true false false true = refl
+six true true true false true true = refl
+six true true true true false false = refl
+six true true true true false true = refl
+six true true true true true false = refl
+six true true true true true true = refl
+
+module _ (s : Sides) (blocks : List ℕ) where
+  -- whether a block is kept, by its coordinates
+  abbrev pub block : ℕ → ℕ → ℕ → Bool
+  block x y z = isKept blocks (index (halved s) (record { x = x; y = y; z = z }))
+
+  -- the blocks across the outer faces of a voxel
+  abbrev pub acrossKept : Voxel → Bool
+  acrossKept u = block (u .x / 2) (u .y / 2) (across (u .z)) && (block (u .x / 2) (across (u .y)) (u .z / 2) && block (across (u .x)) (u .y / 2) (u .z / 2))
+
+  module _ (u : Voxel) (n : Inner (halved s) (halfOf u)) where
+    inner : Inner s u
+    unfolding halved
+    inner =
+        record {
+          x-low = omega (arith, n .x-low);
+          x-high = omega (arith, n .x-high);
+          y-low = omega (arith, n .y-low);
+          y-high = omega (arith, n .y-high);
+          z-low = omega (arith, n .z-low);
+          z-high = omega (arith, n .z-high);
+        }
+
+    -- a neighbour is kept where its block is
+    at : (p x y z : ℕ) → p < 27 → (u .x + p % 3 - 1) / 2 ≡ x → (u .y + p / 3 % 3 - 1) / 2 ≡ y → (u .z + p / 9 - 1) / 2 ≡ z
+        → neighbourhoodOf s (splitBody s blocks) u p ≡ block x y z
+    unfolding splitBody blockOf
+    at p x y z l e f g =
+        let a = neighbour-at s u inner p l in
+        let w : Voxel = neighbour u p in
+        neighbourhood-at s (splitBody s blocks) u w p inner (a .0)
+        ∙ ap (λ (v : Voxel). isKept blocks (index (halved s) (halfOf v))) (voxel-index s w (a .1 .x-in) (a .1 .y-in))
+        ∙ (λ i. block (e i) (f i) (g i))
+
+    pub around : block (u .x / 2) (u .y / 2) (u .z / 2) ≡ true
+        → any (λ p. not (neighbourhoodOf s (splitBody s blocks) u p)) facePositions ≡ not (acrossKept u)
+    unfolding any
+    around k =
+        let x = u .x / 2 in
+        let y = u .y / 2 in
+        let z = u .z / 2 in
+        let e4 = at 4 x y (before (u .z)) (omega arith) (omega arith) (omega arith) refl in
+        let e10 = at 10 x (before (u .y)) z (omega arith) (omega arith) refl (omega arith) in
+        let e12 = at 12 (before (u .x)) y z (omega arith) refl (omega arith) (omega arith) in
+        let e14 = at 14 (after (u .x)) y z (omega arith) refl (omega arith) (omega arith) in
+        let e16 = at 16 x (after (u .y)) z (omega arith) (omega arith) refl (omega arith) in
+        let e22 = at 22 x y (after (u .z)) (omega arith) (omega arith) (omega arith) refl in
+        (λ i. not (e4 i) || (not (e10 i) || (not (e12 i) || (not (e14 i) || (not (e16 i) || (not (e22 i) || false))))))
+        ∙ six (block x y (before (u .z))) (block x (before (u .y)) z) (block (before (u .x)) y z) (block (after (u .x)) y z) (block x (after (u .y)) z)
+        (block x y (after (u .z)))
+        ∙ (λ i. not (pair (λ c. block x y c) (u .z) (omega (arith, n .z-low)) k i
+        && (pair (λ c. block x c z) (u .y) (omega (arith, n .y-low)) k i && pair (λ c. block c y z) (u .x) (omega (arith, n .x-low)) k i)))
+
+-- ---- a row of voxels
+
+-- whether a voxel is exposed matters where it is kept
+same-byte : {j : Bool} (k i : Bool) {p q : Bool} → j ≡ k → (k ≡ true → p ≡ q) → byteBy j p i ≡ byteBy k q i
+same-byte k i {p} {q} e f = ap (λ (t : Bool). byteBy t p i) e ∙ go k f
+  where
+    go : (k : Bool) → (k ≡ true → p ≡ q) → byteBy k p i ≡ byteBy k q i
+    go true f = ap (λ (t : Bool). byteBy true t i) (f refl)
+    go false f = refl
+
+-- what a function that works on a row off the ends of the grid may go by
+pub record Inward (s : Sides) (y z : ℕ) : Type 0 where
+  pub y-low : 2 ≤ y
+  pub y-high : y + 3 ≤ s .b
+  pub z-low : 2 ≤ z
+  pub z-high : z + 3 ≤ s .c
+
+pub inward : (s : Sides) (y z : ℕ) → nearEnd (s .b) y || nearEnd (s .c) z ≡ false → Inward s y z
+inward s y z e =
+    let p = or-false (nearEnd (s .b) y) (nearEnd (s .c) z) e in
+    let q = or-false (ltb y 2) (ltb (s .b) (y + 3)) (p .0) in
+    let r = or-false (ltb z 2) (ltb (s .c) (z + 3)) (p .1) in
+    record {
+      y-low = ltb-false y 2 (q .0);
+      y-high = ltb-false (s .b) (y + 3) (q .1);
+      z-low = ltb-false z 2 (r .0);
+      z-high = ltb-false (s .c) (z + 3) (r .1);
+    }
+
+module _ (s : Sides) (dist : List ℤ) (blocks : List ℕ) (n : ℕ) (P : Splittable s dist blocks n) (r : ℕ) (h : r < s .b * s .c) where
+  abbrev y : ℕ
+  y = r % s .b
+
+  abbrev z : ℕ
+  z = r / s .b
+
+  abbrev kept : ℕ → Bool
+  kept = splitBody s blocks
+
+  module _ (k : ℕ) (low : s .a * r ≤ k) (high : k < s .a * r + s .a) where
+    abbrev x : ℕ
+    x = k - s .a * r
+
+    abbrev u : Voxel
+    u = record { x = x; y = y; z = z }
+
+    is : voxel s k ≡ u
+    is = ap (voxel s) (let e : k ≡ s .a * r + x = omega arith in e) ∙ row-voxel s r x (omega arith)
+
+    kept-is : kept k ≡ block s blocks (x / 2) (y / 2) (z / 2)
+    unfolding splitBody blockOf
+    kept-is = ap (λ (v : Voxel). isKept blocks (index (halved s) (halfOf v))) is
+
+    in-grid : InGrid (halved s) (halfOf u)
+    unfolding halved
+    in-grid =
+        let R = row-of s n r (P .sides) (P .statuses) h in
+        record { x-in = omega (arith, P .a-even); y-in = omega (arith, P .b-even, R .y-in); z-in = omega (arith, P .c-even, R .z-in) }
+
+    -- a kept block lies off the border
+    kept-inner : kept k ≡ true → Inner (halved s) (halfOf u)
+    kept-inner e =
+        let j : ℕ = index (halved s) (halfOf u) in
+        let b = index-lt (halved s) (halfOf u) in-grid in
+        subst (Inner (halved s)) (voxel-index (halved s) (halfOf u) (in-grid .x-in) (in-grid .y-in))
+        (border-inner (halved s) j b (off j b (two (onBorder (halved s) j)) (sym kept-is ∙ e)))
+      where
+        off : (j : ℕ) → j < size (halved s) → (onBorder (halved s) j ≡ true) ⊎ (onBorder (halved s) j ≡ false) → isKept blocks j ≡ true
+            → onBorder (halved s) j ≡ false
+        off j b (inl o) e = not-both (isKept blocks j) e (P .border j b o)
+        off j b (inr o) e = o
+
+    own-is : isKept blocks (blockRow s (y / 2) (z / 2) + x / 2) ≡ kept k
+    unfolding halved index
+    own-is = ap (isKept blocks) (let e : blockRow s (y / 2) (z / 2) + x / 2 ≡ x / 2 + blockRow s (y / 2) (z / 2) = omega arith in e) ∙ sym kept-is
+
+    -- by the rule
+    exposed-is : kept k ≡ true → not (acrossKept s blocks u) ≡ exposed s kept k
+    unfolding exposed neighbourhood
+    exposed-is e =
+        sym (around s blocks u (kept-inner e) (sym kept-is ∙ e))
+        ∙ sym (ap (λ (v : Voxel). any (λ p. not (neighbourhoodOf s kept v p)) facePositions) is)
+
+    -- by the three blocks
+    pub byte-inner : pairByte dist blocks (s .a * r) (blockRow s (y / 2) (z / 2)) (blockRow s (across y) (z / 2)) (blockRow s (y / 2) (across z)) k
+        ≡ byteOf s dist kept k
+    unfolding pairByte byteOf
+    byte-inner = same-byte (kept k) (isInside dist k) own-is (λ e. near e ∙ exposed-is e)
+      where
+        near : kept k ≡ true
+            → not (isKept blocks (blockRow s (y / 2) (across z) + x / 2)
+            && (isKept blocks (blockRow s (across y) (z / 2) + x / 2) && isKept blocks (blockRow s (y / 2) (z / 2) + x / 2 + x % 2 * 2 - 1)))
+            ≡ not (acrossKept s blocks u)
+        near e =
+            unfold halved index in
+            let l = kept-inner e .x-low in
+            let p : blockRow s (y / 2) (across z) + x / 2 ≡ x / 2 + blockRow s (y / 2) (across z) = omega arith in
+            let q : blockRow s (across y) (z / 2) + x / 2 ≡ x / 2 + blockRow s (across y) (z / 2) = omega arith in
+            let t : blockRow s (y / 2) (z / 2) + x / 2 + x % 2 * 2 - 1 ≡ across x + blockRow s (y / 2) (z / 2) = omega arith in
+            λ i. not (isKept blocks (p i) && (isKept blocks (q i) && isKept blocks (t i)))
+
+    -- at the ends of the grid no block is kept
+    pub byte-edge : nearEnd (s .b) y || nearEnd (s .c) z ≡ true → 0 ≡ byteOf s dist kept k
+    unfolding byteOf
+    byte-edge e =
+        elim (two (kept k)) [
+          | inl o ↦ not-both (nearEnd (s .b) y || nearEnd (s .c) z) e (inside (kept-inner o))
+          | inr o ↦ sym (ap (λ (t : Bool). byteBy t (exposed s kept k) (isInside dist k)) o)
+        ]
+      where
+        inside : Inner (halved s) (halfOf u) → nearEnd (s .b) y || nearEnd (s .c) z ≡ false
+        inside n =
+            unfold halved in
+            let p = le-ltb y 2 (omega (arith, n .y-low)) in
+            let q = le-ltb (s .b) (y + 3) (omega (arith, n .y-high)) in
+            let v = le-ltb z 2 (omega (arith, n .z-low)) in
+            let w = le-ltb (s .c) (z + 3) (omega (arith, n .z-high)) in
+            λ i. (p i || q i) || (v i || w i)
+
+  -- ---- room for the blocks of the row
+
+  row-room : (y z : ℕ) → y < s .b / 2 → z < s .c / 2 → blockRow s y z + s .a / 2 ≤ length blocks
+  unfolding index halved
+  row-room y z p q =
+      let w : Voxel = record { x = s .a / 2 - 1; y = y; z = z } in
+      let f = fit s (P .sides) in
+      let g : InGrid (halved s) w = record { x-in = omega (arith, f .a-low); y-in = p; z-in = q } in
+      omega (arith, index-lt (halved s) w g, P .blocks-len, f .a-low)
+
+  pub paired : Inward s y z
+      → Paired n (length dist) (length blocks) (s .a * r) (blockRow s (y / 2) (z / 2)) (blockRow s (across y) (z / 2)) (blockRow s (y / 2) (across z)) (s .a / 2)
+  paired i =
+      let R = row-of s n r (P .sides) (P .statuses) h in
+      let few : 1 * 1 ≤ blockRow s (y / 2) (z / 2) =
+      mul-le-mul (let t : 1 ≤ s .a / 2 = omega (arith, R .a-low) in t) (let t : 1 ≤ y / 2 + s .b / 2 * (z / 2) = omega (arith, i .y-low) in t) in
+      let next : blockRow s (y / 2 + 1) (z / 2) ≡ blockRow s (y / 2) (z / 2) + s .a / 2 =
+      ap (λ (n : ℕ). s .a / 2 * n) (let t : y / 2 + 1 + s .b / 2 * (z / 2) ≡ y / 2 + s .b / 2 * (z / 2) + 1 = omega arith in t)
+      ∙ rows-more (s .a / 2) (y / 2 + s .b / 2 * (z / 2)) in
+      record {
+        room = omega (arith, R .last, P .a-even);
+        measured = P .distances ∙ sym (P .statuses);
+        own-low = omega arith;
+        own-in = omega (arith, row-room (y / 2 + 1) (z / 2) (omega (arith, i .y-high)) (omega (arith, i .z-high)), R .a-low);
+        beside-in = row-room (across y) (z / 2) (omega (arith, i .y-high)) (omega (arith, i .z-high));
+        above-in = row-room (y / 2) (across z) (omega (arith, i .y-high)) (omega (arith, i .z-high));
+      }
+
+-- ---- all voxels
+
+-- where S is the voxels of negative distance, those are the rule's bytes
+pub split-start : (s : Sides) (dist : List ℤ) (S : List ℕ) (kept : ℕ → Bool) → ((i : ℕ) → i < size s → isInside dist i ≡ isIn S i)
+    → map (byteOf s dist kept) (voxels s) ≡ startStatus s unmarked S kept
+unfolding voxels byteOf startStatus statusAt waitsFirst
+split-start s dist S kept signs =
+    map-same (byteOf s dist kept) (statusAt s unmarked S kept) 0 (size s)
+    (λ k h. ap (λ (t : Bool). byteBy (kept k) (exposed s kept k) t) (signs k h))
