@@ -9,7 +9,7 @@ use native.Mathlib.Decide.{decLt}
 use native.Mathlib.Nat.{mul-le-mul}
 use lib.Dec.{ltb}
 use lib.IntN.{ℤ}
-use lib.ListN.{length}
+use lib.ListN.{length, set}
 use borrow.Author.Tests.{ltb-false, le-ltb}
 use Rattle.cells.specs.Groups.{any}
 use Rattle.prelude.proofs.Bools.{two, not-both, and-one, or-false}
@@ -19,11 +19,14 @@ use Rattle.rules.specs.Begin.{exposed, waitsFirst, statusAt, startStatus}
 use Rattle.rules.specs.Marks.{unmarked}
 use Rattle.rules.specs.Status.{isKept}
 use Rattle.rules.specs.Machine.{isInside}
-use Rattle.rules.proofs.Places.{InGrid, fit, voxel-index, index-lt}
+use Rattle.rules.proofs.Places.{InGrid, voxel-index, index-lt}
 use Rattle.rules.proofs.Topology.Around.{Inner, neighbour-at, neighbourhood-at}
 use Rattle.rules.proofs.Topology.Start.{border-inner}
+use Rattle.loops.specs.InPlace.{Each}
+use Rattle.loops.specs.Rows.{Row}
+use Rattle.loops.proofs.InPlace.{each-more}
 use Rattle.loops.proofs.Below.{map-same}
-use Rattle.loops.proofs.Rows.{row-voxel, row-of, rows-more}
+use Rattle.loops.proofs.Rows.{row-voxel, rows-more}
 use Rattle.coarse.specs.Blocks.{halved, halfOf, blockOf, splitBody}
 use Rattle.coarse.specs.Coarse.{nearEnd}
 use Rattle.splitting.specs.Split.{byteBy, byteOf, Splittable, across, blockRow, Paired, pairByte}
@@ -116,6 +119,34 @@ module _ (s : Sides) (blocks : List ℕ) where
 
 -- ---- a row of voxels
 
+-- the two voxels of each block before b, and those of b
+module _ (dist : List ℤ) (blocks : List ℕ) (first own beside above b : ℕ) where
+  abbrev pub f : ℕ → ℕ → ℕ
+  f k d = pairByte dist blocks first own beside above k
+
+  -- the byte by the places of four blocks
+  abbrev pub byPlace : ℕ → ℕ → ℕ
+  byPlace k left =
+      byteBy (isKept blocks (own + b)) (not (isKept blocks (above + b) && (isKept blocks (beside + b) && isKept blocks left))) (isInside dist k)
+
+  by-place : (o k left : ℕ) → o < 2 → k ≡ first + (2 * b + o) → left ≡ own + b + o * 2 - 1 → byPlace k left ≡ pairByte dist blocks first own beside above k
+  unfolding pairByte
+  by-place o k left l e g =
+      let p : b ≡ (k - first) / 2 = omega arith in
+      let q : left ≡ own + (k - first) / 2 + (k - first) % 2 * 2 - 1 = omega arith in
+      λ i. byteBy (isKept blocks (own + p i)) (not (isKept blocks (above + p i) && (isKept blocks (beside + p i) && isKept blocks (q i)))) (isInside dist k)
+
+  pub pairs-more : (start now : List ℕ) (u v : ℕ) → first + 2 * b + 1 < length start → Each 0 f first (first + 2 * b) start now
+      → u ≡ byPlace (first + 2 * b) (own + b - 1) → v ≡ byPlace (first + 2 * b + 1) (own + b + 1)
+      → Each 0 f first (first + 2 * (b + 1)) start (set (set now (first + 2 * b) u) (first + 2 * b + 1) v)
+  pairs-more start now u v h E e g =
+      let i : ℕ = first + 2 * b in
+      let next = set now i u in
+      subst (λ (n : ℕ). Each 0 f first n start (set next (i + 1) v)) (let t : i + 1 + 1 ≡ first + 2 * (b + 1) = omega arith in t)
+      (each-more 0 f first (i + 1) start next v (omega arith) h
+      (each-more 0 f first i start now u (omega arith) (omega arith) E (e ∙ by-place 0 i (own + b - 1) (omega arith) (omega arith) (omega arith)))
+      (g ∙ by-place 1 (i + 1) (own + b + 1) (omega arith) (omega arith) (omega arith)))
+
 -- whether a voxel is exposed matters where it is kept
 same-byte : {j : Bool} (k i : Bool) {p q : Bool} → j ≡ k → (k ≡ true → p ≡ q) → byteBy j p i ≡ byteBy k q i
 same-byte k i {p} {q} e f = ap (λ (t : Bool). byteBy t p i) e ∙ go k f
@@ -143,7 +174,7 @@ inward s y z e =
       z-high = ltb-false (s .c) (z + 3) (r .1);
     }
 
-module _ (s : Sides) (dist : List ℤ) (blocks : List ℕ) (n : ℕ) (P : Splittable s dist blocks n) (r : ℕ) (h : r < s .b * s .c) where
+module _ (s : Sides) (dist : List ℤ) (blocks : List ℕ) (n : ℕ) (P : Splittable s dist blocks n) (r : ℕ) (R : Row s n r) where
   abbrev y : ℕ
   y = r % s .b
 
@@ -170,7 +201,6 @@ module _ (s : Sides) (dist : List ℤ) (blocks : List ℕ) (n : ℕ) (P : Splitt
     in-grid : InGrid (halved s) (halfOf u)
     unfolding halved
     in-grid =
-        let R = row-of s n r (P .sides) (P .statuses) h in
         record { x-in = omega (arith, P .a-even); y-in = omega (arith, P .b-even, R .y-in); z-in = omega (arith, P .c-even, R .z-in) }
 
     -- a kept block lies off the border
@@ -186,34 +216,12 @@ module _ (s : Sides) (dist : List ℤ) (blocks : List ℕ) (n : ℕ) (P : Splitt
         off j b (inl o) e = not-both (isKept blocks j) e (P .border j b o)
         off j b (inr o) e = o
 
-    own-is : isKept blocks (blockRow s (y / 2) (z / 2) + x / 2) ≡ kept k
-    unfolding halved index
-    own-is = ap (isKept blocks) (let e : blockRow s (y / 2) (z / 2) + x / 2 ≡ x / 2 + blockRow s (y / 2) (z / 2) = omega arith in e) ∙ sym kept-is
-
     -- by the rule
     exposed-is : kept k ≡ true → not (acrossKept s blocks u) ≡ exposed s kept k
     unfolding exposed neighbourhood
     exposed-is e =
         sym (around s blocks u (kept-inner e) (sym kept-is ∙ e))
         ∙ sym (ap (λ (v : Voxel). any (λ p. not (neighbourhoodOf s kept v p)) facePositions) is)
-
-    -- by the three blocks
-    pub byte-inner : pairByte dist blocks (s .a * r) (blockRow s (y / 2) (z / 2)) (blockRow s (across y) (z / 2)) (blockRow s (y / 2) (across z)) k
-        ≡ byteOf s dist kept k
-    unfolding pairByte byteOf
-    byte-inner = same-byte (kept k) (isInside dist k) own-is (λ e. near e ∙ exposed-is e)
-      where
-        near : kept k ≡ true
-            → not (isKept blocks (blockRow s (y / 2) (across z) + x / 2)
-            && (isKept blocks (blockRow s (across y) (z / 2) + x / 2) && isKept blocks (blockRow s (y / 2) (z / 2) + x / 2 + x % 2 * 2 - 1)))
-            ≡ not (acrossKept s blocks u)
-        near e =
-            unfold halved index in
-            let l = kept-inner e .x-low in
-            let p : blockRow s (y / 2) (across z) + x / 2 ≡ x / 2 + blockRow s (y / 2) (across z) = omega arith in
-            let q : blockRow s (across y) (z / 2) + x / 2 ≡ x / 2 + blockRow s (across y) (z / 2) = omega arith in
-            let t : blockRow s (y / 2) (z / 2) + x / 2 + x % 2 * 2 - 1 ≡ across x + blockRow s (y / 2) (z / 2) = omega arith in
-            λ i. not (isKept blocks (p i) && (isKept blocks (q i) && isKept blocks (t i)))
 
     -- at the ends of the grid no block is kept
     pub byte-edge : nearEnd (s .b) y || nearEnd (s .c) z ≡ true → 0 ≡ byteOf s dist kept k
@@ -233,33 +241,45 @@ module _ (s : Sides) (dist : List ℤ) (blocks : List ℕ) (n : ℕ) (P : Splitt
             let w = le-ltb (s .c) (z + 3) (omega (arith, n .z-high)) in
             λ i. (p i || q i) || (v i || w i)
 
-  -- ---- room for the blocks of the row
+  -- the rows of blocks
+  module _ (own beside above : ℕ) (o : own ≡ blockRow s (y / 2) (z / 2)) (b : beside ≡ blockRow s (across y) (z / 2))
+      (t : above ≡ blockRow s (y / 2) (across z)) where
+    pub byte-inner : (k : ℕ) → s .a * r ≤ k → k < s .a * r + s .a → pairByte dist blocks (s .a * r) own beside above k ≡ byteOf s dist kept k
+    unfolding pairByte byteOf halved index
+    byte-inner k low high =
+        let x : ℕ = k - s .a * r in
+        let p : own + x / 2 ≡ x / 2 + blockRow s (y / 2) (z / 2) = omega arith in
+        let q : beside + x / 2 ≡ x / 2 + blockRow s (across y) (z / 2) = omega arith in
+        let w : above + x / 2 ≡ x / 2 + blockRow s (y / 2) (across z) = omega arith in
+        same-byte (kept k) (isInside dist k) (ap (isKept blocks) p ∙ sym (kept-is k low high))
+        (λ e.
+        let l = kept-inner k low high e .x-low in
+        let v : own + x / 2 + x % 2 * 2 - 1 ≡ across x + blockRow s (y / 2) (z / 2) = omega arith in
+        (λ i. not (isKept blocks (w i) && (isKept blocks (q i) && isKept blocks (v i)))) ∙ exposed-is k low high e)
 
-  row-room : (y z : ℕ) → y < s .b / 2 → z < s .c / 2 → blockRow s y z + s .a / 2 ≤ length blocks
-  unfolding index halved
-  row-room y z p q =
-      let w : Voxel = record { x = s .a / 2 - 1; y = y; z = z } in
-      let f = fit s (P .sides) in
-      let g : InGrid (halved s) w = record { x-in = omega (arith, f .a-low); y-in = p; z-in = q } in
-      omega (arith, index-lt (halved s) w g, P .blocks-len, f .a-low)
+    -- room for them
+    row-room : (y z : ℕ) → y < s .b / 2 → z < s .c / 2 → blockRow s y z + s .a / 2 ≤ length blocks
+    unfolding index halved
+    row-room y z p q =
+        let w : Voxel = record { x = s .a / 2 - 1; y = y; z = z } in
+        let g : InGrid (halved s) w = record { x-in = omega (arith, R .a-low); y-in = p; z-in = q } in
+        omega (arith, index-lt (halved s) w g, P .blocks-len, R .a-low)
 
-  pub paired : Inward s y z
-      → Paired n (length dist) (length blocks) (s .a * r) (blockRow s (y / 2) (z / 2)) (blockRow s (across y) (z / 2)) (blockRow s (y / 2) (across z)) (s .a / 2)
-  paired i =
-      let R = row-of s n r (P .sides) (P .statuses) h in
-      let few : 1 * 1 ≤ blockRow s (y / 2) (z / 2) =
-      mul-le-mul (let t : 1 ≤ s .a / 2 = omega (arith, R .a-low) in t) (let t : 1 ≤ y / 2 + s .b / 2 * (z / 2) = omega (arith, i .y-low) in t) in
-      let next : blockRow s (y / 2 + 1) (z / 2) ≡ blockRow s (y / 2) (z / 2) + s .a / 2 =
-      ap (λ (n : ℕ). s .a / 2 * n) (let t : y / 2 + 1 + s .b / 2 * (z / 2) ≡ y / 2 + s .b / 2 * (z / 2) + 1 = omega arith in t)
-      ∙ rows-more (s .a / 2) (y / 2 + s .b / 2 * (z / 2)) in
-      record {
-        room = omega (arith, R .last, P .a-even);
-        measured = P .distances ∙ sym (P .statuses);
-        own-low = omega arith;
-        own-in = omega (arith, row-room (y / 2 + 1) (z / 2) (omega (arith, i .y-high)) (omega (arith, i .z-high)), R .a-low);
-        beside-in = row-room (across y) (z / 2) (omega (arith, i .y-high)) (omega (arith, i .z-high));
-        above-in = row-room (y / 2) (across z) (omega (arith, i .y-high)) (omega (arith, i .z-high));
-      }
+    pub paired : Inward s y z → Paired n (length dist) (length blocks) (s .a * r) own beside above (s .a / 2)
+    paired i =
+        let few : 1 * 1 ≤ blockRow s (y / 2) (z / 2) =
+        mul-le-mul (let g : 1 ≤ s .a / 2 = omega (arith, R .a-low) in g) (let g : 1 ≤ y / 2 + s .b / 2 * (z / 2) = omega (arith, i .y-low) in g) in
+        let next : blockRow s (y / 2 + 1) (z / 2) ≡ blockRow s (y / 2) (z / 2) + s .a / 2 =
+        ap (λ (n : ℕ). s .a / 2 * n) (let g : y / 2 + 1 + s .b / 2 * (z / 2) ≡ y / 2 + s .b / 2 * (z / 2) + 1 = omega arith in g)
+        ∙ rows-more (s .a / 2) (y / 2 + s .b / 2 * (z / 2)) in
+        record {
+          room = omega (arith, R .last, P .a-even);
+          measured = P .distances ∙ sym (P .statuses);
+          own-low = omega arith;
+          own-in = omega (arith, row-room (y / 2 + 1) (z / 2) (omega (arith, i .y-high)) (omega (arith, i .z-high)), R .a-low);
+          beside-in = omega (arith, row-room (across y) (z / 2) (omega (arith, i .y-high)) (omega (arith, i .z-high)));
+          above-in = omega (arith, row-room (y / 2) (across z) (omega (arith, i .y-high)) (omega (arith, i .z-high)));
+        }
 
 -- ---- all voxels
 

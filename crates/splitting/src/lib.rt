@@ -5,13 +5,14 @@ use rules::Sides;
 ghost use mathlib.Core.Path.{_≡_};
 ghost use mathlib.Core.Bool.{not, _&&_};
 ghost use mathlib.Core.List.{map};
-ghost use Prim.Native.Nat.{_+_, _*_, _≤_, _<_};
+ghost use Prim.Native.Nat.{_+_, _*_, _≤_};
 ghost use lib.ListN.{length};
 ghost use Rattle.rules.specs.Grid.{voxels, isNegative};
 ghost use Rattle.rules.specs.Status.{keptByte, isKept};
 ghost use Rattle.rules.specs.Machine.{isInside};
 ghost use Rattle.coarse.specs.Blocks.{splitBody};
 ghost use Rattle.loops.specs.InPlace.{Each};
+ghost use Rattle.loops.specs.Rows.{Row};
 ghost use Rattle.splitting.specs.Split.{across as acrossOf, blockRow, Small, byteBy, byteOf, Near, Paired, pairByte, Splittable};
 
 // Along an axis, the block across the outer face of a voxel: before its own where the coordinate is even, after it where it is odd.
@@ -70,8 +71,11 @@ fn pairs(
     let mut b = 0;
     while b < count {
         let i = first + 2 * b;
-        let u = byte_at(dist, blocks, i, own + b, own + b - 1, beside + b, above + b);
-        let v = byte_at(dist, blocks, i + 1, own + b, own + b + 1, beside + b, above + b);
+        let o = own + b;
+        let y = beside + b;
+        let z = above + b;
+        let u = byte_at(dist, blocks, i, o, o - 1, y, z);
+        let v = byte_at(dist, blocks, i + 1, o, o + 1, y, z);
         status[i] = u;
         status[i + 1] = v;
         b += 1;
@@ -92,7 +96,7 @@ fn clear(status: &mut [u8], first: usize, end: usize)
 
 // A row of voxels: blocks on the border are not kept.
 fn split_row(status: &mut [u8], dist: &[i32], blocks: &[u8], s: Sides, row: usize)
-    requires { ⌜ Splittable s (now dist) (now blocks) (length (now status)) × (row < s .b * s .c) ⌝ }
+    requires { ⌜ Splittable s (now dist) (now blocks) (length (now status)) × Row s (length (now status)) row ⌝ }
     ensures { λ _. ⌜ Each 0 (λ k d. byteOf s (now (dist .entry)) (splitBody s (now (blocks .entry))) k) (s .a * row) (s .a * row + s .a)
         (now (status .entry)) (now (status .exit)) ⌝ }
 {

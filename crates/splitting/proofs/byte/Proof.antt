@@ -1,37 +1,59 @@
+-- `byte` by its three tests.
+use mathlib.Core.Path.{_≡_, refl, _∙_}
+use mathlib.Core.Bool.{Bool, true, false, not, _&&_}
+use Prim.Native.Nat.{_+_, _*_, _≤_}
+use native.Mathlib.Omega.{arith}
+use lib.IntN.{pos}
+use lib.Signed.{ltZ}
+use mir.Syntax.{w32}
+use mir.Val.{boolByte, toZ, ofZ}
 use borrow.Author.Needs.{needs}
+use Rattle.prelude.proofs.Signs.{held-negative}
+use Rattle.status.proofs.Bytes.{as-number}
+use Rattle.splitting.specs.Split.{byteBy}
 use Rattle.splitting.proofs.byte.Statement.{statement}
 use Rattle.splitting.proofs.byte.Tie as tie
-use Rattle.splitting.proofs.byte.Reads as reads
-use Rattle.splitting.proofs.byte.Lts as lts
-use Rattle.status.proofs.is_kept.Reads as is-kept-reads
 
--- src/lib.rt:38:9
+made : (kept exposed inner : Bool) → boolByte kept + 2 * boolByte (kept && (exposed && not inner)) ≡ byteBy kept exposed inner
+made false exposed inner = refl
+made true false false = refl
+made true false true = refl
+made true true false = refl
+made true true true = refl
+
+few : (t : Bool) → boolByte t ≤ 1
+few t = as-number t refl .1
+
+-- the tests at hand
+abbrev negative : tie.After-is-kept2 → Bool
+negative c = ltZ (toZ w32 (ofZ w32 (c .before .before .args .d))) (pos 0)
+
+abbrev waits : tie.After-is-kept2 → Bool
+waits c = c .before .is-kept .result && (not (c .is-kept2 .result) && not (negative c))
+
 is-kept-requires : tie.Need-is-kept-requires
 is-kept-requires c κs = search needs
 
--- src/lib.rt:39:26
 is-kept-requires-2 : tie.Need-is-kept-requires-2
 is-kept-requires-2 c κs = search needs
 
--- src/lib.rt:40:5
 cast-result : tie.Need-cast-result
 cast-result c = search needs
 
--- src/lib.rt:40:23
 cast-result-2 : tie.Need-cast-result-2
 cast-result-2 c = search needs
 
--- src/lib.rt:40:18
 mul-result : tie.Need-mul-result
-mul-result c = ?
+mul-result c = record { fits = omega (arith, few (waits c)) }
 
--- src/lib.rt:40:5
 add-result : tie.Need-add-result
-add-result c = ?
+add-result c = record { fits = omega (arith, few (c .before .is-kept .result), few (waits c)) }
 
--- src/lib.rt:35:1
 returns : tie.Need-returns
-returns c = ?
+returns c =
+    let k = c .before in
+    let n = held-negative (k .before .fits .d) in
+    made (k .is-kept .result) (not (c .is-kept2 .result)) (negative c) ∙ (λ i. byteBy (k .is-kept .ensures i) (not (c .is-kept2 .ensures i)) (n i))
 
 pub byte-spec : {M : Type 1} → statement M
 byte-spec =

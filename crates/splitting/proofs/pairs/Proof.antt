@@ -1,110 +1,104 @@
+-- `pairs`: the voxels of the blocks before b are done.
+use mathlib.Core.Path.{_≡_, subst}
+use Prim.Native.Nat.{ℕ, _+_, _*_, _-_, _≤_}
+use native.Mathlib.Omega.{arith}
+use lib.ListN.{length-set}
+use borrow.Author.Needs.{needs}
+use Rattle.loops.specs.InPlace.{Each}
+use Rattle.loops.proofs.InPlace.{each-none}
+use Rattle.splitting.specs.Split.{pairByte}
+use Rattle.splitting.proofs.Splitting.{pairs-more}
 use Rattle.splitting.proofs.pairs.Statement.{statement}
 use Rattle.splitting.proofs.pairs.Tie as tie
-use Rattle.splitting.proofs.pairs.Reads as reads
-use Rattle.splitting.proofs.pairs.Lts as lts
-use Rattle.splitting.proofs.byte_at.Reads as byte-at-reads
 
 abbrev Inv-loop : tie.InvT-loop
-Inv-loop status₀ dist blocks first own beside above count b₀ status b = ?
+Inv-loop status₀ dist blocks first own beside above count b₀ status b =
+    (b ≤ count) × Each 0 (λ k d. pairByte dist blocks first own beside above k) first (first + 2 * b) status₀ status
 
 abbrev μ-loop : tie.MeasureT-loop
-μ-loop status₀ dist blocks first own beside above count b₀ status b = ?
+μ-loop status₀ dist blocks first own beside above count b₀ status b = count - b
 
--- src/lib.rt:71:5
+abbrev begun : tie.At-loop Inv-loop μ-loop → tie.Start Inv-loop μ-loop
+begun c = c .before .before .before
+
 loop-holds : tie.Need-loop-holds Inv-loop μ-loop
-loop-holds c = ?
+loop-holds c = (omega arith, each-none _ _ _ _ _ (omega arith))
 
--- src/lib.rt:72:25
 mul-i : tie.Need-mul-i Inv-loop μ-loop
-mul-i c = ?
+mul-i c = let p = begun (c .before) .pre in search needs
 
--- src/lib.rt:72:17
 add-i : tie.Need-add-i Inv-loop μ-loop
-add-i c = ?
+add-i c = let p = begun (c .before) .pre in search needs
 
--- src/lib.rt:73:42
-add-byte-at : tie.Need-add-byte-at Inv-loop μ-loop
-add-byte-at c = ?
+add-o : tie.Need-add-o Inv-loop μ-loop
+add-o c = let p = begun (c .before) .pre in search needs
 
--- src/lib.rt:73:51
-add-byte-at-2 : tie.Need-add-byte-at-2 Inv-loop μ-loop
-add-byte-at-2 c = ?
+add-y : tie.Need-add-y Inv-loop μ-loop
+add-y c = let p = begun (c .before) .pre in search needs
 
--- src/lib.rt:73:51
+add-z : tie.Need-add-z Inv-loop μ-loop
+add-z c = let p = begun (c .before) .pre in search needs
+
 sub-byte-at : tie.Need-sub-byte-at Inv-loop μ-loop
-sub-byte-at c = ?
+sub-byte-at c = let p = begun (c .before) .pre in search needs
 
--- src/lib.rt:73:64
-add-byte-at-3 : tie.Need-add-byte-at-3 Inv-loop μ-loop
-add-byte-at-3 c = ?
-
--- src/lib.rt:73:76
-add-byte-at-4 : tie.Need-add-byte-at-4 Inv-loop μ-loop
-add-byte-at-4 c = ?
-
--- src/lib.rt:73:13
 byte-at-requires : tie.Need-byte-at-requires Inv-loop μ-loop
-byte-at-requires c κs = ?
+byte-at-requires c κs = let p = begun (c .before) .pre in search needs
 
--- src/lib.rt:74:39
-add-byte-at-5 : tie.Need-add-byte-at-5 Inv-loop μ-loop
-add-byte-at-5 c = ?
+add-byte-at : tie.Need-add-byte-at Inv-loop μ-loop
+add-byte-at c = let p = begun (c .before .before) .pre in search needs
 
--- src/lib.rt:74:46
-add-byte-at-6 : tie.Need-add-byte-at-6 Inv-loop μ-loop
-add-byte-at-6 c = ?
+add-byte-at-2 : tie.Need-add-byte-at-2 Inv-loop μ-loop
+add-byte-at-2 c = let p = begun (c .before .before) .pre in search needs
 
--- src/lib.rt:74:55
-add-byte-at-7 : tie.Need-add-byte-at-7 Inv-loop μ-loop
-add-byte-at-7 c = ?
-
--- src/lib.rt:74:55
-add-byte-at-8 : tie.Need-add-byte-at-8 Inv-loop μ-loop
-add-byte-at-8 c = ?
-
--- src/lib.rt:74:68
-add-byte-at-9 : tie.Need-add-byte-at-9 Inv-loop μ-loop
-add-byte-at-9 c = ?
-
--- src/lib.rt:74:80
-add-byte-at-10 : tie.Need-add-byte-at-10 Inv-loop μ-loop
-add-byte-at-10 c = ?
-
--- src/lib.rt:74:13
 byte-at-requires-2 : tie.Need-byte-at-requires-2 Inv-loop μ-loop
-byte-at-requires-2 c κs = ?
+byte-at-requires-2 c κs = let p = begun (c .before .before) .pre in search needs
 
--- src/lib.rt:75:9
 slice-write-status : tie.Need-slice-write-status Inv-loop μ-loop
-slice-write-status c = ?
+slice-write-status c = let l = c .before .before .before in let p = begun l .pre in omega (arith, l .loop .inv .1 .len, c .before .before .loop-test .taken)
 
--- src/lib.rt:76:16
 add-status : tie.Need-add-status Inv-loop μ-loop
-add-status c = ?
+add-status c = let p = begun (c .before .before .before) .pre in search needs
 
--- src/lib.rt:76:9
 slice-write-status-2 : tie.Need-slice-write-status-2 Inv-loop μ-loop
-slice-write-status-2 c = ?
+slice-write-status-2 c =
+    let l = c .before .before .before in
+    let p = begun l .pre in
+    omega (
+      arith,
+      length-set (l .loop .status) (begun l .args .first + 2 * l .loop .b) (c .before .byte-at .result),
+      l .loop .inv .1 .len,
+      c .before .before .loop-test .taken,
+    )
 
--- src/lib.rt:77:9
 add-b : tie.Need-add-b Inv-loop μ-loop
-add-b c = ?
+add-b c = search needs
 
--- src/lib.rt:71:5
 loop-less : tie.Need-loop-less Inv-loop μ-loop
-loop-less c = ?
+loop-less c = search needs
 
--- src/lib.rt:71:5
 loop-again : tie.Need-loop-again Inv-loop μ-loop
-loop-again c = ?
+loop-again c =
+    let t = c .before .before in
+    let l = t .before in
+    let s = begun l in
+    let a = s .args in (
+      omega (arith, t .loop-test .taken),
+      pairs-more (a .dist .now) (a .blocks .now) (a .first) (a .own) (a .beside) (a .above) (l .loop .b) (a .status .now) (l .loop .status)
+          (c .before .byte-at .result) (c .byte-at2 .result) (omega (arith, t .loop-test .taken, s .pre .room)) (l .loop .inv .1)
+          (c .before .byte-at .ensures) (c .byte-at2 .ensures),
+    )
 
--- src/lib.rt:56:1
 same-length : tie.Need-same-length Inv-loop μ-loop
-same-length c = ?
+same-length c = c .before .loop .inv .1 .len
 
--- src/lib.rt:56:1
 returns : tie.Need-returns Inv-loop μ-loop
-returns c = ?
+returns c =
+    let l = c .before in
+    let a = begun l .args in
+    subst (λ (n : ℕ). Each 0 (λ k d. pairByte (a .dist .now) (a .blocks .now) (a .first) (a .own) (a .beside) (a .above) k) (a .first) (a .first + 2 * n)
+    (a .status .now) (l .loop .status))
+    (let e : l .loop .b ≡ a .count = omega (arith, c .loop-test .left, l .loop .inv .0) in e) (l .loop .inv .1)
 
 pub pairs-spec : {M : Type 1} → statement M
 pairs-spec =
@@ -115,18 +109,13 @@ pairs-spec =
     loop-holds
     mul-i
     add-i
+    add-o
+    add-y
+    add-z
+    sub-byte-at
+    byte-at-requires
     add-byte-at
     add-byte-at-2
-    sub-byte-at
-    add-byte-at-3
-    add-byte-at-4
-    byte-at-requires
-    add-byte-at-5
-    add-byte-at-6
-    add-byte-at-7
-    add-byte-at-8
-    add-byte-at-9
-    add-byte-at-10
     byte-at-requires-2
     slice-write-status
     add-status
