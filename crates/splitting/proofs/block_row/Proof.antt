@@ -13,7 +13,10 @@ rows-few s y z m = omega (arith, mul-le-mul (let t : s .b / 2 ≤ 32 = omega (ar
 
 row-few : (s : Sides) (y z : ℕ) → Small s y z → blockRow s y z ≤ 67584
 row-few s y z m =
-    omega (arith, mul-le-mul (let t : s .a / 2 ≤ 32 = omega (arith, m .a-few) in t) (let t : y + s .b / 2 * z ≤ 2112 = omega (arith, m .y-few, rows-few s y z m) in t))
+    omega (
+      arith,
+      mul-le-mul (let t : s .a / 2 ≤ 32 = omega (arith, m .a-few) in t) (let t : y + s .b / 2 * z ≤ 2112 = omega (arith, m .y-few, rows-few s y z m) in t),
+    )
 
 mul-result : tie.Need-mul-result
 mul-result c = let s = c .before .before in let q = rows-few (s .args .s) (s .args .y) (s .args .z) (s .pre) in search needs

@@ -53,7 +53,9 @@ returns : tie.Need-returns
 returns c =
     let k = c .before in
     let n = held-negative (k .before .fits .d) in
-    made (k .is-kept .result) (not (c .is-kept2 .result)) (negative c) ∙ (λ i. byteBy (k .is-kept .ensures i) (not (c .is-kept2 .ensures i)) (n i))
+    let e = made (k .is-kept .result) (not (c .is-kept2 .result)) (negative c)
+    ∙ (λ i. byteBy (k .is-kept .ensures i) (not (c .is-kept2 .ensures i)) (n i)) in
+    omega arith
 
 pub byte-spec : {M : Type 1} → statement M
 byte-spec =
