@@ -35,22 +35,14 @@ marked-rule true false false true false = refl
 marked-rule true false false false true = refl
 marked-rule true false false false false = refl
 
-module _ (s : Sides) (values : List ℤ) (marks : List ℕ) where
-  abbrev S : List ℕ
-  S = inside s values
-
-  abbrev kept : ℕ → Bool
-  kept = inBox s S
-
-  abbrev dist : List ℤ
-  dist = worked s values S
-
+-- of any body to start from, where the distances are negative at the voxels of S
+module _ (s : Sides) (S : List ℕ) (kept : ℕ → Bool) (dist : List ℤ) (signs : (k : ℕ) → k < size s → isInside dist k ≡ isIn S k) (marks : List ℕ) where
   marked-same : (k : ℕ) → k < size s → markedStatusAt dist (marked marks) k (statusAt s unmarked S kept k) ≡ statusAt s (marked marks) S kept k
   unfolding markedStatus statusAt waitsFirst isInside
   marked-same k h =
       let m = marked marks in
       let y = cond {A = ℕ} (kept k) (cond (not (isIn S k) && exposed s kept k) 3 1) 0 in
-      ap (λ (t : Bool). cond (t || eqb y 0) y (cond (m .hurried k) 3 (cond (m .pinned k) 1 y))) (worked-signs s values k h)
+      ap (λ (t : Bool). cond (t || eqb y 0) y (cond (m .hurried k) 3 (cond (m .pinned k) 1 y))) (signs k h)
       ∙ marked-rule (kept k) (isIn S k) (m .hurried k) (m .pinned k) (exposed s kept k)
 
   -- beyond the last mark nothing is asked
@@ -60,10 +52,10 @@ module _ (s : Sides) (values : List ℤ) (marks : List ℕ) where
       ap (λ (t : ℕ). cond (kept k) (cond (not (isIn S k) && (hurriedMark t || (not (pinnedMark t) && exposed s kept k))) 3 1) 0)
       (sym (List·getD-eq-default marks 0 h))
 
-  pub marked-is : length marks ≤ size s → (before after : List ℕ) → before ≡ startStatus s unmarked S kept
+  pub marked-is : (before after : List ℕ) → before ≡ startStatus s unmarked S kept
       → Each 0 (markedStatusAt dist (marked marks)) 0 (length marks) before after → after ≡ startStatus s (marked marks) S kept
   unfolding startStatus voxels
-  marked-is n before after e E =
+  marked-is before after e E =
       is-map-range (statusAt s (marked marks) S kept) 0 (size s) after (E .len ∙ ap length e ∙ length-map-range (statusAt s unmarked S kept) (size s))
       (λ k h.
       (let was : getD before k 0 ≡ statusAt s unmarked S kept k =
@@ -73,12 +65,14 @@ module _ (s : Sides) (values : List ℤ) (marks : List ℕ) where
         | inr t ↦ E .outside k (λ q. ltb-false k _ t) ∙ was ∙ beyond k (ltb-false k _ t)
       ]))
 
-  pub worked-with : length marks ≤ size s → (d : List ℤ) (before after : List ℕ) → WorkedOut s unmarked values d before
-      → Each 0 (markedStatusAt d (marked marks)) 0 (length marks) before after → WorkedOut s (marked marks) values d after
-  worked-with n d before after w E =
-      record {
-        distances = w .distances;
-        statuses =
-            marked-is n before after (w .statuses)
-            (subst (λ (l : List ℤ). Each 0 (markedStatusAt l (marked marks)) 0 (length marks) before after) (w .distances) E);
-      }
+-- of the box
+pub worked-with : (s : Sides) (values : List ℤ) (marks : List ℕ) (d : List ℤ) (before after : List ℕ) → WorkedOut s unmarked values d before
+    → Each 0 (markedStatusAt d (marked marks)) 0 (length marks) before after → WorkedOut s (marked marks) values d after
+worked-with s values marks d before after w E =
+    let S = inside s values in
+    record {
+      distances = w .distances;
+      statuses =
+          marked-is s S (inBox s S) (worked s values S) (worked-signs s values) marks before after (w .statuses)
+          (subst (λ (l : List ℤ). Each 0 (markedStatusAt l (marked marks)) 0 (length marks) before after) (w .distances) E);
+    }

@@ -4,67 +4,17 @@ use rules::Begun;
 use rules::Record;
 use rules::Sides;
 ghost use mathlib.Core.Path.{_≡_};
-ghost use Prim.Native.Nat.{_-_, _*_, _≤_};
+ghost use Prim.Native.Nat.{_≤_};
 ghost use lib.ListN.{length};
-ghost use Rattle.cells.specs.Groups.{any};
-ghost use Rattle.rules.specs.Grid.{size, range};
+ghost use Rattle.rules.specs.Grid.{size};
 ghost use Rattle.rules.specs.Fill.{filled};
 ghost use Rattle.rules.specs.Checks.{firstFailing};
-ghost use Rattle.rules.specs.Fit.{Sized};
 ghost use Rattle.rules.specs.Begin.{newRecord, beginChecks, begin as beginOf};
 ghost use Rattle.rules.specs.Answer.{outcome, buffers, begunAnswer};
 ghost use Rattle.rules.specs.Marks.{unmarked, marked};
-ghost use Rattle.loops.specs.Rows.{Row};
 ghost use Rattle.marks.specs.Lent.{All};
 ghost use Rattle.gaps.specs.Work.{Accepted};
-ghost use Rattle.beginning.specs.Work.{negativeAt, borderNegative, WorkedOut};
-
-// Whether a value from first up to end is measured and negative.
-fn any_negative(values: &[i32], first: usize, end: usize) -> bool
-    requires { ⌜ (first ≤ end) × (end ≤ length (now values)) ⌝ }
-    ensures { λ r. ⌜ r ≡ any (negativeAt (now (values .entry))) (range first (end - first)) ⌝ }
-{
-    let mut found = false;
-    let mut i = first;
-    while i < end {
-        let v = values[i];
-        found = found | values::negative(v);
-        i += 1;
-    }
-    found
-}
-
-// Whether a border voxel of a row is measured negative: its first or its last voxel, or any if the row lies on the border.
-fn border_row(sides: Sides, values: &[i32], row: usize) -> bool
-    requires { ⌜ Row sides (length (now values)) row ⌝ }
-    ensures { λ r. ⌜ r ≡ any (borderNegative sides (now (values .entry))) (range (sides .a * row) (sides .a)) ⌝ }
-{
-    let y = row % sides.b;
-    let z = row / sides.b;
-    let first = sides.a * row;
-    let last = first + sides.a - 1;
-    if ((y == 0) | (y + 1 == sides.b)) | ((z == 0) | (z + 1 == sides.c)) {
-        return any_negative(values, first, last + 1);
-    }
-    let v = values[first];
-    let w = values[last];
-    values::negative(v) | values::negative(w)
-}
-
-// Number 3: whether a border voxel is measured negative.
-fn border_negative(sides: Sides, values: &[i32]) -> bool
-    requires { ⌜ Sized sides (length (now values)) ⌝ }
-    ensures { λ r. ⌜ r ≡ any (borderNegative sides (now (values .entry))) (range 0 (size sides)) ⌝ }
-{
-    let rows = sides.b * sides.c;
-    let mut found = false;
-    let mut row = 0;
-    while row < rows {
-        found = found | border_row(sides, values, row);
-        row += 1;
-    }
-    found
-}
+ghost use Rattle.beginning.specs.Work.{Distanced, WorkedOut};
 
 // The number of the first check that fails, or 0.
 fn refusal(sides: Sides, values: &[i32], marks: &[u8], dist: &[i32], status: &[u8], all: u8) -> u8
@@ -76,35 +26,17 @@ fn refusal(sides: Sides, values: &[i32], marks: &[u8], dist: &[i32], status: &[u
         return 1;
     }
     let n = sizes::voxel_count(sides);
-    if values.len() != n {
-        return 2;
-    }
     if dist.len() != n {
         return 2;
     }
     if status.len() != n {
         return 2;
     }
-    if marks.len() != n {
-        return 2;
-    }
-    if values::any_beyond(values, 1000000000) {
-        return 28;
-    }
-    if 3 < all {
-        return 29;
-    }
-    if border_negative(sides, values) {
-        return 3;
-    }
-    if !any_negative(values, 0, n) {
-        return 4;
-    }
-    0
+    begin_checks::given_refusal(sides, values, marks, all)
 }
 
 // The record of a grid that was just begun: the kept voxels are a box, whose Euler number is 1.
-fn new_record(sides: Sides, allowed: u16) -> Record
+pub fn new_record(sides: Sides, allowed: u16) -> Record
     ensures { λ r. ⌜ r ≡ newRecord sides allowed ⌝ }
 {
     Record {
@@ -118,16 +50,24 @@ fn new_record(sides: Sides, allowed: u16) -> Record
     }
 }
 
-// The work on a grid that is not refused, with no mark.
-fn work_out(dist: &mut [i32], status: &mut [u8], sides: Sides, values: &[i32])
+// Steps 1 to 3 on a grid that is not refused: the worked distances, and for each voxel the number of steps to S.
+pub fn work_distances(dist: &mut [i32], status: &mut [u8], sides: Sides, values: &[i32])
     requires { ⌜ Accepted sides (now values) (length (now dist)) (length (now status)) ⌝ }
-    ensures { λ _. ⌜ WorkedOut sides unmarked (filled sides (now (values .entry))) (now (dist .exit)) (now (status .exit)) ⌝ }
+    ensures { λ _. ⌜ Distanced sides (filled sides (now (values .entry))) (now (dist .exit)) (now (status .exit)) ⌝ }
 {
     let far = (sides.a + sides.b + sides.c) as u8;
     components::find(status, dist, sides, values, far);
     distances::measure(status, sides);
     let m = values::greatest(values, status);
     values::fill(values, status, m, dist);
+}
+
+// The work on a grid that is not refused, with no mark.
+fn work_out(dist: &mut [i32], status: &mut [u8], sides: Sides, values: &[i32])
+    requires { ⌜ Accepted sides (now values) (length (now dist)) (length (now status)) ⌝ }
+    ensures { λ _. ⌜ WorkedOut sides unmarked (filled sides (now (values .entry))) (now (dist .exit)) (now (status .exit)) ⌝ }
+{
+    work_distances(dist, status, sides, values);
     let b = bounding_box::enclose(status, sides);
     bounding_box::settle(status, b, sides);
 }

@@ -1,6 +1,6 @@
 -- The status: of a row, of all rows, and by the rule.
 use mathlib.Core.Path.{_≡_, refl, sym, ap, ap₂, _∙_, subst}
-use mathlib.Core.Logic.{inl, inr, ⊎-elim}
+use mathlib.Core.Logic.{inl, inr}
 use mathlib.Core.Bool.{Bool, true, false, not, cond, _&&_, _||_}
 use mathlib.Core.List.{List, map}
 use Prim.Native.Nat.{ℕ, _+_, _-_, _*_, _/_, _%_, _≤_, _<_}
@@ -9,21 +9,19 @@ use lib.Dec.{eqb, leb}
 use lib.ListN.{length, getD, set, length-set}
 use lib.Seq.{getD-set-same, getD-set-other}
 use borrow.Author.Tests.{eq-eqb, ne-eqb, eqb-true, eqb-false, le-leb, leb-true, lt-leb}
-use Rattle.prelude.proofs.Bools.{two, and-true, true-and, both-ways, and-zero, and-one, or-one, or-zero}
+use Rattle.prelude.proofs.Bools.{two, and-true, true-and, both-ways, and-zero, and-one, or-one}
 use Rattle.rules.specs.declared.Sides.{Sides}
-use Rattle.rules.specs.Grid.{Voxel, range, size, voxel, voxels}
+use Rattle.rules.specs.Grid.{Voxel, fitSides, range, size, voxel, voxels}
 use Rattle.rules.specs.Marks.{unmarked}
-use Rattle.rules.specs.Begin.{isIn, distance, inBox, waitsFirst, statusAt, startStatus}
+use Rattle.rules.specs.Begin.{isIn, inBox, waitsFirst, statusAt, startStatus}
 use Rattle.rules.specs.Meaning.{SomeVoxels, Between}
-use Rattle.rules.proofs.Places.{Fit, fit, InGrid, voxel-in}
-use Rattle.rules.proofs.Distance.{in-eqb}
+use Rattle.rules.proofs.Places.{fit, InGrid, voxel-in}
 use Rattle.rules.proofs.Boxes.{box-boxed, boxed-box}
 use Rattle.loops.specs.InPlace.{Each}
 use Rattle.loops.proofs.InPlace.{each-join, each-as}
 use Rattle.loops.proofs.Below.{map-same}
-use Rattle.loops.proofs.Rows.{row-voxel}
 use Rattle.bounding_box.specs.declared.Bounds.{Bounds}
-use Rattle.bounding_box.specs.Bounds.{Spanned, Enclosed, Proper, reach, within, onSide, statusIn, statusBy, Cut, rowStatus, SettledRow}
+use Rattle.bounding_box.specs.Bounds.{Spanned, Enclosable, Enclosed, reach, within, onSide, statusIn, statusBy, Cut, rowStatus}
 use Rattle.bounding_box.proofs.Bounding.{in-row, low-reached, high-reached}
 use Rattle.bounding_box.proofs.Exposing.{exposed-side}
 
@@ -184,83 +182,87 @@ module _ (s : Sides) (b : Bounds) (r : ℕ) where
       ∙ ap (λ (t : Bool). cond (reach (b .x0) (b .x1) x && t) (cond (not (eqb d 0) && onSide b (here k)) 3 1) 0) e
       ∙ ap (λ (t : Bool). cond t (cond (not (eqb d 0) && onSide b (here k)) 3 1) 0) (and-one (reach (b .x0) (b .x1) x))))
 
--- ---- the box and the status of the distances
+-- ---- the box and the status of bytes that are 0 at the voxels of S
 
-module _ (s : Sides) (F : Fit s) (S : List ℕ) (some : SomeVoxels s S) (d : List ℕ) (len : length d ≡ size s)
-    (is : (k : ℕ) → k < size s → getD d k 0 ≡ distance s S k) (b : Bounds) (B : Enclosed s d b) where
-  zero-in : (k : ℕ) → k < size s → isIn S k ≡ eqb (getD d k 0) 0
-  zero-in k h = in-eqb s S some k h ∙ ap (λ (x : ℕ). eqb x 0) (sym (is k h))
-
+module _ (s : Sides) (fits : fitSides s ≡ true) (S : List ℕ) (some : SomeVoxels s S) (d : List ℕ) (len : length d ≡ size s)
+    (zero-in : (k : ℕ) → k < size s → isIn S k ≡ eqb (getD d k 0) 0) where
   in-zero : (k : ℕ) → isIn S k ≡ true → getD d k 0 ≡ 0
   in-zero k e = eqb-true (getD d k 0) 0 (sym (zero-in k (some .within k e)) ∙ e)
 
+  pub enclosable : Enclosable s d
+  enclosable =
+      let v = some .filled .0 in
+      let e = some .filled .1 in
+      record { fit = fits; len = len; some = v; some-in = some .within v e; some-listed = in-zero v e }
+
   in-grid : (k : ℕ) → k < size s → InGrid s (voxel s k)
-  in-grid k h = voxel-in s k (omega (arith, F .a-low)) (omega (arith, F .b-low)) h
+  in-grid k h = let F = fit s fits in voxel-in s k (omega (arith, F .a-low)) (omega (arith, F .b-low)) h
 
-  -- along one axis
-  module _ (coordinate : Voxel → ℕ) (side low high : ℕ) (T : Spanned d (λ k. coordinate (voxel s k)) side (size s) low high)
-      (below : (k : ℕ) → k < size s → coordinate (voxel s k) < side) (i : ℕ) where
-    spanned-between : reach low high (coordinate (voxel s i)) ≡ true → Between S (λ k. coordinate (voxel s k)) i
-    spanned-between e =
-        let p = and-true (leb low (coordinate (voxel s i))) (leb (coordinate (voxel s i)) high) e in
-        let v = some .filled .0 in
-        let v-in = some .within v (some .filled .1) in
-        let v-zero = in-zero v (some .filled .1) in
-        let lo = low-reached d (λ k. coordinate (voxel s k)) side (size s) low high v v-in v-zero T (below v v-in) in
-        let hi = high-reached d (λ k. coordinate (voxel s k)) side (size s) low high v v-in v-zero T in
-        record {
-          low = lo .reached;
-          high = hi .reached;
-          low-listed = zero-in (lo .reached) (lo .below) ∙ eq-eqb _ 0 (lo .listed);
-          high-listed = zero-in (hi .reached) (hi .below) ∙ eq-eqb _ 0 (hi .listed);
-          above-low = omega (arith, lo .stands, leb-true low _ (p .0));
-          below-high = omega (arith, hi .stands, leb-true _ high (p .1));
-        }
+  module _ (b : Bounds) (B : Enclosed s d b) where
+    -- along one axis
+    module _ (coordinate : Voxel → ℕ) (side low high : ℕ) (T : Spanned d (λ k. coordinate (voxel s k)) side (size s) low high)
+        (below : (k : ℕ) → k < size s → coordinate (voxel s k) < side) (i : ℕ) where
+      spanned-between : reach low high (coordinate (voxel s i)) ≡ true → Between S (λ k. coordinate (voxel s k)) i
+      spanned-between e =
+          let p = and-true (leb low (coordinate (voxel s i))) (leb (coordinate (voxel s i)) high) e in
+          let v = some .filled .0 in
+          let v-in = some .within v (some .filled .1) in
+          let v-zero = in-zero v (some .filled .1) in
+          let lo = low-reached d (λ k. coordinate (voxel s k)) side (size s) low high v v-in v-zero T (below v v-in) in
+          let hi = high-reached d (λ k. coordinate (voxel s k)) side (size s) low high v v-in v-zero T in
+          record {
+            low = lo .reached;
+            high = hi .reached;
+            low-listed = zero-in (lo .reached) (lo .below) ∙ eq-eqb _ 0 (lo .listed);
+            high-listed = zero-in (hi .reached) (hi .below) ∙ eq-eqb _ 0 (hi .listed);
+            above-low = omega (arith, lo .stands, leb-true low _ (p .0));
+            below-high = omega (arith, hi .stands, leb-true _ high (p .1));
+          }
 
-    between-spanned : Between S (λ k. coordinate (voxel s k)) i → reach low high (coordinate (voxel s i)) ≡ true
-    between-spanned w =
-        let lo = T .above (w .low) (some .within (w .low) (w .low-listed)) (in-zero (w .low) (w .low-listed)) in
-        let hi = T .below (w .high) (some .within (w .high) (w .high-listed)) (in-zero (w .high) (w .high-listed)) in
-        reach-in low high (coordinate (voxel s i)) (omega (arith, w .above-low)) (omega (arith, w .below-high))
+      between-spanned : Between S (λ k. coordinate (voxel s k)) i → reach low high (coordinate (voxel s i)) ≡ true
+      between-spanned w =
+          let lo = T .above (w .low) (some .within (w .low) (w .low-listed)) (in-zero (w .low) (w .low-listed)) in
+          let hi = T .below (w .high) (some .within (w .high) (w .high-listed)) (in-zero (w .high) (w .high-listed)) in
+          reach-in low high (coordinate (voxel s i)) (omega (arith, w .above-low)) (omega (arith, w .below-high))
 
-  box-within : (k : ℕ) → k < size s → inBox s S k ≡ within b (voxel s k)
-  unfolding within
-  box-within k h =
-      let X = B .bounded .x-spanned in
-      let Y = B .bounded .y-spanned in
-      let Z = B .bounded .z-spanned in
-      let v = voxel s k in
-      both-ways (inBox s S k) (reach (b .x0) (b .x1) (v .x) && (reach (b .y0) (b .y1) (v .y) && reach (b .z0) (b .z1) (v .z)))
-      (λ e.
-      let w = box-boxed s S k h e in
-      true-and (reach (b .x0) (b .x1) (v .x)) (reach (b .y0) (b .y1) (v .y) && reach (b .z0) (b .z1) (v .z))
-      (between-spanned (λ u. u .x) (s .a) (b .x0) (b .x1) X (λ j l. in-grid j l .x-in) k (w .along-x))
-      (true-and (reach (b .y0) (b .y1) (v .y)) (reach (b .z0) (b .z1) (v .z))
-      (between-spanned (λ u. u .y) (s .b) (b .y0) (b .y1) Y (λ j l. in-grid j l .y-in) k (w .along-y))
-      (between-spanned (λ u. u .z) (s .c) (b .z0) (b .z1) Z (λ j l. in-grid j l .z-in) k (w .along-z))))
-      (λ e.
-      let p = and-true (reach (b .x0) (b .x1) (v .x)) (reach (b .y0) (b .y1) (v .y) && reach (b .z0) (b .z1) (v .z)) e in
-      let q = and-true (reach (b .y0) (b .y1) (v .y)) (reach (b .z0) (b .z1) (v .z)) (p .1) in
-      boxed-box s S k
-      (record {
-        along-x = spanned-between (λ u. u .x) (s .a) (b .x0) (b .x1) X (λ j l. in-grid j l .x-in) k (p .0);
-        along-y = spanned-between (λ u. u .y) (s .b) (b .y0) (b .y1) Y (λ j l. in-grid j l .y-in) k (q .0);
-        along-z = spanned-between (λ u. u .z) (s .c) (b .z0) (b .z1) Z (λ j l. in-grid j l .z-in) k (q .1);
-      }))
+    box-within : (k : ℕ) → k < size s → inBox s S k ≡ within b (voxel s k)
+    unfolding within
+    box-within k h =
+        let X = B .bounded .x-spanned in
+        let Y = B .bounded .y-spanned in
+        let Z = B .bounded .z-spanned in
+        let v = voxel s k in
+        both-ways (inBox s S k) (reach (b .x0) (b .x1) (v .x) && (reach (b .y0) (b .y1) (v .y) && reach (b .z0) (b .z1) (v .z)))
+        (λ e.
+        let w = box-boxed s S k h e in
+        true-and (reach (b .x0) (b .x1) (v .x)) (reach (b .y0) (b .y1) (v .y) && reach (b .z0) (b .z1) (v .z))
+        (between-spanned (λ u. u .x) (s .a) (b .x0) (b .x1) X (λ j l. in-grid j l .x-in) k (w .along-x))
+        (true-and (reach (b .y0) (b .y1) (v .y)) (reach (b .z0) (b .z1) (v .z))
+        (between-spanned (λ u. u .y) (s .b) (b .y0) (b .y1) Y (λ j l. in-grid j l .y-in) k (w .along-y))
+        (between-spanned (λ u. u .z) (s .c) (b .z0) (b .z1) Z (λ j l. in-grid j l .z-in) k (w .along-z))))
+        (λ e.
+        let p = and-true (reach (b .x0) (b .x1) (v .x)) (reach (b .y0) (b .y1) (v .y) && reach (b .z0) (b .z1) (v .z)) e in
+        let q = and-true (reach (b .y0) (b .y1) (v .y)) (reach (b .z0) (b .z1) (v .z)) (p .1) in
+        boxed-box s S k
+        (record {
+          along-x = spanned-between (λ u. u .x) (s .a) (b .x0) (b .x1) X (λ j l. in-grid j l .x-in) k (p .0);
+          along-y = spanned-between (λ u. u .y) (s .b) (b .y0) (b .y1) Y (λ j l. in-grid j l .y-in) k (q .0);
+          along-z = spanned-between (λ u. u .z) (s .c) (b .z0) (b .z1) Z (λ j l. in-grid j l .z-in) k (q .1);
+        }))
 
-  status-same : (k : ℕ) → k < size s → statusIn b (voxel s k) (getD d k 0) ≡ statusAt s unmarked S (inBox s S) k
-  unfolding statusIn statusAt waitsFirst
-  status-same k h =
-      ap₂ (λ (w t : Bool). cond {A = ℕ} w (cond (not t && onSide b (voxel s k)) 3 1) 0) (sym (box-within k h)) (sym (zero-in k h))
-      ∙ elim (two (inBox s S k)) [
-        | inl e ↦
-            ap (λ (t : Bool). cond {A = ℕ} (inBox s S k) (cond (not (isIn S k) && t) 3 1) 0)
-            (sym (exposed-side s b (B .proper) (inBox s S) box-within k (sym (box-within k h) ∙ e)))
-        | inr e ↦ rw e
-      ]
+    status-same : (k : ℕ) → k < size s → statusIn b (voxel s k) (getD d k 0) ≡ statusAt s unmarked S (inBox s S) k
+    unfolding statusIn statusAt waitsFirst
+    status-same k h =
+        ap₂ (λ (w t : Bool). cond {A = ℕ} w (cond (not t && onSide b (voxel s k)) 3 1) 0) (sym (box-within k h)) (sym (zero-in k h))
+        ∙ elim (two (inBox s S k)) [
+          | inl e ↦
+              ap (λ (t : Bool). cond {A = ℕ} (inBox s S k) (cond (not (isIn S k) && t) 3 1) 0)
+              (sym (exposed-side s b (B .proper) (inBox s S) box-within k (sym (box-within k h) ∙ e)))
+          | inr e ↦ rw e
+        ]
 
-  pub status-is : statusBy s b d ≡ startStatus s unmarked S (inBox s S)
-  unfolding statusBy startStatus voxels
-  status-is =
-      ap (λ (n : ℕ). map (λ k. statusIn b (voxel s k) (getD d k 0)) (range 0 n)) len
-      ∙ map-same (λ k. statusIn b (voxel s k) (getD d k 0)) (statusAt s unmarked S (inBox s S)) 0 (size s) status-same
+    pub status-is : statusBy s b d ≡ startStatus s unmarked S (inBox s S)
+    unfolding statusBy startStatus voxels
+    status-is =
+        ap (λ (n : ℕ). map (λ k. statusIn b (voxel s k) (getD d k 0)) (range 0 n)) len
+        ∙ map-same (λ k. statusIn b (voxel s k) (getD d k 0)) (statusAt s unmarked S (inBox s S)) 0 (size s) status-same

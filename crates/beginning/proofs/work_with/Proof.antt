@@ -26,7 +26,7 @@ returns c =
     let m-back = m .before .before .before in
     let w = m-back .before .before .before in
     let s = start w in
-    worked-with (s .args .sides) (filled (s .args .sides) (s .args .values .now)) (s .args .marks .now) (s .pre .1) _ _ _ (w .work-out .ensures)
+    worked-with (s .args .sides) (filled (s .args .sides) (s .args .values .now)) (s .args .marks .now) _ _ _ (w .work-out .ensures)
     (m .mark-statuses .ensures)
 
 pub work-with-spec : {M : Type 1} → statement M

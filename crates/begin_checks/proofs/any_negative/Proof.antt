@@ -9,9 +9,9 @@ use Rattle.cells.specs.Groups.{any}
 use Rattle.rules.specs.Grid.{range, measuredNegative, missing}
 use Rattle.prelude.proofs.Ranges.{any-run-none, scan-more}
 use Rattle.loops.proofs.Orders.{getD-within}
-use Rattle.beginning.specs.Work.{negativeAt}
-use Rattle.beginning.proofs.any_negative.Statement.{statement}
-use Rattle.beginning.proofs.any_negative.Tie as tie
+use Rattle.begin_checks.specs.Given.{negativeAt}
+use Rattle.begin_checks.proofs.any_negative.Statement.{statement}
+use Rattle.begin_checks.proofs.any_negative.Tie as tie
 
 abbrev Inv-loop : tie.InvT-loop
 Inv-loop values first end found₀ i₀ found i = (first ≤ i) × (i ≤ end) × (found ≡ any (negativeAt values) (range first (i - first)))

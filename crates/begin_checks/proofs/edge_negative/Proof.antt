@@ -1,4 +1,4 @@
--- `border_negative`: the rows before this one have been looked at.
+-- `edge_negative`: the rows before this one have been looked at.
 use mathlib.Core.Path.{_≡_, sym, ap, _∙_}
 use Prim.Native.Nat.{ℕ, _*_, _-_, _≤_}
 use native.Mathlib.Omega.{arith}
@@ -7,36 +7,36 @@ use Rattle.cells.specs.Groups.{any}
 use Rattle.rules.specs.Grid.{range}
 use Rattle.prelude.proofs.Ranges.{any-run-none, scan-join}
 use Rattle.loops.proofs.Rows.{row-of, rows-more, rows-all, rows-few}
-use Rattle.beginning.specs.Work.{borderNegative}
+use Rattle.begin_checks.specs.Given.{edgeNegative}
 use borrow.Author.Needs.{needs}
-use Rattle.beginning.proofs.border_negative.Statement.{statement}
-use Rattle.beginning.proofs.border_negative.Tie as tie
+use Rattle.begin_checks.proofs.edge_negative.Statement.{statement}
+use Rattle.begin_checks.proofs.edge_negative.Tie as tie
 
 abbrev Inv-loop : tie.InvT-loop
-Inv-loop sides values rows found₀ row₀ found row = (row ≤ rows) × (found ≡ any (borderNegative sides values) (range 0 (sides .a * row)))
+Inv-loop sides values width rows found₀ row₀ found row = (row ≤ rows) × (found ≡ any (edgeNegative sides width values) (range 0 (sides .a * row)))
 
 abbrev μ-loop : tie.MeasureT-loop
-μ-loop sides values rows found₀ row₀ found row = rows - row
+μ-loop sides values width rows found₀ row₀ found row = rows - row
 
 mul-rows : tie.Need-mul-rows Inv-loop μ-loop
 mul-rows c =
     let s = c .before in
-    omega (arith, rows-few (s .args .sides) (s .pre .sides))
+    omega (arith, rows-few (s .args .sides) (s .pre .0 .sides))
 
 loop-holds : tie.Need-loop-holds Inv-loop μ-loop
 loop-holds c = let a = c .before .args .sides .a in (omega arith, sym (any-run-none _ _ (a * 0) (mul-zero a)))
 
-border-row-requires : tie.Need-border-row-requires Inv-loop μ-loop
-border-row-requires c κs =
+edge-row-requires : tie.Need-edge-row-requires Inv-loop μ-loop
+edge-row-requires c κs =
     let l = c .before in
     let s = l .before .before in
-    row-of (s .args .sides) _ (l .loop .row) (s .pre .sides) (s .pre .len) (c .loop-test .taken)
+    (row-of (s .args .sides) _ (l .loop .row) (s .pre .0 .sides) (s .pre .0 .len) (c .loop-test .taken), s .pre .1)
 
 add-row : tie.Need-add-row Inv-loop μ-loop
 add-row c =
     let t = c .before in
     let s = t .before .before .before in
-    omega (arith, t .loop-test .taken, rows-few (s .args .sides) (s .pre .sides))
+    omega (arith, t .loop-test .taken, rows-few (s .args .sides) (s .pre .0 .sides))
 
 loop-less : tie.Need-loop-less Inv-loop μ-loop
 loop-less c = search needs
@@ -48,8 +48,8 @@ loop-again c =
     let a = l .before .before .args in
     let s = a .sides in (
       omega (arith, t .loop-test .taken),
-      scan-join (borderNegative s (a .values .now)) 0 (s .a * l .loop .row) (s .a) _ _ (l .loop .found) (c .border-row .result)
-          (l .loop .inv .1) (c .border-row .ensures) (omega arith) (rows-more (s .a) (l .loop .row)),
+      scan-join (edgeNegative s (a .width) (a .values .now)) 0 (s .a * l .loop .row) (s .a) _ _ (l .loop .found) (c .edge-row .result)
+          (l .loop .inv .1) (c .edge-row .ensures) (omega arith) (rows-more (s .a) (l .loop .row)),
     )
 
 returns : tie.Need-returns Inv-loop μ-loop
@@ -58,17 +58,17 @@ returns c =
     let a = l .before .before .args in
     let s = a .sides in
     let rows : l .loop .row ≡ s .b * s .c = omega (arith, l .loop .inv .0, c .loop-test .left) in
-    l .loop .inv .1 ∙ ap (λ (n : ℕ). any (borderNegative s (a .values .now)) (range 0 n)) (ap (λ (n : ℕ). s .a * n) rows ∙ rows-all s)
+    l .loop .inv .1 ∙ ap (λ (n : ℕ). any (edgeNegative s (a .width) (a .values .now)) (range 0 n)) (ap (λ (n : ℕ). s .a * n) rows ∙ rows-all s)
 
-pub border-negative-spec : {M : Type 1} → statement M
-border-negative-spec =
+pub edge-negative-spec : {M : Type 1} → statement M
+edge-negative-spec =
     tie.close
     (tie.spec
     Inv-loop
     μ-loop
     mul-rows
     loop-holds
-    border-row-requires
+    edge-row-requires
     add-row
     loop-less
     loop-again
