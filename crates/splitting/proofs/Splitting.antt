@@ -28,6 +28,7 @@ use Rattle.loops.proofs.Below.{map-same}
 use Rattle.loops.proofs.Rows.{row-voxel, rows-more}
 use Rattle.coarse.specs.Blocks.{halved, halfOf, blockOf, splitBody}
 use Rattle.coarse.specs.Coarse.{nearEnd}
+use Rattle.coarse.proofs.Eight.{half-grid}
 use Rattle.splitting.specs.Split.{byteBy, byteOf, Splittable, across, blockRow, Paired, pairByte}
 use Rattle.splitting.proofs.Faces.{block, acrossKept, around}
 
@@ -115,9 +116,7 @@ module _ (s : Sides) (dist : List ℤ) (blocks : List ℕ) (n : ℕ) (P : Splitt
     kept-is = ap (λ (v : Voxel). isKept blocks (index (halved s) (halfOf v))) is
 
     in-grid : InGrid (halved s) (halfOf u)
-    unfolding halved
-    in-grid =
-        record { x-in = omega (arith, P .a-even); y-in = omega (arith, P .b-even, R .y-in); z-in = omega (arith, P .c-even, R .z-in) }
+    in-grid = half-grid s (P .even) u (record { x-in = omega arith; y-in = R .y-in; z-in = R .z-in })
 
     -- a kept block lies off the border
     kept-inner : kept k ≡ true → Inner (halved s) (halfOf u)
@@ -189,7 +188,7 @@ module _ (s : Sides) (dist : List ℤ) (blocks : List ℕ) (n : ℕ) (P : Splitt
         ap (λ (n : ℕ). s .a / 2 * n) (let g : y / 2 + 1 + s .b / 2 * (z / 2) ≡ y / 2 + s .b / 2 * (z / 2) + 1 = omega arith in g)
         ∙ rows-more (s .a / 2) (y / 2 + s .b / 2 * (z / 2)) in
         record {
-          room = omega (arith, R .last, P .a-even);
+          room = omega (arith, R .last, P .even .a-even);
           measured = P .distances ∙ sym (P .statuses);
           own-low = omega arith;
           own-in = omega (arith, row-room (y / 2 + 1) (z / 2) (omega (arith, i .y-high)) (omega (arith, i .z-high)), R .a-low);

@@ -11,6 +11,7 @@ use Rattle.rules.specs.Begin.{exposed}
 use Rattle.rules.specs.Status.{isKept}
 use Rattle.rules.specs.Machine.{isInside}
 use Rattle.coarse.specs.Blocks.{halved}
+use Rattle.coarse.specs.Eight.{Even}
 
 -- ---- a voxel's byte
 
@@ -25,9 +26,7 @@ byteOf s dist kept i = byteBy (kept i) (exposed s kept i) (isInside dist i)
 -- sides that blocks fill, a distance and a byte for each voxel, and a byte for each block; blocks on the border are not kept
 pub record Splittable (s : Sides) (dist : List ℤ) (blocks : List ℕ) (n : ℕ) : Type 0 where
   pub sides : fitSides s ≡ true
-  pub a-even : 2 * (s .a / 2) ≡ s .a
-  pub b-even : 2 * (s .b / 2) ≡ s .b
-  pub c-even : 2 * (s .c / 2) ≡ s .c
+  pub even : Even s
   pub statuses : n ≡ size s
   pub distances : length dist ≡ size s
   pub blocks-len : length blocks ≡ size (halved s)

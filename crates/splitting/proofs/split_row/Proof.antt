@@ -120,7 +120,7 @@ returns-2 c =
     each-as 0 f (λ k d. byteOf (a .s) (a .dist .now) (splitBody (a .s) (a .blocks .now)) k) first (first + a .s .a) (a .status .now) (e .pairs .last .0)
     (byte-inner (a .s) (a .dist .now) (a .blocks .now) _ (s .pre .0) (a .row) (s .pre .1) (own q .block-row .result) (beside q .block-row2 .result)
     (q .block-row3 .result) (own q .block-row .ensures) (beside-is q) (above-is q))
-    (subst (λ (n : ℕ). Each 0 f first (first + n) (a .status .now) (e .pairs .last .0)) (s .pre .0 .a-even) (e .pairs .ensures))
+    (subst (λ (n : ℕ). Each 0 f first (first + n) (a .status .now) (e .pairs .last .0)) (s .pre .0 .even .a-even) (e .pairs .ensures))
 
 pub split-row-spec : {M : Type 1} → statement M
 split-row-spec =
