@@ -1,11 +1,13 @@
 -- A record that goes out to C comes back, so that a list of calls from C leaves what the list leaves by the rules.
 use mathlib.Core.Path.{_≡_, refl, ap, sym, _∙_, subst}
 use mathlib.Core.Bool.{Bool, true, false, not}
-use mathlib.Core.List.{[], _∷_}
+use mathlib.Core.List.{List, [], _∷_}
 use Prim.Native.Nat.{ℕ, zero, suc, _≤_}
 use native.Mathlib.Omega.{arith}
 use lib.Dec.{eqb}
+use lib.IntN.{ℤ}
 use Rattle.cells.specs.Cells.{bit}
+use Rattle.rules.specs.declared.Sides.{Sides}
 use Rattle.rules.specs.declared.Record.{Record}
 use Rattle.rules.specs.Fill.{filled}
 use Rattle.rules.specs.Answer.{Reply, refused, done, Buffers, Carving, Removal, Opening}
@@ -13,9 +15,13 @@ use Rattle.rules.specs.Begin.{inside, inBox, begin}
 use Rattle.rules.specs.Machine.{State, state, recordAfter, carve, take, openNext, finish}
 use Rattle.rules.specs.Demand.{Call, carveUpTo, takeAt, openOne, finishIt, call, run, Demand}
 use Rattle.rules.proofs.Demand.{demand-is-met}
+use Rattle.coarse.specs.Blocks.{splitBody}
+use Rattle.coarse.specs.Coarse.{CoarseStart, beginCoarse}
+use Rattle.coarse.specs.Promises.{coarseState}
+use Rattle.coarse.proofs.Promises.{coarse-demand-is-met}
 use Rattle.replies.specs.declared.CRecord.{CRecord}
-use Rattle.replies.specs.Structs.{recordIn, beginStruct, carveStruct, takeStruct, openStruct, finishStruct}
-use Rattle.replies.specs.FromC.{RecordComesBack, ByteComesBack, Held, held, stateIn, callFromC, runFromC, ListsAgree, DemandFromC}
+use Rattle.replies.specs.Structs.{recordIn, beginStruct, beginCoarseStruct, carveStruct, takeStruct, openStruct, finishStruct}
+use Rattle.replies.specs.FromC.{RecordComesBack, ByteComesBack, Held, held, stateIn, callFromC, runFromC, ListsAgree, DemandAfterC, DemandFromC, CoarseDemandFromC}
 
 -- ---- the record
 
@@ -88,17 +94,25 @@ unfolding runFromC run
 lists-agree [] h = refl
 lists-agree (c ∷ cs) h = lists-agree cs (callFromC c h) ∙ ap (λ (g : State). run cs g .end) (same-call c h)
 
+-- what holds of lists of calls from the state that a start leaves, holds of those from what it handed to C
+from-state : (s : Sides) (values : List ℤ) (marks : List ℕ) (start : ℕ → Bool) (g : State) (begun : Held) → g ≡ stateIn begun
+    → ((calls : List Call) → Demand s values marks start g calls (run calls g .end) (run calls g .answers)) → DemandAfterC s values marks start begun
+from-state s values marks start g begun same met calls =
+    subst (λ (end : State). Demand s values marks start (stateIn begun) calls end (run calls (stateIn begun) .answers)) (sym (lists-agree calls begun))
+    (subst (λ (g : State). Demand s values marks start g calls (run calls g .end) (run calls g .answers)) same (met calls))
+
 pub demand-from-c : DemandFromC
-demand-from-c s T values marks dist status r e calls =
+demand-from-c s T values marks dist status r e =
     let b = begin s T values marks dist status in
     let used = filled s values in
-    let begun = held (beginStruct (b .answer) .next) (b .lent) in
-    let same : state r (b .lent .dist) (b .lent .status) ≡ stateIn begun = ap (with (b .lent)) (sym (begin-next (b .answer) e)) in
-    let met =
-    subst (λ (g : State). Demand s used marks (inBox s (inside s used)) g calls (run calls g .end) (run calls g .answers)) same
-    (demand-is-met s T values marks dist status r e calls) in
-    subst (λ (g : State). Demand s used marks (inBox s (inside s used)) (stateIn begun) calls g (run calls (stateIn begun) .answers))
-    (sym (lists-agree calls begun)) met
-  where
-    begin-next : (a : Reply Record) → a ≡ done r → recordIn (beginStruct a .next) ≡ r
-    begin-next a f = ap (λ (x : Reply Record). recordIn (beginStruct x .next)) f ∙ record-comes-back r
+    from-state s used marks (inBox s (inside s used)) (state r (b .lent .dist) (b .lent .status)) (held (beginStruct (b .answer) .next) (b .lent))
+    (ap (with (b .lent)) (sym (ap (λ (x : Reply Record). recordIn (beginStruct x .next)) e ∙ record-comes-back r)))
+    (demand-is-met s T values marks dist status r e)
+
+pub coarse-demand-from-c : CoarseDemandFromC
+coarse-demand-from-c s T values marks lent c e =
+    let b = beginCoarse s T values marks lent in
+    from-state s (filled s values) marks (splitBody s (b .lent .blocks .status)) (coarseState (b .lent) c)
+    (held (beginCoarseStruct (b .answer) .next) (b .lent .voxels))
+    (ap (with (b .lent .voxels)) (sym (ap (λ (x : Reply CoarseStart). recordIn (beginCoarseStruct x .next)) e ∙ record-comes-back (c .next))))
+    (coarse-demand-is-met s T values marks lent c e)

@@ -1,7 +1,8 @@
 -- Calls from C: between two calls the record goes out as a struct and comes back in, and nothing is lost on the way. So demand 3, a claim about lists
--- of calls, holds of lists of calls from C. proofs/FromC.antt proves it.
+-- of calls, holds of lists of calls from C, after begin and after a coarse start. proofs/FromC.antt proves it.
 use mathlib.Core.Path.{_≡_}
 use mathlib.Core.List.{List, [], _∷_}
+use mathlib.Core.Bool.{Bool}
 use Prim.Native.Nat.{ℕ, _≤_}
 use lib.IntN.{ℤ}
 use Rattle.rules.specs.declared.Sides.{Sides}
@@ -11,8 +12,10 @@ use Rattle.rules.specs.Answer.{done, Buffers}
 use Rattle.rules.specs.Begin.{inside, inBox, begin}
 use Rattle.rules.specs.Machine.{State, state, carve, take, openNext, finish}
 use Rattle.rules.specs.Demand.{Call, carveUpTo, takeAt, openOne, finishIt, run, Demand}
+use Rattle.coarse.specs.Blocks.{splitBody}
+use Rattle.coarse.specs.Coarse.{FourBuffers, CoarseStart, beginCoarse}
 use Rattle.replies.specs.declared.CRecord.{CRecord}
-use Rattle.replies.specs.Structs.{recordIn, recordOut, beginStruct, carveStruct, takeStruct, openStruct, finishStruct}
+use Rattle.replies.specs.Structs.{recordIn, recordOut, beginStruct, beginCoarseStruct, carveStruct, takeStruct, openStruct, finishStruct}
 
 -- ---- the record
 
@@ -54,12 +57,24 @@ runFromC (c ∷ cs) h = runFromC cs (callFromC c h)
 abbrev pub ListsAgree : Type 0
 ListsAgree = (calls : List Call) (h : Held) → stateIn (runFromC calls h) ≡ run calls (stateIn h) .end
 
--- demand 3, from what begin handed to C
+-- demand 3 after any list of calls from C: of the values that a start worked on, the marks that it was lent, the body that it started with, and what it
+-- handed to C
+abbrev pub DemandAfterC : Sides → List ℤ → List ℕ → (ℕ → Bool) → Held → Type 0
+DemandAfterC s values marks start begun =
+    (calls : List Call)
+    → Demand s values marks start (stateIn begun) calls (stateIn (runFromC calls begun)) (run calls (stateIn begun) .answers)
+
 abbrev pub DemandFromC : Type 0
 DemandFromC =
     (s : Sides) (T : ℕ) (values : List ℤ) (marks : List ℕ) (dist : List ℤ) (status : List ℕ) (r : Record)
-    → begin s T values marks dist status .answer ≡ done r → (calls : List Call)
+    → begin s T values marks dist status .answer ≡ done r
     → let b = begin s T values marks dist status in
-    let begun = held (beginStruct (b .answer) .next) (b .lent) in
     let used = filled s values in
-    Demand s used marks (inBox s (inside s used)) (stateIn begun) calls (stateIn (runFromC calls begun)) (run calls (stateIn begun) .answers)
+    DemandAfterC s used marks (inBox s (inside s used)) (held (beginStruct (b .answer) .next) (b .lent))
+
+abbrev pub CoarseDemandFromC : Type 0
+CoarseDemandFromC =
+    (s : Sides) (T : ℕ) (values : List ℤ) (marks : List ℕ) (lent : FourBuffers) (c : CoarseStart)
+    → beginCoarse s T values marks lent .answer ≡ done c
+    → let b = beginCoarse s T values marks lent in
+    DemandAfterC s (filled s values) marks (splitBody s (b .lent .blocks .status)) (held (beginCoarseStruct (b .answer) .next) (b .lent .voxels))

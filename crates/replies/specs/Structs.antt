@@ -5,8 +5,10 @@ use lib.IntN.{pos}
 use Rattle.cells.specs.Cells.{bit}
 use Rattle.rules.specs.declared.Record.{Record}
 use Rattle.rules.specs.Answer.{Reply, refused, done, Carving, Removal, Opening}
+use Rattle.coarse.specs.Coarse.{CoarseStart}
 use Rattle.replies.specs.declared.CRecord.{CRecord}
 use Rattle.replies.specs.declared.BeginAnswer.{BeginAnswer}
+use Rattle.replies.specs.declared.BeginCoarseAnswer.{BeginCoarseAnswer}
 use Rattle.replies.specs.declared.CarveAnswer.{CarveAnswer}
 use Rattle.replies.specs.declared.TakeAnswer.{TakeAnswer}
 use Rattle.replies.specs.declared.OpenAnswer.{OpenAnswer}
@@ -56,6 +58,10 @@ noRecord =
 abbrev pub beginStruct : Reply Record → BeginAnswer
 beginStruct (refused n) = record { refusal = n; next = noRecord }
 beginStruct (done next) = record { refusal = 0; next = recordOut next }
+
+abbrev pub beginCoarseStruct : Reply CoarseStart → BeginCoarseAnswer
+beginCoarseStruct (refused n) = record { refusal = n; examined = 0; next = noRecord }
+beginCoarseStruct (done a) = record { refusal = 0; examined = a .examined; next = recordOut (a .next) }
 
 abbrev pub carveStruct : CRecord → Reply Carving → CarveAnswer
 carveStruct given (refused n) = record { refusal = n; examined = 0; removed = 0; pending = false; face = 0; next = given }

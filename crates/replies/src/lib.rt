@@ -1,8 +1,10 @@
 // What each call answers to C: a struct by value, whose first field is the refusal number, or 0.
 ghost use mathlib.Core.Path.{_≡_};
 ghost use Rattle.cells.specs.Cells.{bit};
+ghost use Rattle.coarse.specs.Coarse.{coarseAnswer};
 ghost use Rattle.rules.specs.Answer.{begunAnswer, carvedAnswer, takenAnswer, openedAnswer, finishedAnswer};
-ghost use Rattle.replies.specs.Structs.{recordIn, recordOut, noRecord, beginStruct, carveStruct, takeStruct, openStruct, finishStruct};
+ghost use Rattle.replies.specs.Structs.{recordIn, recordOut, noRecord, beginStruct, beginCoarseStruct, carveStruct, takeStruct, openStruct, finishStruct};
+use coarse::CoarseBegun;
 use rules::Begun;
 use rules::Carved;
 use rules::Finished;
@@ -92,6 +94,32 @@ pub fn begin_answer(b: Begun) -> BeginAnswer
         },
         Begun::Refused(refusal) => BeginAnswer {
             refusal,
+            next: no_record(),
+        },
+    }
+}
+
+// ---- begin coarse
+
+#[repr(C)]
+pub struct BeginCoarseAnswer {
+    pub refusal: u8,
+    pub examined: u32,
+    pub next: CRecord,
+}
+
+pub fn begin_coarse_answer(b: CoarseBegun) -> BeginCoarseAnswer
+    ensures { λ r. ⌜ r ≡ beginCoarseStruct (coarseAnswer b) ⌝ }
+{
+    match b {
+        CoarseBegun::Ready { next, examined } => BeginCoarseAnswer {
+            refusal: 0,
+            examined,
+            next: record_out(next),
+        },
+        CoarseBegun::Refused(refusal) => BeginCoarseAnswer {
+            refusal,
+            examined: 0,
             next: no_record(),
         },
     }
