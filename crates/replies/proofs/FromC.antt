@@ -21,7 +21,8 @@ use Rattle.coarse.specs.Promises.{coarseState}
 use Rattle.coarse.proofs.Promises.{coarse-demand-is-met}
 use Rattle.replies.specs.declared.CRecord.{CRecord}
 use Rattle.replies.specs.Structs.{recordIn, beginStruct, beginCoarseStruct, carveStruct, takeStruct, openStruct, finishStruct}
-use Rattle.replies.specs.FromC.{RecordComesBack, ByteComesBack, Held, held, stateIn, callFromC, runFromC, ListsAgree, DemandAfterC, DemandFromC, CoarseDemandFromC}
+use Rattle.replies.specs.FromC.{RecordComesBack, ByteComesBack, Held, held, stateIn, callFromC, runFromC, ListsAgree}
+use Rattle.replies.specs.FromC.{DemandAfterC, DemandFromC, CoarseDemandFromC}
 
 -- ---- the record
 

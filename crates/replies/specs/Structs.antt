@@ -1,5 +1,5 @@
 -- What each struct holds for each reply. After a refusal the numbers are 0, the face too, where 0 means nothing, and `next` is the record given.
-use mathlib.Core.Bool.{Bool, false, not}
+use mathlib.Core.Bool.{false, not}
 use lib.Dec.{eqb}
 use lib.IntN.{pos}
 use Rattle.cells.specs.Cells.{bit}
