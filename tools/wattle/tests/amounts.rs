@@ -1,8 +1,6 @@
 //! How much of a body there is, and coordinates in units: `--voxel` and `--origin`.
 
-mod common;
-
-use common::{answer, carved, path, sample, samples, status, text, wattle, wattle_on};
+use crate::common::{self, answer, carved, path, sample, samples, status, text, wattle, wattle_on};
 use wattlerugby::MISSING;
 
 /// The fields of a line of JSON that have numbers.

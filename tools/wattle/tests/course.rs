@@ -1,8 +1,6 @@
 //! docs/COURSE.md, and every command, line and picture in it, is what the tool answers today.
 
-mod common;
-
-use common::{root, text};
+use crate::common::{self, root, text};
 use std::path::Path;
 use std::process::{Command, Stdio};
 

@@ -1,8 +1,6 @@
 //! PNG, PLY, XYZ, NRRD and VTK of every sample: read by strict readers here, and by other programs where they are at hand.
 
-mod common;
-
-use common::{answer, carved, left_out, path, python, samples, text, Carved, COLOURS};
+use crate::common::{self, answer, carved, left_out, path, python, samples, text, Carved, COLOURS};
 use std::path::{Path, PathBuf};
 use std::process::Command;
 use wattlerugby::{Sides, GREATEST_VALUE, LEAST_VALUE, MISSING};

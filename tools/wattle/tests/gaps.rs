@@ -1,8 +1,6 @@
 //! Gaps behind the face: how each command shows missing points that count as inside, and what explain says of the others.
 
-mod common;
-
-use common::{carved, path, status, text, wattle, wattle_on};
+use crate::common::{self, carved, path, status, text, wattle, wattle_on};
 
 const SIDES: [usize; 3] = [14, 7, 7];
 

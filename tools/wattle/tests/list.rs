@@ -1,8 +1,8 @@
 //! `wattle list`, and the places that `wattle explain` names.
 
-mod common;
-
-use common::{answer, carved, damaged, folder, left_out, path, python, sample, samples, status, text, wattle, wattle_on, Seed};
+use crate::common::{
+    self, answer, carved, damaged, folder, left_out, path, python, sample, samples, status, text, wattle, wattle_on, Seed,
+};
 use std::path::Path;
 use wattlerugby::{read, Grid, MISSING, NO_LIMIT};
 

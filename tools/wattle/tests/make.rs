@@ -1,8 +1,6 @@
 //! `wattle make`: what NRRD, CSV and shapes become, and what is refused with one line.
 
-mod common;
-
-use common::{answer, folder, path, samples, status, text, wattle, wattle_on, Seed};
+use crate::common::{self, answer, folder, path, samples, status, text, wattle, wattle_on, Seed};
 use wattlerugby::{read_values, written, Sides, MISSING};
 
 /// A grid file's sides, T and values.

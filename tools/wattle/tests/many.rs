@@ -1,8 +1,6 @@
 //! carve and explain on several files.
 
-mod common;
-
-use common::{damaged, folder, left_out, path, python, sample, samples, status, text, wattle, Seed};
+use crate::common::{self, damaged, folder, left_out, path, python, sample, samples, status, text, wattle, Seed};
 use std::path::PathBuf;
 
 fn words<'a>(first: &[&'a str], files: &'a [PathBuf]) -> Vec<&'a str> {

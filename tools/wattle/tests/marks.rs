@@ -1,8 +1,6 @@
 //! Pins and hurries: what the options take, how each command shows what is pinned, and what is said of marks that do nothing.
 
-mod common;
-
-use common::{path, sample, status, text, wattle, wattle_on};
+use crate::common::{self, path, sample, status, text, wattle, wattle_on};
 use wattlerugby::{Grid, Sides, GONE, HURRIED, PINNED, UNMARKED};
 
 /// A ring of eight voxels around an empty one, in the middle layer of 5 x 5 x 3; and T.

@@ -1,8 +1,6 @@
 //! The page: that it stands alone, and, where Chromium is at hand, what a browser makes of it.
 
-mod common;
-
-use common::{carved, path, samples, status, text, wattle, Carved, COLOURS};
+use crate::common::{self, carved, path, samples, status, text, wattle, Carved, COLOURS};
 use std::path::Path;
 use std::process::Command;
 use wattlerugby::{Face, Grid, GONE, MISSING};

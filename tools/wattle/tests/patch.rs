@@ -1,8 +1,6 @@
 //! `wattle patch`: what it appends, what it refuses; and files with more patches than are read at a time.
 
-mod common;
-
-use common::{answer, folder, path, sample, status, text, wattle, wattle_on, Seed};
+use crate::common::{self, answer, folder, path, sample, status, text, wattle, wattle_on, Seed};
 use std::path::PathBuf;
 use wattlerugby::{patch, read, Sides, NARROW_MISSING};
 

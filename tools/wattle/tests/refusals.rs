@@ -1,8 +1,6 @@
 //! Files that are refused, words that are wrong, and files that are not to be overwritten.
 
-mod common;
-
-use common::{damaged, fed, path, root, sample, status, text, wattle, wattle_on, Seed};
+use crate::common::{self, damaged, fed, path, root, sample, status, text, wattle, wattle_on, Seed};
 use std::io::Read;
 use std::process::{Command, Stdio};
 use wattlerugby::{patch, GREATEST_VALUE, LEAST_VALUE};

@@ -1,8 +1,6 @@
 //! Grid files in their written form, and files that are whole or not there, whatever befalls the writing.
 
-mod common;
-
-use common::{answer, folder, path, sample, samples, status, text, wattle, wattle_on};
+use crate::common::{self, answer, folder, path, sample, samples, status, text, wattle, wattle_on};
 use std::os::unix::fs::{symlink, PermissionsExt};
 use std::os::unix::process::ExitStatusExt;
 use std::path::Path;

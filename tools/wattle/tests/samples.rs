@@ -1,8 +1,6 @@
 //! The commands that print text, on every sample.
 
-mod common;
-
-use common::{answer, carved, path, root, samples, status, text, wattle, COLOURS};
+use crate::common::{self, answer, carved, path, root, samples, status, text, wattle, COLOURS};
 use std::path::Path;
 use std::process::Command;
 

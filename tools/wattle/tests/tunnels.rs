@@ -1,8 +1,6 @@
 //! What is said of tunnels: whether a voxel is left to open, what the body would be were openings allowed freely, and T by `--openings`.
 
-mod common;
-
-use common::{answer, path, sample, samples, status, text, wattle, wattle_on, Seed};
+use crate::common::{self, answer, path, sample, samples, status, text, wattle, wattle_on, Seed};
 use wattlerugby::{read, Grid, Opened, Sides, GONE, NO_LIMIT};
 
 /// A ring of eight voxels around an empty one, in the middle layer of 5 x 5 x 3.

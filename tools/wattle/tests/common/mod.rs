@@ -1,7 +1,5 @@
 //! What the tests share: running the tool, the samples, and what the library makes of a file.
 
-#![allow(dead_code)]
-
 pub mod png;
 
 use std::ffi::OsStr;
