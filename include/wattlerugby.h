@@ -9,6 +9,7 @@
  * IN SHORT
  *
  *     wattlerugby_begin     values in, worked distances and status bytes out
+ *     wattlerugby_begin_coarse   the same, with a run on blocks of 2 x 2 x 2 voxels first, for large grids with much around the body
  *     wattlerugby_carve     examines pending voxels and removes those that may go
  *     wattlerugby_take      removes one voxel of your choice, if it may go
  *     wattlerugby_open      opens the body at the farthest voxel, where nothing may go any more
@@ -25,7 +26,7 @@
  *
  * THE STANDARD LOOP
  *
- * After begin: carve until nothing is pending, open, and again, until open refuses; then finish. In slices of 1000 examinations:
+ * After begin, or begin_coarse: carve until nothing is pending, open, and again, until open refuses; then finish. In slices of 1000 examinations:
  *
  *     wattlerugby_record record = begun.next;
  *     wattlerugby_carve_answer carved;
@@ -68,10 +69,11 @@
  *     dist     4           1,048,576      from begin to the last point
  *     status   1             262,144      from begin to the last point
  *     marks    1             262,144      by begin, carve, take and open
+ *     blocks   5/8           163,840      by begin_coarse alone: a distance and a status byte for each 8 voxels
  *
  * So 10 bytes a voxel and the file, and 6 a voxel once begin has answered: then `values` may be given back, unless you want to tell the
- * missing points that count as inside (see begin). Points need 24 bytes for each that you have room for. On the stack carve uses 13 KB,
- * every other call under 1 KB (docs/PERFORMANCE.md).
+ * missing points that count as inside (see begin). A coarse start needs 10 5/8 a voxel, and no later call reads its blocks. Points need 24
+ * bytes for each that you have room for. On the stack carve and begin_coarse use 13 KB, every other call under 1 KB (docs/PERFORMANCE.md).
  *
  * MARKS
  *
@@ -97,6 +99,25 @@
  * that counts, and it stays. A hurry that is new, or a pin that is taken off, makes no voxel pending; only a removal beside it does. So after
  * such a change voxels that could go may be kept and not pending, and open may take one of them, with k and m both 1. Marks of voxels that
  * are inside, gone or on the border have no effect; but each byte of the buffer must be 3 or less, or the call refuses with 29.
+ *
+ * A COARSE START
+ *
+ * Where much of the box around the inside is not inside, as around a stockpile, carve spends its time on voxels far from the body. So a grid
+ * may be begun by begin_coarse: it looks at blocks of 2 x 2 x 2 voxels, carves these to their end without an opening, and hands out the
+ * blocks that are left, split again, as the body that the later calls carve. Each examination of a block stands for those of up to eight
+ * voxels. What follows is as after begin: the same record, the same two buffers, the same calls, and the same promises after every list of
+ * them: the inside is kept, there is no hollow, and the Euler number is right. The examinations of the later calls are at most the voxels of
+ * that starting body and 26 times the removals. Those of blocks are answered beside the record, which does not count them.
+ *
+ * It is a means against time and no other rule. Fewer examinations are not promised: where the inside fills its box, or is noise with few
+ * blocks to spare, the coarse run finds little to remove, and its time is added to the rest. docs/PERFORMANCE.md has both starts on the
+ * same grids. `examined` of the coarse answer and of carve's are of blocks and of voxels, so their sum measures nothing but work.
+ *
+ * The body is another one in general. With `allowed` so great that open ends by 15, and no voxel pinned, both starts leave the same voxels,
+ * which is proved. Otherwise they need not: after 14, and with `allowed` 0, the skin that closes a hole may lie elsewhere. A pin holds more
+ * than after begin: any of its eight voxels pins a block, also one that lies outside the box of voxels around the inside, and such a voxel
+ * is then kept, where begin does not keep it. So a result is handed on with its start, as it is with T and the marks, and two suppliers
+ * compare results of the same start.
  *
  * FACES
  *
@@ -147,11 +168,11 @@
 /* ---- version */
 
 #define WATTLERUGBY_VERSION_MAJOR 0
-#define WATTLERUGBY_VERSION_MINOR 10
+#define WATTLERUGBY_VERSION_MINOR 11
 #define WATTLERUGBY_VERSION_PATCH 0
-#define WATTLERUGBY_VERSION "0.10.0"
+#define WATTLERUGBY_VERSION "0.11.0"
 
-/* The version as one number, 10000 for 0.10.0: the later of two versions has the greater one. It may stand in an #if, where it is 0 with
+/* The version as one number, 11000 for 0.11.0: the later of two versions has the greater one. It may stand in an #if, where it is 0 with
  * a header that does not have it yet. */
 #define WATTLERUGBY_VERSION_NUMBER \
     (WATTLERUGBY_VERSION_MAJOR * 1000000u + WATTLERUGBY_VERSION_MINOR * 1000u + WATTLERUGBY_VERSION_PATCH)
@@ -193,7 +214,7 @@ enum {
 
     /* the input */
     WATTLERUGBY_SIDE = 1,              /* a side is outside 3 to 64 */
-    WATTLERUGBY_LENGTH = 2,            /* the length of a lent value, mark, distance or status buffer is not n */
+    WATTLERUGBY_LENGTH = 2,            /* the length of a lent value, mark, distance or status buffer is not n, or of blocks not n / 8 */
     WATTLERUGBY_BORDER_NEGATIVE = 3,   /* a border voxel is measured negative: the body reaches the edge of the grid */
     WATTLERUGBY_NO_NEGATIVE = 4,       /* no voxel is measured negative: there is no body */
     WATTLERUGBY_INDEX = 5,             /* the index, or in read a patch's index, is n or more; points: the position is over 3 n */
@@ -220,11 +241,14 @@ enum {
     WATTLERUGBY_LAYER_ORDER = 27,      /* a layer's z did not come before, and is not the next: layers go from 0 up, none skipped */
 
     /* the values, lent or in a file */
-    WATTLERUGBY_VALUE = 28,            /* begin, write, read: a value is neither in the range of measured values nor the missing mark */
+    WATTLERUGBY_VALUE = 28,            /* begin, begin_coarse, write, read: a value is neither in the range of measured values nor the missing mark */
 
     /* the marks */
-    WATTLERUGBY_MARK_BYTE = 29,        /* begin, carve, take, open: a lent mark byte is over 3 */
-    WATTLERUGBY_PINNED_VOXEL = 30      /* take: the voxel is pinned */
+    WATTLERUGBY_MARK_BYTE = 29,        /* begin, begin_coarse, carve, take, open: a lent mark byte is over 3 */
+    WATTLERUGBY_PINNED_VOXEL = 30,     /* take: the voxel is pinned */
+
+    /* the coarse start */
+    WATTLERUGBY_COARSE = 31            /* begin_coarse: a side is odd or under 6, or a measured negative voxel lies within 2 of the edge */
 };
 
 /* What a refusal number says, in English, without a full stop. Any number gets a text. */
@@ -257,6 +281,7 @@ static inline const char *wattlerugby_reason(uint8_t refusal)
     case WATTLERUGBY_VALUE: return "a value is neither in range nor the missing mark";
     case WATTLERUGBY_MARK_BYTE: return "a mark byte is over 3";
     case WATTLERUGBY_PINNED_VOXEL: return "the voxel is pinned";
+    case WATTLERUGBY_COARSE: return "the grid is not fit for a coarse start";
     default: return "no number of this library";
     }
 }
@@ -331,7 +356,7 @@ static inline size_t wattlerugby_voxels(wattlerugby_sides sides)
     return sides.a * sides.b * sides.c;
 }
 
-/* What begin makes, and every later call is given and answers anew. Read it freely; do not change it.
+/* What begin and begin_coarse make, and every later call is given and answers anew. Read it freely; do not change it.
  *
  * A record is unfit, refusal 7, where openings > allowed, removals > n, examinations > 27 n, euler > 8 n or euler < -8 n; and with its
  * buffers where a status is not 0, 1 or 3, a border voxel's status is not 0, or a voxel of negative worked distance has a status other
@@ -384,6 +409,50 @@ wattlerugby_begin_answer wattlerugby_begin(
     const uint8_t *marks, size_t marks_len,
     int32_t *dist, size_t dist_len,
     uint8_t *status, size_t status_len);
+
+/* ---- begin coarse */
+
+/* How many blocks of 2 x 2 x 2 voxels a grid with these sides has: so many elements each of the two further buffers of
+ * wattlerugby_begin_coarse has. It is n / 8 rounded down, whatever the sides; 0 where wattlerugby_voxels is 0. */
+static inline size_t wattlerugby_blocks(wattlerugby_sides sides)
+{
+    return wattlerugby_voxels(sides) / 8;
+}
+
+typedef struct wattlerugby_begin_coarse_answer {
+    uint8_t refusal;
+    uint32_t examined;         /* blocks examined by the coarse run, which the record's examinations do not count */
+    wattlerugby_record next;   /* after a refusal all zeros: every call given it refuses with 1 */
+} wattlerugby_begin_coarse_answer;
+
+/* Starts a grid as wattlerugby_begin does, with a coarse run before the voxels are carved: see A COARSE START above. Fills all four buffers,
+ * whatever they held. Gaps, the inside and `dist` are as begin has them.
+ *
+ * Block (x, y, z) has the voxels whose coordinates halved, rounded down, are x, y and z; its index is x + (a / 2) (y + (b / 2) z). Its distance
+ * is the least of its eight voxels' worked distances, so it is negative exactly where one of them is inside. It is pinned where one of them
+ * is, inside the box of voxels or not; hurries wait for the voxels. The run on blocks goes by the rules of begin and carve: kept is the
+ * smallest box of blocks that holds the negative ones, those of them that lie bare and are neither negative nor pinned are pending, and it is
+ * carved to its end, without an opening. A pin on a block beyond that box holds nothing.
+ *
+ * `block_dist` and `block_status` are left as that run leaves them: the distances of all blocks, and WATTLERUGBY_GONE or WATTLERUGBY_KEPT.
+ * Look at them, or lend them to something else: no later call is lent them. `status` gets the voxels of the kept blocks as kept, and all else
+ * as gone. Of these voxels those that are neither inside nor pinned are pending which lie bare or are hurried, as begin has it. The record
+ * has counts of 0 and the Euler number 1.
+ *
+ * Number 31 is for a grid whose blocks would not fit: a side that is odd or under 6, or a voxel measured negative, inside or discarded, that
+ * has a coordinate below 2 or above that side less 3. So leave a border of two voxels around the body, of which the outermost blocks are
+ * made, and see that the sides are even: missing or outside values make up what is wanting. A missing point never gives 31.
+ *
+ * Checks: 1, 2 (`values`, `marks`, `dist`, `status`: n; `block_dist`, `block_status`: n / 8 rounded down, also where a side is odd), 28, 29,
+ * 3, 4, 31. */
+wattlerugby_begin_coarse_answer wattlerugby_begin_coarse(
+    wattlerugby_sides sides, uint16_t allowed,
+    const int32_t *values, size_t values_len,
+    const uint8_t *marks, size_t marks_len,
+    int32_t *dist, size_t dist_len,
+    uint8_t *status, size_t status_len,
+    int32_t *block_dist, size_t block_dist_len,
+    uint8_t *block_status, size_t block_status_len);
 
 /* ---- carve */
 

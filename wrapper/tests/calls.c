@@ -1,6 +1,6 @@
 /* Every call on a state from C, on document 01's case C, with each answer printed: a ring of eight voxels around an empty one, and one
- * opening allowed. Then marks, faces, a file out and in, patches to it, layers of both widths, and what the header says of null pointers, padding
- * and numbers. The status is 0 where all of that holds. */
+ * opening allowed. Then marks, a coarse start, faces, a file out and in, patches to it, layers of both widths, and what the header says of null
+ * pointers, padding and numbers. The status is 0 where all of that holds. */
 #include <stdio.h>
 #include <string.h>
 
@@ -294,6 +294,136 @@ static int marks(void)
     return wrong;
 }
 
+/* ---- a coarse start, in 8 x 8 x 8: voxels (3, 3, 3) and (4, 4, 4) touch in a corner, and each has a block of its own */
+
+enum { OF_COARSE = 512, BLOCKS = 64 };
+
+typedef struct grid_coarse {
+    wattlerugby_sides sides;
+    int32_t values[OF_COARSE];
+    int32_t dist[OF_COARSE];
+    uint8_t marks[OF_COARSE];
+    uint8_t status[OF_COARSE];
+    int32_t block_dist[BLOCKS];
+    uint8_t block_status[BLOCKS];
+    wattlerugby_record record;
+} grid_coarse;
+
+/* Two voxels are inside, the buffers that begin fills are all 7, and T is 9. */
+static grid_coarse two_inside(size_t first, size_t second)
+{
+    static const wattlerugby_sides sides = {8, 8, 8};
+    grid_coarse g;
+    size_t i;
+    memset(&g, 0, sizeof g);
+    memset(g.dist, 7, sizeof g.dist);
+    memset(g.status, 7, sizeof g.status);
+    memset(g.block_dist, 7, sizeof g.block_dist);
+    memset(g.block_status, 7, sizeof g.block_status);
+    g.sides = sides;
+    for (i = 0; i < OF_COARSE; i++)
+        g.values[i] = i == first || i == second ? -5 : 5;
+    return g;
+}
+
+static wattlerugby_begin_coarse_answer begin_coarse(grid_coarse *g, size_t dist_len, size_t status_len)
+{
+    size_t n = wattlerugby_voxels(g->sides);
+    wattlerugby_begin_coarse_answer r = wattlerugby_begin_coarse(g->sides, 9, g->values, n, g->marks, n, g->dist, n, g->status, n,
+                                                                 g->block_dist, dist_len, g->block_status, status_len);
+    g->record = r.next;
+    return r;
+}
+
+static unsigned count(const uint8_t *bytes, size_t length, uint8_t least)
+{
+    unsigned found = 0;
+    while (length-- > 0)
+        found += bytes[length] >= least;
+    return found;
+}
+
+static void print_coarse(const char *what, const grid_coarse *g)
+{
+    printf("  %s: %u voxels kept, %u of them pending\n", what, count(g->status, OF_COARSE, WATTLERUGBY_KEPT),
+           count(g->status, OF_COARSE, WATTLERUGBY_PENDING));
+}
+
+/* The number that ends the standard loop. */
+static uint8_t carve_coarse(grid_coarse *g)
+{
+    wattlerugby_open_answer opened;
+    do {
+        g->record = wattlerugby_carve(g->record, g->dist, OF_COARSE, g->marks, OF_COARSE, g->status, OF_COARSE, WATTLERUGBY_NO_LIMIT).next;
+        opened = wattlerugby_open(g->record, g->dist, OF_COARSE, g->marks, OF_COARSE, g->status, OF_COARSE);
+        g->record = opened.next;
+    } while (opened.refusal == 0);
+    return opened.refusal;
+}
+
+/* Whether a coarse start refuses with this number, answers nothing else and writes nothing. */
+static int refuses_coarse(const grid_coarse *given, size_t dist_len, size_t status_len, uint8_t due)
+{
+    grid_coarse g = *given;
+    wattlerugby_begin_coarse_answer r = begin_coarse(&g, dist_len, status_len);
+    int same = memcmp(g.dist, given->dist, sizeof g.dist) == 0 && memcmp(g.status, given->status, sizeof g.status) == 0 &&
+               memcmp(g.block_dist, given->block_dist, sizeof g.block_dist) == 0 &&
+               memcmp(g.block_status, given->block_status, sizeof g.block_status) == 0;
+    if (r.refusal != due)
+        printf("  refused %u in place of %u\n", r.refusal, due);
+    return same && r.refusal == due && r.examined == 0 && r.next.sides.a == 0 && r.next.euler == 0;
+}
+
+/* 2, 28, 29, 3, 4 and 31, each before what is wrong besides. */
+static int coarse_numbers(void)
+{
+    grid_coarse g = two_inside(219, 292);
+    int wrong = 0;
+    g.values[1 + 8 * (3 + 8 * 3)] = -5;
+    wrong += !refuses_coarse(&g, BLOCKS, BLOCKS, WATTLERUGBY_COARSE);
+    memset(g.values, 0, sizeof g.values);
+    wrong += !refuses_coarse(&g, BLOCKS, BLOCKS, WATTLERUGBY_NO_NEGATIVE);
+    /* a side of 7, whose blocks are n / 8 rounded down */
+    g.sides.c = 7;
+    wrong += !refuses_coarse(&g, 56, 56, WATTLERUGBY_NO_NEGATIVE);
+    g.values[219] = -5;
+    wrong += !refuses_coarse(&g, 56, 56, WATTLERUGBY_COARSE);
+    g.values[0] = -5;
+    wrong += !refuses_coarse(&g, 56, 56, WATTLERUGBY_BORDER_NEGATIVE);
+    g.marks[5] = 4;
+    wrong += !refuses_coarse(&g, 56, 56, WATTLERUGBY_MARK_BYTE);
+    g.values[1] = WATTLERUGBY_GREATEST_VALUE + 1;
+    wrong += !refuses_coarse(&g, 56, 56, WATTLERUGBY_VALUE);
+    wrong += !refuses_coarse(&g, 57, 56, WATTLERUGBY_LENGTH) + !refuses_coarse(&g, 56, 55, WATTLERUGBY_LENGTH);
+    g.sides.a = 65;
+    return wrong + !refuses_coarse(&g, 56, 56, WATTLERUGBY_SIDE);
+}
+
+static int coarse(void)
+{
+    grid_coarse g = two_inside(219, 292);
+    wattlerugby_begin_coarse_answer r = begin_coarse(&g, wattlerugby_blocks(g.sides), wattlerugby_blocks(g.sides));
+    int wrong = r.refusal != 0;
+    printf("coarse:\n  %u blocks examined, %u of %u kept; the blocks of the two have %d and %d\n", (unsigned)r.examined,
+           count(g.block_status, BLOCKS, WATTLERUGBY_KEPT), (unsigned)BLOCKS, (int)g.block_dist[21], (int)g.block_dist[42]);
+    print_record(g.record);
+    print_coarse("begun", &g);
+    wrong += carve_coarse(&g) != WATTLERUGBY_NOTHING_TO_OPEN;
+    print_coarse("carved to the end", &g);
+    print_record(g.record);
+    /* (2, 2, 2) lies in the block of (3, 3, 3), and not in the box around that voxel and (4, 3, 3) */
+    g = two_inside(219, 220);
+    g.marks[146] = WATTLERUGBY_PINNED;
+    g.record = wattlerugby_begin(g.sides, 9, g.values, OF_COARSE, g.marks, OF_COARSE, g.dist, OF_COARSE, g.status, OF_COARSE).next;
+    wrong += carve_coarse(&g) != WATTLERUGBY_NOTHING_TO_OPEN;
+    print_coarse("one pinned, a plain start carved to the end", &g);
+    wrong += begin_coarse(&g, BLOCKS, BLOCKS).refusal != 0 || carve_coarse(&g) != WATTLERUGBY_NOTHING_TO_OPEN;
+    print_coarse("one pinned, a coarse start carved to the end", &g);
+    wrong += coarse_numbers();
+    printf("coarse: %s\n", wrong ? "WRONG" : "blocks are carved first, and a refusal writes nothing");
+    return wrong;
+}
+
 /* ---- faces: a block of 3 x 3 x 3 voxels, of which the middle one of each side in turn is outside. It comes out by that side, whichever call
  * removes it. */
 
@@ -554,6 +684,10 @@ static int nulls(void)
     r.sides = fit;
     wrong += wattlerugby_begin(fit, 0, NULL, 0, NULL, 0, NULL, 0, NULL, 0).refusal != WATTLERUGBY_LENGTH;
     wrong += wattlerugby_begin(unfit, 0, NULL, 0, NULL, 0, NULL, 0, NULL, 0).refusal != WATTLERUGBY_SIDE;
+    wrong += wattlerugby_begin_coarse(fit, 0, NULL, 0, NULL, 0, NULL, 0, NULL, 0, NULL, 0, NULL, 0).refusal != WATTLERUGBY_LENGTH;
+    wrong += wattlerugby_begin_coarse(unfit, 0, NULL, 0, NULL, 0, NULL, 0, NULL, 0, NULL, 0, NULL, 0).refusal != WATTLERUGBY_SIDE;
+    wrong += wattlerugby_begin_coarse(fit, 0, values, 27, unmarked, 27, written, 27, status, 27, NULL, 0, NULL, 0).refusal !=
+             WATTLERUGBY_LENGTH;
     wrong += wattlerugby_carve(r, NULL, 0, NULL, 0, NULL, 0, 1).refusal != WATTLERUGBY_LENGTH;
     wrong += wattlerugby_take(r, NULL, 0, NULL, 0, NULL, 0, 13).refusal != WATTLERUGBY_LENGTH;
     wrong += wattlerugby_open(r, NULL, 0, NULL, 0, NULL, 0).refusal != WATTLERUGBY_LENGTH;
@@ -694,6 +828,7 @@ static void numbers(void)
     NUMBER(VALUE);
     NUMBER(MARK_BYTE);
     NUMBER(PINNED_VOXEL);
+    NUMBER(COARSE);
     printf("255 %s\n", wattlerugby_reason(255));
     printf("longest file %u\n", (unsigned)WATTLERUGBY_LONGEST_FILE);
     printf("values of %d bits, %d to %d, missing %d\n", WATTLERUGBY_VALUE_BITS, WATTLERUGBY_LEAST_VALUE, WATTLERUGBY_GREATEST_VALUE,
@@ -710,14 +845,14 @@ static void numbers(void)
     printf("no face %d\n", WATTLERUGBY_NO_FACE);
 }
 
-/* ---- lengths: a line `A B C VOXELS NARROW WIDE`, with the length of either width, for each side from 2 to 65 along each axis, beside some
- * along the others; then for sides whose product is too large for a size_t */
+/* ---- lengths: a line `A B C VOXELS BLOCKS NARROW WIDE`, with the length of either width, for each side from 2 to 65 along each axis, beside
+ * some along the others; then for sides whose product is too large for a size_t */
 
 static void length(size_t a, size_t b, size_t c)
 {
     const wattlerugby_sides sides = {a, b, c};
-    printf("%zu %zu %zu %zu %zu %zu\n", a, b, c, wattlerugby_voxels(sides), wattlerugby_written_length(sides, WATTLERUGBY_NARROW),
-           wattlerugby_written_length(sides, WATTLERUGBY_WIDE));
+    printf("%zu %zu %zu %zu %zu %zu %zu\n", a, b, c, wattlerugby_voxels(sides), wattlerugby_blocks(sides),
+           wattlerugby_written_length(sides, WATTLERUGBY_NARROW), wattlerugby_written_length(sides, WATTLERUGBY_WIDE));
 }
 
 static void lengths(void)
@@ -837,5 +972,5 @@ int main(int argc, char **argv)
         lengths();
         return 0;
     }
-    return ring() + marks() + faces() + files() + patches() + order() + widths() + nulls() + padding() + finished_bytes();
+    return ring() + marks() + coarse() + faces() + files() + patches() + order() + widths() + nulls() + padding() + finished_bytes();
 }

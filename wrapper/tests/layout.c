@@ -27,6 +27,10 @@ int main(void)
     STRUCT(begin_answer);
     FIELD(begin_answer, refusal);
     FIELD(begin_answer, next);
+    STRUCT(begin_coarse_answer);
+    FIELD(begin_coarse_answer, refusal);
+    FIELD(begin_coarse_answer, examined);
+    FIELD(begin_coarse_answer, next);
     STRUCT(carve_answer);
     FIELD(carve_answer, refusal);
     FIELD(carve_answer, examined);
