@@ -1,8 +1,8 @@
 //! A grid in work: a record with the two buffers that belong to it, and its marks.
 
 use crate::{
-    begin, carve, crossing, finish, open, read_values, take, Carved, Opened, Point, Points, Record, Refusal, Sides, Taken, HURRIED,
-    NO_LIMIT, PINNED, UNMARKED,
+    begin, begin_coarse, carve, crossing, finish, open, read_values, take, Carved, Opened, Point, Points, Record, Refusal, Sides, Taken,
+    HURRIED, NO_LIMIT, PINNED, UNMARKED,
 };
 
 /// A record with its worked distances and status bytes, and the marks that it lends to each call: none, unless you set them. After each call
@@ -42,6 +42,18 @@ pub struct Grid {
     ended_by: Option<Refusal>,
 }
 
+/// What the coarse run of [`Grid::begin_coarse`] left: of each block of 2 x 2 x 2 voxels its distance, and whether it is kept. Block (x, y, z) has
+/// the index x + a / 2 (y + b / 2 z) with sides a, b, c. No later call needs it.
+#[derive(Clone, Debug, PartialEq, Eq)]
+pub struct Blocks {
+    /// Blocks examined, which the record's examinations do not count.
+    pub examined: u32,
+    /// The least worked distance of each block's eight voxels.
+    pub dist: Vec<i32>,
+    /// [`crate::GONE`] or [`crate::KEPT`].
+    pub status: Vec<u8>,
+}
+
 impl Grid {
     /// Starts a grid from n measured values. See [`crate::begin`].
     pub fn begin(sides: Sides, allowed: u16, values: &[i32]) -> Result<Grid, Refusal> {
@@ -72,6 +84,62 @@ impl Grid {
     /// ```
     pub fn begin_marked(sides: Sides, allowed: u16, values: &[i32], marks: &[u8]) -> Result<Grid, Refusal> {
         Grid::start(sides, allowed, values, marks.to_vec())
+    }
+
+    /// Starts a grid from n measured values, with a run on blocks of 2 x 2 x 2 voxels first. See [`crate::begin_coarse`], and "A coarse start" on
+    /// the crate's page.
+    ///
+    /// ```
+    /// use wattlerugby::{Grid, Refusal, Sides};
+    ///
+    /// // three rods from one corner, one along each axis: most of the box around them is outside
+    /// let sides = Sides { a: 14, b: 14, c: 14 };
+    /// let place = |i: usize| [i % 14, i / 14 % 14, i / 196];
+    /// let of_a_rod = |i: usize| place(i).iter().all(|p| (2..12).contains(p)) && place(i).iter().filter(|&&p| p == 2).count() > 1;
+    /// let values: Vec<i32> = (0..2744).map(|i| if of_a_rod(i) { -5 } else { 5 }).collect();
+    ///
+    /// let mut plain = Grid::begin(sides, u16::MAX, &values)?;
+    /// let (mut coarse, blocks) = Grid::begin_coarse(sides, u16::MAX, &values)?;
+    /// plain.carve_to_the_end()?;
+    /// coarse.carve_to_the_end()?;
+    /// assert_eq!(plain.status(), coarse.status()); // both ended by 15, and nothing is pinned
+    /// assert_eq!(plain.ended_by(), Some(Refusal::NOTHING_TO_OPEN));
+    /// assert!(u64::from(blocks.examined) + coarse.record().examinations < plain.record().examinations);
+    ///
+    /// assert_eq!(Grid::begin_coarse(Sides { c: 13, ..sides }, 0, &values[..13 * 196]), Err(Refusal::COARSE)); // an odd side
+    /// # Ok::<(), Refusal>(())
+    /// ```
+    pub fn begin_coarse(sides: Sides, allowed: u16, values: &[i32]) -> Result<(Grid, Blocks), Refusal> {
+        Grid::start_coarse(sides, allowed, values, vec![UNMARKED; sides.voxels().unwrap_or(0)])
+    }
+
+    /// The same with n marks of its own. A pin holds the block that it lies in, also where the voxel lies outside the box around the inside; hurried
+    /// voxels wait for the voxels' own turn. See [`crate::begin_coarse`].
+    ///
+    /// ```
+    /// use wattlerugby::{Grid, Sides, GONE, KEPT, PINNED, UNMARKED};
+    ///
+    /// let sides = Sides { a: 8, b: 8, c: 8 };
+    /// let (mut values, mut marks) = ([5; 512], [UNMARKED; 512]);
+    /// (values[219], values[220]) = (-5, -5); // (3, 3, 3) and (4, 3, 3), and nothing else is in the box around them
+    /// marks[146] = PINNED; // (2, 2, 2), in the block of (3, 3, 3)
+    /// let plain = Grid::begin_marked(sides, 0, &values, &marks)?;
+    /// let (coarse, blocks) = Grid::begin_coarse_marked(sides, 0, &values, &marks)?;
+    /// assert_eq!((plain.status()[146], coarse.status()[146]), (GONE, KEPT));
+    /// assert_eq!((blocks.dist.len(), blocks.status[21]), (64, KEPT));
+    /// # Ok::<(), wattlerugby::Refusal>(())
+    /// ```
+    pub fn begin_coarse_marked(sides: Sides, allowed: u16, values: &[i32], marks: &[u8]) -> Result<(Grid, Blocks), Refusal> {
+        Grid::start_coarse(sides, allowed, values, marks.to_vec())
+    }
+
+    fn start_coarse(sides: Sides, allowed: u16, values: &[i32], marks: Vec<u8>) -> Result<(Grid, Blocks), Refusal> {
+        let (n, blocks) = (sides.voxels().unwrap_or(0), sides.blocks().unwrap_or(0));
+        let (mut dist, mut status) = (vec![0; n], vec![0; n]);
+        let (mut block_dist, mut block_status) = (vec![0; blocks], vec![0; blocks]);
+        let begun = begin_coarse(sides, allowed, values, &marks, &mut dist, &mut status, &mut block_dist, &mut block_status)?;
+        let grid = Grid { record: begun.next, dist, marks, status, ended_by: None };
+        Ok((grid, Blocks { examined: begun.examined, dist: block_dist, status: block_status }))
     }
 
     fn start(sides: Sides, allowed: u16, values: &[i32], marks: Vec<u8>) -> Result<Grid, Refusal> {

@@ -70,6 +70,19 @@
 //! # Ok::<(), Refusal>(())
 //! ```
 //!
+//! # A coarse start
+//!
+//! Where much of the box around the inside is not inside, as around a stockpile, [`carve`] spends its time on voxels far from the body.
+//! [`begin_coarse`] first carves blocks of 2 x 2 x 2 voxels to their end, without an opening, and hands out the kept blocks, split again, as the
+//! body that the later calls carve. Record, buffers, calls and promises are those of [`begin`]; the blocks' examinations are answered beside the
+//! record. Fewer examinations in all are not promised: where the inside fills its box there is little for blocks to save.
+//!
+//! The body need not be that of a plain start. Where [`open`] ends by 15 and nothing is pinned, it is, which is proved; with T limited the skin that
+//! closes a hole may lie elsewhere, and a pin holds its whole block in the coarse run, also where its voxel lies outside the box around the inside.
+//!
+//! It needs even sides of 6 or more, and two voxels between the body and the grid's edge: otherwise it refuses with 31. It is lent a distance and a
+//! status byte for each block besides; [`Grid::begin_coarse`] has them.
+//!
 //! # The archive
 //!
 //! The library is the archive that `rt staticlib capi` writes: build.rs looks for it in the folder that the variable `WATTLERUGBY_ARCHIVE`
@@ -95,7 +108,7 @@ mod refusal;
 mod surface;
 
 pub use face::Face;
-pub use grid::Grid;
+pub use grid::{Blocks, Grid};
 pub use refusal::Refusal;
 pub use surface::Points;
 
@@ -183,9 +196,21 @@ impl Sides {
         let fit = [self.a, self.b, self.c].iter().all(|side| (3..=64).contains(side));
         fit.then(|| self.a * self.b * self.c)
     }
+
+    /// n / 8 rounded down, the number of blocks of 2 x 2 x 2 voxels: so many elements each of the further buffers of [`begin_coarse`] has, whatever
+    /// the sides. Nothing where a side is outside 3 to 64.
+    ///
+    /// ```
+    /// # use wattlerugby::Sides;
+    /// assert_eq!(Sides { a: 8, b: 8, c: 6 }.blocks(), Some(48));
+    /// assert_eq!(Sides { a: 5, b: 5, c: 3 }.blocks(), Some(9));
+    /// ```
+    pub fn blocks(&self) -> Option<usize> {
+        self.voxels().map(|n| n / 8)
+    }
 }
 
-/// What [`begin`] makes, and every later call is given and answers anew.
+/// What [`begin`] and [`begin_coarse`] make, and every later call is given and answers anew.
 ///
 /// A record is unfit, number 7, where openings > allowed, removals > n, examinations > 27 n or |euler| > 8 n; and with its buffers where a
 /// status is not 0, 1 or 3, a border voxel's status is not 0, or a voxel of negative worked distance has a status other than 1.
@@ -219,6 +244,15 @@ pub struct Point {
     pub y: f64,
     /// Along z.
     pub z: f64,
+}
+
+/// What [`begin_coarse`] did.
+#[derive(Clone, Copy, Debug, PartialEq, Eq)]
+pub struct CoarseBegun {
+    /// Blocks examined by the coarse run, which the record's examinations do not count.
+    pub examined: u32,
+    /// The record for the next call.
+    pub next: Record,
 }
 
 /// What [`carve`] did.
@@ -406,6 +440,69 @@ pub fn begin(sides: Sides, allowed: u16, values: &[i32], marks: &[u8], dist: &mu
         )
     };
     done(r.refusal, r.next.into())
+}
+
+/// Starts a grid as [`begin`] does, with a run on blocks of 2 x 2 x 2 voxels first, and fills all four other buffers. Gaps, the inside and `dist`
+/// are [`begin`]'s. `block_dist` and `block_status` have [`Sides::blocks`] elements, and are left as the coarse run leaves them.
+///
+/// A block's distance is the least of its eight voxels', and it is pinned where one of them is; hurries wait. Kept at first is the smallest box of
+/// blocks that holds the negative ones, and it is carved to its end without an opening. The voxels of the blocks that are left are the body to
+/// start from; of them those that are neither inside nor pinned are pending which lie bare or are hurried.
+///
+/// Checks: 1, 2 (any of the six buffers), 28, 29, 3, 4, 31 (a side is odd or under 6, or a measured negative voxel, inside or not, has a coordinate
+/// below 2 or above that side less 3).
+///
+/// ```
+/// use wattlerugby::{begin_coarse, Refusal, Sides, GONE, KEPT, PENDING, UNMARKED};
+///
+/// let sides = Sides { a: 8, b: 8, c: 6 };
+/// let mut values = [5; 384];
+/// values[2 + 8 * (2 + 8 * 2)] = -5;
+/// values[3 + 8 * (3 + 8 * 3)] = -5; // of the same block, and joined to the first by nothing: it is discarded
+/// let (mut dist, mut status, mut block_dist, mut block_status) = ([0; 384], [0; 384], [0; 48], [0; 48]);
+/// let mut begin = |values: &[i32]| {
+///     begin_coarse(sides, 0, values, &[UNMARKED; 384], &mut dist, &mut status, &mut block_dist, &mut block_status)
+/// };
+/// let begun = begin(&values)?;
+/// assert_eq!((begun.examined, begun.next.examinations, begun.next.euler), (0, 0, 1));
+///
+/// values[1 + 8 * (2 + 8 * 2)] = -5; // one voxel off the edge, and two are asked for
+/// assert_eq!(begin(&values), Err(Refusal::COARSE));
+/// assert_eq!((block_dist[21], block_status[21], block_status[22]), (-5, KEPT, GONE));
+/// assert_eq!((status[2 + 8 * (2 + 8 * 2)], status[3 + 8 * (2 + 8 * 2)]), (KEPT, PENDING));
+/// # Ok::<(), Refusal>(())
+/// ```
+#[allow(clippy::too_many_arguments)] // one of each that the call takes
+pub fn begin_coarse(
+    sides: Sides,
+    allowed: u16,
+    values: &[i32],
+    marks: &[u8],
+    dist: &mut [i32],
+    status: &mut [u8],
+    block_dist: &mut [i32],
+    block_status: &mut [u8],
+) -> Result<CoarseBegun, Refusal> {
+    // SAFETY: as in `begin`, of four mutable slices.
+    let r = unsafe {
+        raw::wattlerugby_begin_coarse(
+            sides,
+            allowed,
+            values.as_ptr(),
+            values.len(),
+            marks.as_ptr(),
+            marks.len(),
+            dist.as_mut_ptr(),
+            dist.len(),
+            status.as_mut_ptr(),
+            status.len(),
+            block_dist.as_mut_ptr(),
+            block_dist.len(),
+            block_status.as_mut_ptr(),
+            block_status.len(),
+        )
+    };
+    done(r.refusal, CoarseBegun { examined: r.examined, next: r.next.into() })
 }
 
 /// Examines pending voxels, `limit` of them at most: hurried ones before all others, and of either each time the one with the greatest worked

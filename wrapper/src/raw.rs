@@ -39,6 +39,13 @@ pub struct BeginAnswer {
 }
 
 #[repr(C)]
+pub struct BeginCoarseAnswer {
+    pub refusal: u8,
+    pub examined: u32,
+    pub next: Record,
+}
+
+#[repr(C)]
 pub struct CarveAnswer {
     pub refusal: u8,
     pub examined: u32,
@@ -141,6 +148,23 @@ extern "C" {
         status: *mut u8,
         status_len: usize,
     ) -> BeginAnswer;
+
+    pub fn wattlerugby_begin_coarse(
+        sides: Sides,
+        allowed: u16,
+        values: *const i32,
+        values_len: usize,
+        marks: *const u8,
+        marks_len: usize,
+        dist: *mut i32,
+        dist_len: usize,
+        status: *mut u8,
+        status_len: usize,
+        block_dist: *mut i32,
+        block_dist_len: usize,
+        block_status: *mut u8,
+        block_status_len: usize,
+    ) -> BeginCoarseAnswer;
 
     #[link_name = "wattlerugby_carve_9"]
     pub fn wattlerugby_carve(

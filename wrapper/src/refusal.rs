@@ -71,6 +71,8 @@ numbers! {
     28 VALUE "a value is neither in range nor the missing mark"
     29 MARK_BYTE "a mark byte is over 3"
     30 PINNED_VOXEL "the voxel is pinned"
+    /// A side is odd or under 6, or a measured negative voxel has a coordinate below 2 or above that side less 3.
+    31 COARSE "the grid is not fit for a coarse start"
 }
 
 impl std::fmt::Debug for Refusal {

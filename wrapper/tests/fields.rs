@@ -92,6 +92,36 @@ fn begin_and_its_buffers() {
 }
 
 #[test]
+fn begin_coarse_and_its_buffers() {
+    const SIDES: Sides = Sides { a: 6, b: 8, c: 10 };
+    const N: usize = 480;
+    // of 1 x 2 x 3 inner blocks the first and the last have a voxel of the inside each, and the four between them are pending
+    let mut values = [7i32; N];
+    (values[3 + 6 * (3 + 8 * 3)], values[3 + 6 * (4 + 8 * 4)], values[3 + 6 * (4 + 8 * 6)], values[3 + 6 * (4 + 8 * 5)]) = (-5, -6, -7, -8);
+    let (marks, mut dist, mut status, mut block_dist, mut block_status) = ([0u8; N], [0i32; N], [9u8; N], [0i32; N / 8], [9u8; N / 8]);
+    // SAFETY: the pointers are those of four live arrays of N elements and of two of N / 8, of which no more is lent than there is.
+    let mut begin = |[v, m, d, s, bd, bs]: [usize; 6]| unsafe {
+        let (voxels, blocks) = ((dist.as_mut_ptr(), status.as_mut_ptr()), (block_dist.as_mut_ptr(), block_status.as_mut_ptr()));
+        let (values, marks) = (values.as_ptr(), marks.as_ptr());
+        wattlerugby_begin_coarse(SIDES, 0xABCD, values, v, marks, m, voxels.0, d, voxels.1, s, blocks.0, bd, blocks.1, bs)
+    };
+    const LENGTHS: [usize; 6] = [N, N, N, N, N / 8, N / 8];
+    for short in 0..6 {
+        let mut lengths = LENGTHS;
+        lengths[short] -= 1;
+        let refused = begin(lengths);
+        assert_eq!((refused.refusal, refused.examined, refused.next), (2, 0, Record::default()));
+    }
+    let begun = begin(LENGTHS);
+    let record = Record { sides: SIDES, allowed: 0xABCD, euler: 1, ..Record::default() };
+    assert_eq!((begun.refusal, begun.examined, begun.next), (0, 3, record));
+    assert_eq!((dist[3 + 6 * (3 + 8 * 3)], status[0], status[3 + 6 * (3 + 8 * 3)]), (-5, 0, 1));
+    let block = |y: usize, z: usize| (block_dist[1 + 3 * (y + 4 * z)], block_status[1 + 3 * (y + 4 * z)]);
+    assert_eq!([block(1, 1), block(2, 2), block(2, 3)], [(-5, 1), (-8, 1), (-7, 1)]);
+    assert_eq!([block(2, 1), block(1, 2), block(1, 3)].map(|(_, status)| status), [0; 3]);
+}
+
+#[test]
 fn a_point_has_three_coordinates() {
     let (mut values, mut dist, mut status) = ([7i32; N], [0i32; N], [0u8; N]);
     values[1 + 3 * (2 + 4 * 3)] = -7;

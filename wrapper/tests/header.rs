@@ -64,6 +64,7 @@ fn sizes_and_offsets() {
     lay_out!(ours, "record", Record, sides allowed openings removals examinations euler finished);
     lay_out!(ours, "point", Point, x y z);
     lay_out!(ours, "begin_answer", BeginAnswer, refusal next);
+    lay_out!(ours, "begin_coarse_answer", BeginCoarseAnswer, refusal examined next);
     lay_out!(ours, "carve_answer", CarveAnswer, refusal examined removed pending face next);
     lay_out!(ours, "take_answer", TakeAnswer, refusal k m face next);
     lay_out!(ours, "open_answer", OpenAnswer, refusal index k m face next);
@@ -79,7 +80,7 @@ fn sizes_and_offsets() {
     }
 }
 
-/// Each call's answers, marks, faces, a file out and in, patches, layers out of order, both widths, null pointers, padding.
+/// Each call's answers, marks, a coarse start, faces, a file out and in, patches, layers out of order, both widths, null pointers, padding.
 #[test]
 fn calls() {
     let source = root().join("wrapper/tests/calls.c");
@@ -123,8 +124,8 @@ fn lengths() {
     for line in said[0].lines() {
         let numbers: Vec<usize> = line.split(' ').map(|word| word.parse().expect("a number")).collect();
         let sides = Sides { a: numbers[0], b: numbers[1], c: numbers[2] };
-        assert_eq!(sides.voxels().unwrap_or(0), numbers[3], "{line}");
-        for ((width, values), length) in values.iter().zip([numbers[4], numbers[5]]) {
+        assert_eq!([sides.voxels(), sides.blocks()].map(Option::unwrap_or_default), numbers[3..5], "{line}");
+        for ((width, values), length) in values.iter().zip([numbers[5], numbers[6]]) {
             assert_eq!(written_length(sides, *width).unwrap_or(0), length, "{line}");
             let Some(n) = sides.voxels() else {
                 assert_eq!((write(sides, 0, values, &mut file), length), (Err(Refusal::SIDE), 0), "{line}");

@@ -5,7 +5,7 @@ use wattlerugby::{Grid, Refusal, Sides, GONE, HURRIED, MISSING, PINNED, UNMARKED
 struct Carved {
     sides: Sides,
     inside: Vec<bool>,
-    /// Pinned, and in the box that begin keeps.
+    /// Pinned, and in the body that carving starts from.
     held: Vec<bool>,
     kept: Vec<bool>,
     ended_by: Refusal,
@@ -13,14 +13,14 @@ struct Carved {
     euler: i32,
 }
 
-/// Noise off the border: of 100 voxels so many negative and 5 missing.
-fn noise(sides: Sides, negative: u32, seed: &mut u32) -> Vec<i32> {
+/// Noise so many voxels off the border: of 100 so many negative and 5 missing.
+fn noise(sides: Sides, off: usize, negative: u32, seed: &mut u32) -> Vec<i32> {
     let n = sides.voxels().unwrap();
     let mut next = |below: u32| {
         *seed = seed.wrapping_mul(1_664_525).wrapping_add(1_013_904_223);
         (*seed >> 16) % below
     };
-    let end = |i: usize, side: usize| i == 0 || i + 1 == side;
+    let end = |i: usize, side: usize| i < off || i + off >= side;
     (0..n)
         .map(|i| {
             let [x, y, z] = place(sides, i);
@@ -39,8 +39,13 @@ fn place(sides: Sides, i: usize) -> [usize; 3] {
     [i % sides.a, i / sides.a % sides.b, i / (sides.a * sides.b)]
 }
 
-fn carved(sides: Sides, allowed: u16, values: &[i32], marks: &[u8]) -> Option<Carved> {
-    let mut grid = match Grid::begin_marked(sides, allowed, values, marks) {
+/// A plain start, or a coarse one.
+type Start = fn(Sides, u16, &[i32], &[u8]) -> Result<Grid, Refusal>;
+const PLAIN: Start = Grid::begin_marked;
+const COARSE: Start = |sides, allowed, values, marks| Ok(Grid::begin_coarse_marked(sides, allowed, values, marks)?.0);
+
+fn carved(start: Start, sides: Sides, allowed: u16, values: &[i32], marks: &[u8]) -> Option<Carved> {
+    let mut grid = match start(sides, allowed, values, marks) {
         Err(Refusal::NO_NEGATIVE) => return None,
         begun => begun.unwrap(),
     };
@@ -119,11 +124,11 @@ fn the_last_answer_of_open() {
     let (mut ends, mut unequal) = ([0; 2], 0);
     for round in 0..120usize {
         let sides = Sides { a: 5 + round % 4, b: 6, c: 5 + round % 3 };
-        let values = noise(sides, 20 + 10 * (round as u32 % 6), &mut seed);
+        let values = noise(sides, 1, 20 + 10 * (round as u32 % 6), &mut seed);
         for allowed in [0, 1, 3, u16::MAX] {
-            if let Some(c) = carved(sides, allowed, &values, &vec![UNMARKED; values.len()]) {
+            if let Some(c) = carved(PLAIN, sides, allowed, &values, &vec![UNMARKED; values.len()]) {
                 check(&c, allowed);
-                one_more(&c, carved(sides, allowed.saturating_add(1), &values, &vec![UNMARKED; values.len()]));
+                one_more(&c, carved(PLAIN, sides, allowed.saturating_add(1), &values, &vec![UNMARKED; values.len()]));
                 let nothing_to_open = c.ended_by == Refusal::NOTHING_TO_OPEN;
                 ends[usize::from(nothing_to_open)] += 1;
                 unequal += i32::from(nothing_to_open && c.openings as i32 != 1 - c.euler);
@@ -134,30 +139,54 @@ fn the_last_answer_of_open() {
     assert!(unequal > 0, "openings and tunnels need not be equal in number");
 }
 
-/// The same with one voxel in ten pinned and others hurried: after 15 the body may have more pieces than one.
-#[test]
-fn with_pins() {
-    let mut seed = 11;
-    let (mut filled, mut free) = (0, 0);
+/// One voxel in ten pinned, and others hurried.
+fn some_marks(n: usize, round: usize) -> Vec<u8> {
+    let mark = |i: usize| match ((i + round) % 10, (7 * i + round) % 6) {
+        (0, 0) => PINNED | HURRIED,
+        (0, _) => PINNED,
+        (_, 0) => HURRIED,
+        _ => UNMARKED,
+    };
+    (0..n).map(mark).collect()
+}
+
+/// The same with pins and hurries: after 15 the body may have more pieces than one. Gives how many were carved with T = 0 and a pin that holds, and
+/// how many fell into pieces.
+fn marked(start: Start, allowed: &[u16], grid: impl Fn(usize, &mut u32) -> (Sides, Vec<i32>)) -> (usize, usize) {
+    let (mut seed, mut filled, mut free) = (11, 0, 0);
     for round in 0..120usize {
-        let sides = Sides { a: 5 + round % 4, b: 6, c: 5 + round % 3 };
-        let values = noise(sides, 3 + 10 * (round as u32 % 6), &mut seed);
-        let mark = |i: usize| match ((i + round) % 10, (7 * i + round) % 6) {
-            (0, 0) => PINNED | HURRIED,
-            (0, _) => PINNED,
-            (_, 0) => HURRIED,
-            _ => UNMARKED,
-        };
-        let marks: Vec<u8> = (0..values.len()).map(mark).collect();
-        for allowed in [0, 1, 3, u16::MAX] {
-            if let Some(c) = carved(sides, allowed, &values, &marks) {
+        let (sides, values) = grid(round, &mut seed);
+        let marks = some_marks(values.len(), round);
+        for &allowed in allowed {
+            if let Some(c) = carved(start, sides, allowed, &values, &marks) {
                 let pieces = check(&c, allowed);
-                one_more(&c, carved(sides, allowed.saturating_add(1), &values, &marks));
+                one_more(&c, carved(start, sides, allowed.saturating_add(1), &values, &marks));
                 assert!((0..values.len()).all(|i| c.kept[i] || !c.held[i]), "a pin holds");
                 filled += usize::from(allowed == 0 && c.held.contains(&true));
                 free += usize::from(c.ended_by == Refusal::NOTHING_TO_OPEN && pieces > 1);
             }
         }
     }
+    (filled, free)
+}
+
+#[test]
+fn with_pins() {
+    let grid = |round: usize, seed: &mut u32| {
+        let sides = Sides { a: 5 + round % 4, b: 6, c: 5 + round % 3 };
+        (sides, noise(sides, 1, 3 + 10 * (round as u32 % 6), seed))
+    };
+    let (filled, free) = marked(PLAIN, &[0, 1, 3, u16::MAX], grid);
+    assert!(filled > 50 && free > 10, "{filled} with T = 0, {free} in pieces");
+}
+
+/// All of it holds from a coarse start on.
+#[test]
+fn with_pins_and_a_coarse_start() {
+    let grid = |round: usize, seed: &mut u32| {
+        let sides = Sides { a: 8 + 2 * (round % 2), b: 8, c: 6 + 2 * (round % 3) };
+        (sides, noise(sides, 2, 3 + 10 * (round as u32 % 6), seed))
+    };
+    let (filled, free) = marked(COARSE, &[0, 2, u16::MAX], grid);
     assert!(filled > 50 && free > 10, "{filled} with T = 0, {free} in pieces");
 }
