@@ -2,9 +2,11 @@
 
 use crate::file::{is_negative, Scan};
 use crate::groups::groups;
-use crate::marks::idle;
+use crate::marks::{idle, told};
 use crate::progress::Progress;
-use wattlerugby::{Grid, Opened, Refusal, GONE, MISSING, PINNED, UNMARKED};
+use crate::start::Start;
+use crate::words::{are, some};
+use wattlerugby::{Grid, Opened, Refusal, GONE, MISSING, PINNED};
 
 /// Examinations between two looks at the clock. Each call of carve checks the whole grid, so fewer would cost more.
 const SLICE: u32 = 200_000;
@@ -104,6 +106,9 @@ impl Kind {
 #[derive(Debug)]
 pub struct Body<'a> {
     pub scan: &'a Scan,
+    pub start: Start,
+    /// Blocks that a coarse run examined, where the start is coarse.
+    pub coarse: Option<u32>,
     pub grid: Grid,
     pub kinds: Vec<Kind>,
     pub openings: Vec<Opened>,
@@ -112,26 +117,27 @@ pub struct Body<'a> {
 }
 
 impl<'a> Body<'a> {
-    /// Carves to the end, as the program does, which marks no voxel.
-    pub fn carve(scan: &'a Scan) -> Result<Body<'a>, Refusal> {
-        Body::carve_marked(scan, &vec![UNMARKED; scan.values.len()])
+    /// Carves to the end from a start.
+    pub fn carve(scan: &'a Scan, start: Start) -> Result<Body<'a>, Refusal> {
+        Body::carve_allowing(scan, scan.allowed, start)
     }
 
-    /// The same with a mark for each voxel.
-    pub fn carve_marked(scan: &'a Scan, marks: &[u8]) -> Result<Body<'a>, Refusal> {
-        Body::carve_allowing(scan, scan.allowed, marks)
-    }
-
-    /// What carving leaves with the same marks and as many openings as can be allowed. Nothing where that is this body: without a voxel left
+    /// What carving leaves from the same start with as many openings as can be allowed. Nothing where that is this body: without a voxel left
     /// to open, further openings change nothing.
     pub fn freely(&self) -> Option<Body<'a>> {
-        let free = || Body::carve_allowing(self.scan, u16::MAX, self.grid.marks()).expect("begin takes the same values again");
+        let free = || Body::carve_allowing(self.scan, u16::MAX, self.start.clone()).expect("begin takes the same values again");
         (self.to_open() > 0).then(free)
     }
 
-    fn carve_allowing(scan: &'a Scan, allowed: u16, marks: &[u8]) -> Result<Body<'a>, Refusal> {
-        let mut grid = Grid::begin_marked(scan.sides, allowed, &scan.values, marks)?;
-        let notes = idle(scan, &grid);
+    /// What carving leaves with the same marks and openings from a plain start, where this one is coarse.
+    pub fn begun_plainly(&self) -> Option<Body<'a>> {
+        let plain = Start { coarse: false, ..self.start.clone() };
+        self.coarse.map(|_| Body::carve(self.scan, plain).expect("begin takes what a coarse start takes"))
+    }
+
+    fn carve_allowing(scan: &'a Scan, allowed: u16, start: Start) -> Result<Body<'a>, Refusal> {
+        let (mut grid, coarse) = start.begin(scan, allowed)?;
+        let notes = idle(scan, &start, &grid);
         // finish makes all that is kept negative, so the inside is told now
         let inside: Vec<bool> = grid.distances().iter().map(|&d| d < 0).collect();
         let mut openings: Vec<Opened> = Vec::new();
@@ -146,16 +152,39 @@ impl<'a> Body<'a> {
         }
         grid.finish()?;
         let kinds = kinds(scan, &grid, &inside, &openings);
-        Ok(Body { scan, grid, kinds, openings, notes })
+        Ok(Body { scan, start, coarse, grid, kinds, openings, notes })
     }
 
     pub fn count(&self, kind: Kind) -> usize {
         self.kinds.iter().filter(|&&k| k == kind).count()
     }
 
-    /// Says on the standard error which marks do nothing.
+    /// What a command that says no more of the body is to note: which marks do nothing, and that a coarse start's body is its own.
+    pub fn all_notes(&self) -> Vec<String> {
+        self.notes.iter().cloned().chain(self.of_its_own()).collect()
+    }
+
+    /// Says these on the standard error.
     pub fn note(&self) {
-        self.notes.iter().for_each(|note| eprintln!("wattle: note: {note}"));
+        self.all_notes().iter().for_each(|note| eprintln!("wattle: note: {note}"));
+    }
+
+    /// That a plain start may leave another body. With nothing pinned or left to open both leave the same, given openings enough, which is proved
+    /// (docs/RESULT.md).
+    fn of_its_own(&self) -> Option<String> {
+        let why = match (self.to_open(), self.count(Kind::Pinned)) {
+            (0, 0) => None,
+            (0, pinned) => Some(are(pinned, "voxel") + " pinned"),
+            (left, _) => Some(some(left, "voxel") + " could still be opened"),
+        };
+        let told =
+            |why: String| format!("{why}, so a plain start may leave another body than this coarse one: `wattle explain --coarse` says.");
+        why.filter(|_| self.coarse.is_some()).map(told)
+    }
+
+    /// How it was begun, where that is not as the program does.
+    pub fn begun(&self) -> String {
+        told(&self.start.marks) + if self.start.coarse { ", begun coarse" } else { "" }
     }
 
     /// How many voxels open could take, were one more opening allowed: kept, neither inside nor pinned, and beside one that is gone. It
@@ -191,11 +220,12 @@ impl<'a> Body<'a> {
         (0..self.kinds.len()).filter(move |&i| of(i))
     }
 
-    /// The line that the program prints.
+    /// The line that the program prints; after a coarse start with the blocks examined behind it.
     pub fn line(&self) -> String {
         let kept = self.grid.status().iter().filter(|&&s| s != GONE).count();
         let r = self.grid.record();
-        format!("kept {kept} removed {} opened {} examined {} euler {}", r.removals, r.openings, r.examinations, r.euler)
+        let coarse = self.coarse.map_or(String::new(), |examined| format!(" coarse {examined}"));
+        format!("kept {kept} removed {} opened {} examined {} euler {}{coarse}", r.removals, r.openings, r.examinations, r.euler)
     }
 
     /// Voxels that are measured negative and not of the inside.

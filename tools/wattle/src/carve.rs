@@ -2,11 +2,11 @@
 
 use crate::args::Args;
 use crate::body::Body;
-use crate::file::{Source, HEADER};
+use crate::file::{Source, FOR_COARSE, HEADER};
 use crate::frame::Frame;
 use crate::json::{object, of_body, of_refused};
 use crate::many::{each, Said};
-use crate::marks::marks;
+use crate::start::Start;
 use crate::{Answer, Failure, Status};
 use wattlerugby::{Grid, Refusal};
 
@@ -30,11 +30,12 @@ fn carved(args: &Args, frame: &Frame, source: Source) -> Result<Said, Failure> {
         Ok(scan) => scan.allowing(args)?,
         Err((_, number)) => return Ok(refused(args, &name, number)),
     };
-    match Body::carve_marked(&scan, &marks(args, &scan)?) {
+    match Body::carve(&scan, Start::of(args, &scan)?) {
+        Err(Refusal::COARSE) => Ok(Said { notes: vec![FOR_COARSE.to_string()], ..refused(args, &name, Refusal::COARSE) }),
         Err(number) => Ok(refused(args, &name, number)),
         Ok(body) => {
             let text = if args.has("--json") { object(&of_body(&body, frame)) + "\n" } else { line(args, &name, body.line()) };
-            Ok(Said { text, notes: body.notes, status: Status::Done })
+            Ok(Said { text, notes: body.all_notes(), status: Status::Done })
         }
     }
 }

@@ -3,6 +3,7 @@
 use crate::args::Args;
 use crate::body::Body;
 use crate::file::Scan;
+use crate::start::Start;
 use crate::{Answer, Failure, Status};
 use wattlerugby::Refusal;
 
@@ -13,7 +14,7 @@ pub fn compare(args: &Args) -> Result<Answer, Failure> {
     let [left, right] = [0, 1].map(|i| Scan::open(&args.files[i]).map_err(|f| Failure { status: Status::Unusable, ..f }));
     let (left, right) = (left?, right?);
     let most = if args.has("--all") { usize::MAX } else { LISTED };
-    let (bodies, mut told) = ([Body::carve(&left), Body::carve(&right)], Vec::new());
+    let (bodies, mut told) = ([&left, &right].map(|scan| Body::carve(scan, Start::plain(scan))), Vec::new());
     if left.allowed != right.allowed {
         told.push(format!("T: {} and {}\n", left.allowed, right.allowed));
     }

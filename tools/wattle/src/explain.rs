@@ -8,8 +8,8 @@ use crate::file::{LayerRecord, Records, Scan, Source, HEADER, PATCH, PATCH_HEAD}
 use crate::frame::Frame;
 use crate::json::{object, of_body, of_refused, string};
 use crate::many::{each, Said};
-use crate::marks::{marks, told};
 use crate::meaning::meaning;
+use crate::start::Start;
 use crate::words::some;
 use crate::{Answer, Failure, Status};
 use std::collections::BTreeSet;
@@ -26,7 +26,7 @@ fn explained(args: &Args, frame: &Frame, source: Source) -> Result<Said, Failure
         Err((source, refused)) => (refused, unreadable(&source, &records, refused)),
         Ok(scan) => {
             let scan = scan.allowing(args)?;
-            match Body::carve_marked(&scan, &marks(args, &scan)?) {
+            match Body::carve(&scan, Start::of(args, &scan)?) {
                 Ok(body) => return Ok(taken(args, frame, &body, of_file(&records, limit))),
                 Err(refused) => (refused, unfit(&scan, &records, refused)),
             }
@@ -242,6 +242,7 @@ fn wrong_index(sides: Sides, begins: &str, next: usize, index: usize) -> (String
 pub fn unfit(scan: &Scan, records: &Records, refused: Refusal) -> (String, String) {
     match refused {
         Refusal::BORDER_NEGATIVE => on_the_edge(scan, records),
+        Refusal::COARSE => unfit_for_blocks(scan, records),
         _ => nothing_negative(scan, records),
     }
 }
@@ -274,6 +275,29 @@ fn on_the_edge(scan: &Scan, records: &Records) -> (String, String) {
     (place, "leave a rim of one voxel or more around the body, measured outside or missing. `wattle look` marks these voxels.".to_string())
 }
 
+/// Sides, or voxels with a coordinate below 2 or above that side less 3; what to do goes by what is wrong.
+fn unfit_for_blocks(scan: &Scan, records: &Records) -> (String, String) {
+    let Sides { a, b, c } = scan.sides;
+    let sides = [("a", a), ("b", b), ("c", c)].into_iter().filter(|(_, side)| side % 2 == 1 || *side < 6);
+    let sides: Vec<String> = sides.map(|(name, side)| format!("side {name} is {side}")).collect();
+    let near = |p: usize, side: usize| p < 2 || p + 3 > side;
+    let is_near = |&i: &usize| is_negative(scan.values[i]) && scan.place(i).iter().zip([a, b, c]).any(|(&p, side)| near(p, side));
+    let found: Vec<usize> = (0..scan.values.len()).filter(is_near).collect();
+    let (mut places, mut advice) = (Vec::new(), Vec::new());
+    if !sides.is_empty() {
+        places.push(format!("{}, and a coarse start needs even sides of 6 or more", sides.join(", ")));
+        advice.push("make each side even and 6 or more");
+    }
+    if let Some(&first) = found.first() {
+        let lie = if found.len() == 1 { "negative voxel lies" } else { "negative voxels lie" };
+        places.push(format!("{} {lie} within two voxels of the grid's edge; the first is {}", found.len(), value_at(scan, records, first)));
+        advice.push("leave a border of two voxels or more around all that is measured negative");
+    }
+    let advice =
+        format!("{}, with voxels measured outside or missing. Or leave out --coarse: then the grid is taken.", advice.join(", and "));
+    (places.join(". ") + ".", advice)
+}
+
 fn nothing_negative(scan: &Scan, records: &Records) -> (String, String) {
     let missing = scan.values.iter().filter(|&&v| v == MISSING).count();
     let measured = (0..scan.values.len()).filter(|&i| scan.values[i] != MISSING);
@@ -298,8 +322,8 @@ fn taken(args: &Args, frame: &Frame, body: &Body, more: Vec<String>) -> Said {
         let more = [("free_tunnels", free.shape().1.to_string()), ("first_free_tunnel", first), ("says", says)];
         return Said::new(object(&[&of_body(body, frame)[..], &more].concat()) + "\n", Status::Done);
     }
-    let (scan, marked) = (body.scan, told(body.grid.marks()));
-    let mut text = format!("{} is taken: {} voxels, {}{marked}.\n{}\n", scan.name, scan.size(), scan.allowed_told(), body.line());
+    let (scan, begun) = (body.scan, body.begun());
+    let mut text = format!("{} is taken: {} voxels, {}{begun}.\n{}\n", scan.name, scan.size(), scan.allowed_told(), body.line());
     text.extend(sentences.iter().map(|sentence| format!("- {sentence}\n")));
     Said::new(text, Status::Done)
 }

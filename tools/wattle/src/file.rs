@@ -255,8 +255,15 @@ pub fn is_value(value: i32) -> bool {
     value == MISSING || (LEAST_VALUE..=GREATEST_VALUE).contains(&value)
 }
 
+/// What a coarse start asks of a grid, where it refuses with 31.
+pub const FOR_COARSE: &str = "a coarse start needs even sides of 6 or more, and a border of two voxels around what is measured negative; \
+                              `wattle explain --coarse` says where, and without --coarse the grid is taken";
+
 /// The line for a grid that a command cannot work on.
 pub fn refusal(name: &str, refused: Refusal) -> Failure {
-    let line = format!("{name}: {refused}; `wattle explain` says where, and what to do");
+    let line = match refused {
+        Refusal::COARSE => format!("{name}: {refused}: {FOR_COARSE}"),
+        _ => format!("{name}: {refused}; `wattle explain` says where, and what to do"),
+    };
     Failure { line, status: Status::Refused }
 }

@@ -59,6 +59,15 @@ macro_rules! marks {
     };
 }
 
+macro_rules! coarse {
+    () => {
+        "  --coarse        carve blocks of 2 x 2 x 2 voxels first, then the voxels of the blocks that are left: for large grids with much around
+                  the body. It needs even sides of 6 or more, and a border of two voxels around what is measured negative. With T limited
+                  or voxels pinned the body need not be that of a plain start
+"
+    };
+}
+
 macro_rules! voxel {
     () => {
         "  --voxel SIZE    a voxel's size in units of your own, or SIZE,SIZE,SIZE along x, y and z: volumes are given in cubic units too
@@ -78,9 +87,10 @@ pub const COMMANDS: &[Command] = &[
     Command {
         name: "look",
         files: Files::One,
-        options: &["--png", "--layer=", "--layers=", "--scale=", "--openings=", "--pin=", "--hurry="],
+        options: &["--png", "--layer=", "--layers=", "--scale=", "--openings=", "--pin=", "--hurry=", "--coarse"],
         help: concat!(
-            "wattle look FILE [--layer Z | --layers A-B] [--png [--scale N]] [--openings N] [--pin VOXEL ..] [--hurry VOXEL ..] [-o OUT]
+            "wattle look FILE [--layer Z | --layers A-B] [--png [--scale N]] [--openings N] [--pin VOXEL ..] [--hurry VOXEL ..] [--coarse]
+                 [-o OUT]
 
 Shows what carving leaves of a grid, layer by layer, x to the right and y down, with a key and counts. Where the grid is refused
 for its values, these are shown in its place, with those that it is refused for marked.
@@ -102,6 +112,7 @@ face with it is measured negative: no shot reaches the middle of a thick wall.
 ",
             openings!(),
             marks!(),
+            coarse!(),
             "
 A pin holds a voxel of the box around the inside, from which carving starts; elsewhere it does nothing, and a note says so. What is pinned
 may hang free in the end. A hurried voxel goes only if it may, as any other: the body can become another, since the order is. A hurry on a
@@ -112,9 +123,9 @@ voxel that is pinned does nothing either, and a note says so.
     Command {
         name: "explain",
         files: Files::Several,
-        options: &["--json", "--voxel=", "--openings=", "--pin=", "--hurry="],
+        options: &["--json", "--voxel=", "--openings=", "--pin=", "--hurry=", "--coarse"],
         help: concat!(
-            "wattle explain FILE .. [--json] [--voxel SIZE] [--openings N] [--pin VOXEL ..] [--hurry VOXEL ..] [-o OUT]
+            "wattle explain FILE .. [--json] [--voxel SIZE] [--openings N] [--pin VOXEL ..] [--hurry VOXEL ..] [--coarse] [-o OUT]
 
 Says why a grid file is refused: the number, the byte, the layer, the patch or the voxel, and what to do. Where it is taken, says what
 its result means: how many tunnels the body has, whether a voxel is left to open, and how many tunnels there would be were openings
@@ -126,16 +137,17 @@ how much of it nobody measured. Of several files, each is explained, and the las
 ",
             voxel!(),
             openings!(),
-            marks!()
+            marks!(),
+            coarse!()
         ),
     },
     Command {
         name: "list",
         files: Files::One,
-        options: &["--csv", "--json", "--kind=", "--voxel=", "--origin=", "--openings=", "--pin=", "--hurry="],
+        options: &["--csv", "--json", "--kind=", "--voxel=", "--origin=", "--openings=", "--pin=", "--hurry=", "--coarse"],
         help: concat!(
             "wattle list FILE [--kind KIND ..] [--csv | --json] [--voxel SIZE] [--origin X,Y,Z] [--openings N] [--pin VOXEL ..]
-                 [--hurry VOXEL ..] [-o OUT]
+                 [--hurry VOXEL ..] [--coarse] [-o OUT]
 
 The voxels to go back to, one a line: x, y, z, index, value and kind. The value is left empty, in JSON null, where the range point is
 missing. A voxel of two kinds is listed under each.
@@ -153,6 +165,7 @@ missing. A voxel of two kinds is listed under each.
             place!(),
             openings!(),
             marks!(),
+            coarse!(),
             "
 Without --csv or --json, the ending of OUT decides. With --voxel or --origin each voxel's centre is given in units too.
 "
@@ -161,9 +174,10 @@ Without --csv or --json, the ending of OUT decides. With --voxel or --origin eac
     Command {
         name: "points",
         files: Files::One,
-        options: &["--ply", "--xyz", "--voxel=", "--origin=", "--openings=", "--pin=", "--hurry="],
+        options: &["--ply", "--xyz", "--voxel=", "--origin=", "--openings=", "--pin=", "--hurry=", "--coarse"],
         help: concat!(
-            "wattle points FILE [--ply | --xyz] [--voxel SIZE] [--origin X,Y,Z] [--openings N] [--pin VOXEL ..] [--hurry VOXEL ..] [-o OUT]
+            "wattle points FILE [--ply | --xyz] [--voxel SIZE] [--origin X,Y,Z] [--openings N] [--pin VOXEL ..] [--hurry VOXEL ..] [--coarse]
+                   [-o OUT]
 
 The points where the body's surface crosses from voxel to voxel, for CloudCompare, MeshLab and others. Coordinates are in voxels:
 the centre of voxel (x, y, z) is the point (x, y, z).
@@ -174,6 +188,7 @@ the centre of voxel (x, y, z) is the point (x, y, z).
             place!(),
             openings!(),
             marks!(),
+            coarse!(),
             "
 Without --ply or --xyz, the ending of OUT decides.
 "
@@ -182,10 +197,10 @@ Without --ply or --xyz, the ending of OUT decides.
     Command {
         name: "volume",
         files: Files::One,
-        options: &["--vtk", "--nrrd", "--field=", "--voxel=", "--origin=", "--openings=", "--pin=", "--hurry="],
+        options: &["--vtk", "--nrrd", "--field=", "--voxel=", "--origin=", "--openings=", "--pin=", "--hurry=", "--coarse"],
         help: concat!(
             "wattle volume FILE [--vtk | --nrrd] [--field FIELD] [--voxel SIZE] [--origin X,Y,Z] [--openings N] [--pin VOXEL ..]
-                   [--hurry VOXEL ..] [-o OUT]
+                   [--hurry VOXEL ..] [--coarse] [-o OUT]
 
 The carved grid as a volume, for ParaView, 3D Slicer and others, a voxel a sample.
 
@@ -200,6 +215,7 @@ The carved grid as a volume, for ParaView, 3D Slicer and others, a voxel a sampl
             place!(),
             openings!(),
             marks!(),
+            coarse!(),
             "
 Without --vtk or --nrrd, the ending of OUT decides. How large the body is, `wattle explain` says.
 "
@@ -220,9 +236,9 @@ the same, 1 where they differ, 2 where a file cannot be read as a grid.
     Command {
         name: "page",
         files: Files::One,
-        options: &["--voxel=", "--origin=", "--openings=", "--pin=", "--hurry="],
+        options: &["--voxel=", "--origin=", "--openings=", "--pin=", "--hurry=", "--coarse"],
         help: concat!(
-            "wattle page FILE [--voxel SIZE] [--origin X,Y,Z] [--openings N] [--pin VOXEL ..] [--hurry VOXEL ..] [-o OUT]
+            "wattle page FILE [--voxel SIZE] [--origin X,Y,Z] [--openings N] [--pin VOXEL ..] [--hurry VOXEL ..] [--coarse] [-o OUT]
 
 One HTML page that opens in any browser without a network: what `wattle explain` says, layers to scroll through, and the surface's
 points to turn, with a key of their own; the openings, in the picture and as a list that leads to each. Where openings allowed freely make
@@ -233,7 +249,8 @@ still where the reader wants no motion, has letters in the squares for grey prin
 ",
             place!(),
             openings!(),
-            marks!()
+            marks!(),
+            coarse!()
         ),
     },
     Command {
@@ -310,9 +327,9 @@ to a voxel the later one stands. FILE stays as it is. `wattle rewrite` puts patc
     Command {
         name: "carve",
         files: Files::Several,
-        options: &["--large", "--json", "--voxel=", "--openings=", "--pin=", "--hurry="],
+        options: &["--large", "--json", "--voxel=", "--openings=", "--pin=", "--hurry=", "--coarse"],
         help: concat!(
-            "wattle carve FILE .. [--large] [--json] [--voxel SIZE] [--openings N] [--pin VOXEL ..] [--hurry VOXEL ..] [-o OUT]
+            "wattle carve FILE .. [--large] [--json] [--voxel SIZE] [--openings N] [--pin VOXEL ..] [--hurry VOXEL ..] [--coarse] [-o OUT]
 
 Prints the line that the program `carve` prints, with an exit status: 0 carved, 1 refused, 2 usage or a file that cannot be read.
 As the program does, it refuses input over 65,536 bytes with number 25, before all else, and a side over 24 with number 1; where --large
@@ -326,8 +343,10 @@ and the status is that of the worst.
             voxel!(),
             openings!(),
             marks!(),
+            coarse!(),
             "
-The program itself marks no voxel, and takes T from the file.
+After a coarse start the line ends with the examinations of blocks, `coarse 57`, and JSON has them as `coarse_examined`. The program itself
+starts plainly, marks no voxel, and takes T from the file.
 "
         ),
     },
@@ -356,8 +375,8 @@ FILE may be -, the standard input; after --, every word is a file. With -o OUT t
 What takes long shows its progress on a terminal. Several files are shared out among the processor's cores.
 
 All but compare and patch take --openings N in place of the file's T, the number of openings allowed. All but compare, make, patch and
-rewrite take --pin VOXEL, which holds a voxel, and --hurry VOXEL, which has it examined before all others unless it is pinned. VOXEL is
-X,Y,Z, an index, or @LIST, a file with one voxel a line.
+rewrite take --pin VOXEL, which holds a voxel, --hurry VOXEL, which has it examined before all others unless it is pinned, and --coarse,
+which carves blocks of 2 x 2 x 2 voxels first. VOXEL is X,Y,Z, an index, or @LIST, a file with one voxel a line.
 
 Exit status: 0 done; 1 the grid is refused (compare: the two differ); 2 usage, or a file cannot be read or written.
 ",

@@ -49,6 +49,7 @@ pub fn of_body(body: &Body, frame: &Frame) -> Vec<Field> {
         ("unmeasured", amounts.unmeasured as i64),
     ];
     fields.extend(numbers.map(|(name, number)| (name, number.to_string())));
+    fields.extend(body.coarse.map(|examined| ("coarse_examined", examined.to_string())));
     let cubic = [("volume", amounts.kept), ("volume_unmeasured", amounts.unmeasured)];
     fields.extend(cubic.into_iter().filter_map(|(name, voxels)| Some((name, frame.cubic(voxels)?.to_string()))));
     fields

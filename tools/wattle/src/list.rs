@@ -6,7 +6,7 @@ use crate::file::{refusal, Scan};
 use crate::frame::Frame;
 use crate::gaps::dents;
 use crate::json::{object, string};
-use crate::marks::marks;
+use crate::start::Start;
 use crate::{Answer, Failure, Status};
 use wattlerugby::MISSING;
 
@@ -26,7 +26,7 @@ pub fn list(args: &Args) -> Result<Answer, Failure> {
         return Err(Failure::unusable(format!("there is no kind {kind}; the kinds are {}", KINDS.join(", "))));
     }
     let scan = Scan::open(&args.files[0])?.allowing(args)?;
-    let body = Body::carve_marked(&scan, &marks(args, &scan)?).map_err(|refused| refusal(&scan.name, refused))?;
+    let body = Body::carve(&scan, Start::of(args, &scan)?).map_err(|refused| refusal(&scan.name, refused))?;
     body.note();
     let asked = |kind: &&str| !args.has("--kind") || args.values("--kind").any(|word| word == *kind);
     let entries: Vec<Entry> = KINDS.into_iter().filter(asked).flat_map(|kind| entries(&body, kind)).collect();

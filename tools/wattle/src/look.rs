@@ -2,8 +2,8 @@
 
 use crate::args::Args;
 use crate::body::{kinds_of_values, Body, Kind};
-use crate::file::Scan;
-use crate::marks::{marks, told};
+use crate::file::{refusal, Scan};
+use crate::start::Start;
 use crate::{picture, Answer, Failure, Status};
 use std::ops::RangeInclusive;
 use wattlerugby::Refusal;
@@ -17,8 +17,8 @@ pub struct View<'a> {
     pub kinds: Vec<Kind>,
     /// The kinds that can occur, in the order of the key.
     pub key: &'static [Kind],
-    /// How many voxels are marked, in words.
-    marked: String,
+    /// How it was begun, in words, where that is not as the program does.
+    begun: String,
     /// The program's line, or the refusal in words.
     pub line: String,
     pub status: Status,
@@ -34,13 +34,13 @@ impl<'a> View<'a> {
 
     pub fn of(body: &Body<'a>) -> View<'a> {
         let key: &[Kind] = if body.count(Kind::Pinned) > 0 { &Kind::WITH_PINS } else { &Kind::CARVED };
-        let (kinds, marked) = (body.kinds.clone(), told(body.grid.marks()));
-        View { scan: body.scan, kinds, key, marked, line: body.line(), status: Status::Done }
+        let (kinds, begun) = (body.kinds.clone(), body.begun());
+        View { scan: body.scan, kinds, key, begun, line: body.line(), status: Status::Done }
     }
 
     pub fn refused(scan: &'a Scan, refused: Refusal) -> View<'a> {
         let (kinds, line) = (kinds_of_values(scan), refused.to_string());
-        View { scan, kinds, key: &Kind::REFUSED, marked: String::new(), line, status: Status::Refused }
+        View { scan, kinds, key: &Kind::REFUSED, begun: String::new(), line, status: Status::Refused }
     }
 
     /// Layers with their z.
@@ -50,7 +50,7 @@ impl<'a> View<'a> {
     }
 
     pub fn title(&self) -> String {
-        format!("{}: {}, {}{}", self.scan.name, self.scan.size(), self.scan.allowed_told(), self.marked)
+        format!("{}: {}, {}{}", self.scan.name, self.scan.size(), self.scan.allowed_told(), self.begun)
     }
 
     pub fn count(&self, kind: Kind) -> usize {
@@ -68,7 +68,10 @@ pub fn look(args: &Args) -> Result<Answer, Failure> {
     let scan = Scan::open(&args.files[0])?.allowing(args)?;
     let shown = shown(args, scan.sides.c - 1)?;
     let scale = args.number("--scale", 1, 32)?;
-    let body = Body::carve_marked(&scan, &marks(args, &scan)?);
+    let body = Body::carve(&scan, Start::of(args, &scan)?);
+    if let Err(Refusal::COARSE) = body {
+        return Err(refusal(&scan.name, Refusal::COARSE));
+    }
     body.iter().for_each(Body::note);
     let view = View::new(&scan, &body);
     if format == "--png" {

@@ -32,6 +32,7 @@ mod points;
 mod progress;
 mod removals;
 mod rewrite;
+mod start;
 mod volume;
 mod words;
 

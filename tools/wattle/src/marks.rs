@@ -2,6 +2,7 @@
 
 use crate::args::Args;
 use crate::file::Scan;
+use crate::start::Start;
 use crate::Failure;
 use wattlerugby::{Grid, Sides, GONE, HURRIED, PINNED, UNMARKED};
 
@@ -58,17 +59,17 @@ pub fn told(marks: &[u8]) -> String {
 }
 
 /// Sentences on marks that do nothing, by a grid that has just begun. Of a voxel with both the pin alone counts.
-pub fn idle(scan: &Scan, grid: &Grid) -> Vec<String> {
+pub fn idle(scan: &Scan, start: &Start, grid: &Grid) -> Vec<String> {
+    let gone_at_first = match start.coarse {
+        true => "outside the blocks that carving starts from, where all is gone",
+        false => "outside the box around the inside, where all is gone",
+    };
     let sentence = |(_, mark, name): (&str, u8, &str)| {
         let marked: Vec<usize> = (0..grid.marks().len()).filter(|&i| grid.marks()[i] & mark != 0).collect();
         let (gone, kept): (Vec<usize>, Vec<usize>) = marked.iter().partition(|&&i| grid.status()[i] == GONE);
         let (inside, outside): (Vec<usize>, Vec<usize>) = kept.into_iter().partition(|&i| grid.distances()[i] < 0);
         let held: Vec<usize> = outside.into_iter().filter(|&i| mark == HURRIED && grid.marks()[i] & PINNED != 0).collect();
-        let places = [
-            (inside, "inside, where all is kept"),
-            (gone, "outside the box around the inside, where all is gone"),
-            (held, "pinned too, where the pin alone counts"),
-        ];
+        let places = [(inside, "inside, where all is kept"), (gone, gone_at_first), (held, "pinned too, where the pin alone counts")];
         let found: Vec<String> = places
             .iter()
             .filter_map(|(voxels, place)| {

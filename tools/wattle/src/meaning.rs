@@ -6,12 +6,13 @@ use crate::file::Scan;
 use crate::frame::Frame;
 use crate::gaps::{dents, Gaps, Tally};
 use crate::groups::{groups, places, sizes_and_places};
-use crate::words::{some, was};
-use wattlerugby::MISSING;
+use crate::words::{are, some, was};
+use wattlerugby::{GONE, MISSING};
 
 /// `free` is what carving leaves where openings are allowed freely, which may be the same body.
 pub fn meaning(body: &Body, free: &Body, frame: &Frame) -> Vec<String> {
     let mut told = vec![closed(body), freely(free)];
+    told.extend(coarse(body));
     told.extend(pinned(body));
     told.push(filled(body));
     told.extend(assumed(body));
@@ -63,6 +64,27 @@ fn freely(free: &Body) -> String {
         format!(", first at {}{missing}", free.scan.voxel(first))
     });
     format!("Were openings allowed freely, the body would have {tunnels}{place}.")
+}
+
+/// What a coarse start did, and how its body stands to that of a plain start.
+fn coarse(body: &Body) -> Option<String> {
+    let (plain, of_blocks) = (body.begun_plainly()?, body.coarse?);
+    let kept = |body: &Body, i: usize| body.grid.status()[i] != GONE;
+    let [here, there] = [body, &plain].map(|body| body.grid.record());
+    let left = body.all(|i| kept(body, i)).count() + here.removals as usize;
+    let work = format!(
+        "The start is coarse: {} of blocks left {} to carve, and {} of voxels followed; a plain start takes {} of voxels",
+        some(of_blocks as usize, "examination"),
+        some(left, "voxel"),
+        here.examinations,
+        there.examinations
+    );
+    let more = body.all(|i| kept(&plain, i) && !kept(body, i)).count();
+    let fewer = body.all(|i| kept(body, i) && !kept(&plain, i)).count();
+    Some(match (more, fewer) {
+        (0, 0) => format!("{work}, and leaves the same body."),
+        _ => format!("{work}, and leaves another body: {} kept there and not here, {fewer} here and not there.", are(more, "voxel")),
+    })
 }
 
 /// Openings that nobody saw.

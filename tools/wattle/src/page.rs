@@ -6,11 +6,11 @@ use crate::explain::unfit;
 use crate::file::{refusal, Records, Scan, Source};
 use crate::frame::Frame;
 use crate::look::View;
-use crate::marks::marks;
 use crate::meaning::meaning;
 use crate::picture::{png, web};
 use crate::points::{surface, SurfacePoint};
 use crate::removals::{removals, Removal};
+use crate::start::Start;
 use crate::{Answer, Failure};
 use wattlerugby::{Opened, Refusal, Sides};
 
@@ -21,8 +21,9 @@ pub fn page(args: &Args) -> Result<Answer, Failure> {
     let (frame, source) = (Frame::of(args)?, Source::open(&args.files[0])?);
     let records = source.records();
     let scan = source.read().map_err(|(source, refused)| refusal(&source.name, refused))?.allowing(args)?;
-    let shown = match Body::carve_marked(&scan, &marks(args, &scan)?) {
+    let shown = match Body::carve(&scan, Start::of(args, &scan)?) {
         Ok(body) => carved(&body, &frame),
+        Err(Refusal::COARSE) => return Err(refusal(&scan.name, Refusal::COARSE)),
         Err(refused) => vec![Shown::refused(&scan, &records, refused)],
     };
     let view = &shown[0].view;

@@ -4,7 +4,7 @@ use crate::args::Args;
 use crate::body::{Body, Kind};
 use crate::file::{refusal, Scan};
 use crate::frame::Frame;
-use crate::marks::marks;
+use crate::start::Start;
 use crate::{Answer, Failure};
 use std::fmt::Write;
 use wattlerugby::{Point, Sides, MISSING};
@@ -25,7 +25,7 @@ impl SurfacePoint {
 pub fn points(args: &Args) -> Result<Answer, Failure> {
     let (format, frame) = (args.format(["--ply", "--xyz"])?, Frame::of(args)?);
     let scan = Scan::open(&args.files[0])?.allowing(args)?;
-    let body = Body::carve_marked(&scan, &marks(args, &scan)?).map_err(|refused| refusal(&scan.name, refused))?;
+    let body = Body::carve(&scan, Start::of(args, &scan)?).map_err(|refused| refusal(&scan.name, refused))?;
     body.note();
     let points = surface(&body);
     let text = if format == "--ply" { ply(&body, &points, &frame) } else { xyz(&points, &frame) };

@@ -1,7 +1,7 @@
 //! Every removal of a body, in its order, with the side that the voxel came out by: for the page, where each slides away.
 
 use crate::body::Body;
-use wattlerugby::{Face, Grid, GONE};
+use wattlerugby::{Face, GONE};
 
 /// The largest grid that is looked at so. Every call of carve checks the whole grid, and here each makes one examination: at 64 x 64 x 64 that
 /// took 19 seconds for a sphere, and minutes for noise.
@@ -17,8 +17,7 @@ pub fn removals(body: &Body) -> Vec<Removal> {
     if body.kinds.len() > MOST {
         return Vec::new();
     }
-    let (scan, allowed, marks) = (body.scan, body.grid.record().allowed, body.grid.marks());
-    let mut grid = Grid::begin_marked(scan.sides, allowed, &scan.values, marks).expect("begin takes the same values again");
+    let (mut grid, _) = body.start.begin(body.scan, body.grid.record().allowed).expect("begin takes the same values again");
     let (mut made, mut kept) = (Vec::new(), grid.status().to_vec());
     loop {
         let carved = grid.carve(1).expect("a begun grid is carved");

@@ -4,7 +4,7 @@ use crate::args::Args;
 use crate::body::Body;
 use crate::file::{refusal, Scan};
 use crate::frame::Frame;
-use crate::marks::marks;
+use crate::start::Start;
 use crate::{Answer, Failure};
 use wattlerugby::Sides;
 
@@ -26,7 +26,7 @@ pub fn volume(args: &Args) -> Result<Answer, Failure> {
         return Err(Failure::unusable(format!("there is no field {name}; the fields are {}", NAMES.join(", "))));
     }
     let scan = Scan::open(&args.files[0])?.allowing(args)?;
-    let body = Body::carve_marked(&scan, &marks(args, &scan)?).map_err(|refused| refusal(&scan.name, refused))?;
+    let body = Body::carve(&scan, Start::of(args, &scan)?).map_err(|refused| refusal(&scan.name, refused))?;
     body.note();
     let bytes = match format {
         "--nrrd" => nrrd(&body, &frame, field(&body, named.unwrap_or("distances"))),

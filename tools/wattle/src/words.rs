@@ -9,3 +9,8 @@ pub fn some(count: usize, what: &str) -> String {
 pub fn was(count: usize, what: &str) -> String {
     some(count, what) + if count == 1 { " was" } else { " were" }
 }
+
+/// `1 voxel is`, `2 voxels are`.
+pub fn are(count: usize, what: &str) -> String {
+    some(count, what) + if count == 1 { " is" } else { " are" }
+}

@@ -1,6 +1,7 @@
 //! Every test of the tool in one program, so that it is linked once: each file here is a module of it.
 
 mod amounts;
+mod coarse;
 mod common;
 mod course;
 mod formats;
