@@ -42,6 +42,8 @@ pub fn samples() -> Vec<Sample> {
         Sample::new("ball", [9, 9, 9], 1, |x, y, z| tenths(ball(3.2, 4.0, x, y, z))),
         Sample::new("hollow", [9, 9, 9], 5, |x, y, z| tenths(ball(3.4, 4.0, x, y, z).max(-ball(1.2, 4.0, x, y, z)))),
         Sample::new("pieces", [15, 9, 9], 1, |x, y, z| tenths(ball(3.2, 4.0, x, y, z).min(ball(1.2, 11.0, x, y, z)))),
+        Sample::new("stockpile", [24, 24, 12], 1, noisy(2, stockpile_with_gap)),
+        Sample::new("hopper", [20, 20, 18], 0, noisy(4, |x, y, z| tenths(hopper(x, y, z)))),
     ]
 }
 
@@ -124,6 +126,28 @@ fn wall_with_gaps(x: f64, y: f64, z: f64) -> i32 {
             tenths(beyond(x, 7.5, 6.0).max(beyond(y, 5.0, 3.5)).max(beyond(z, 4.0, 2.5)).max(cut))
         }
     }
+}
+
+/// A stockpile on the ground, tipped along an L of 11 by 11 voxels: its ridge falls off to both sides. No shot reaches its middle.
+fn stockpile_with_gap(x: f64, y: f64, z: f64) -> i32 {
+    let along = |p: f64| (p - p.clamp(6.0, 17.0)).abs();
+    let from_ridge = length(&[x - 6.0, along(y)]).min(length(&[along(x), y - 17.0]));
+    match heap(from_ridge, z) {
+        deep if deep < -1.5 => MISSING,
+        distance => tenths(distance),
+    }
+}
+
+/// The distance from the surface of a heap 4 voxels wide to either side of its ridge and 6 high, by how far the ridge is.
+fn heap(from_ridge: f64, z: f64) -> f64 {
+    ((z - 7.5 + 1.5 * from_ridge) / length(&[1.0, 1.5])).max(1.5 - z)
+}
+
+/// A hopper: a wall around a bore that narrows along z.
+fn hopper(x: f64, y: f64, z: f64) -> f64 {
+    let bore = 5.0 - 0.25 * (z - 2.0);
+    let from_axis = length(&[x - 9.5, y - 9.5]);
+    (from_axis - bore - 1.8).max(bore - from_axis).max((z - 8.5).abs() - 6.5)
 }
 
 /// The gap through the pane's whole thickness, shot again. Its first shot, on the pane's face, went through, and was made once more: of two

@@ -7,7 +7,7 @@ mod generator;
 
 use common::root;
 use std::process::{Command, Stdio};
-use wattlerugby::{patch, read, read_layer, Grid, Refusal, GONE, MISSING, WIDE};
+use wattlerugby::{patch, read, read_layer, read_values, Grid, Refusal, GONE, MISSING, WIDE};
 
 #[test]
 fn files_and_pictures() {
@@ -133,4 +133,43 @@ fn one_opening_more() {
     assert_eq!(one.status(), two.status());
     assert_eq!((two.record().openings, two.record().euler), (1, 0));
     assert_eq!(one.record().examinations, two.record().examinations);
+}
+
+/// A sample carved to the end from a plain start and from a coarse one, with this T, and the examinations of blocks.
+fn both_starts(name: &str, allowed: u16) -> (Grid, Grid, u32) {
+    let file = std::fs::read(root().join(format!("samples/{name}.grid"))).expect("the sample can be read");
+    let (sides, _, values) = read_values(&file).expect("the sample is read");
+    let mut plain = Grid::begin(sides, allowed, &values).expect("the sample is taken");
+    let (mut coarse, blocks) = Grid::begin_coarse(sides, allowed, &values).expect("the sample is fit for a coarse start");
+    plain.carve_to_the_end().expect("a begun grid is carved");
+    coarse.carve_to_the_end().expect("a begun grid is carved");
+    (plain, coarse, blocks.examined)
+}
+
+/// The lines from a coarse start as samples/README.md has them; whether the body is a plain start's; and the layers of the hopper by both.
+#[test]
+fn coarse_starts() {
+    let page = std::fs::read_to_string(root().join("samples/README.md")).expect("samples/README.md can be read");
+    for (name, allowed, same) in [("stockpile", 1, true), ("hopper", 0, false)] {
+        let (plain, coarse, of_blocks) = both_starts(name, allowed);
+        let (kept, r) = (coarse.status().iter().filter(|&&s| s != GONE).count(), coarse.record());
+        let counts = format!("kept {kept} removed {} opened {} examined {} euler {}", r.removals, r.openings, r.examinations, r.euler);
+        let line = format!("    {:16}{counts} coarse {of_blocks}\n", format!("{name}.grid"));
+        assert!(page.contains(&line), "samples/README.md does not say: {line}");
+        assert_eq!(plain.status() == coarse.status(), same, "{name}");
+    }
+    let (plain, coarse, _) = both_starts("hopper", 1);
+    assert_eq!(plain.status(), coarse.status(), "with T = 1 both leave the same");
+    let (plain, coarse, _) = both_starts("hopper", 0);
+    let inside = Grid::from_file(&std::fs::read(root().join("samples/hopper.grid")).expect("the sample can be read")).expect("it is taken");
+    let mark = |grid: &Grid, i: usize| match (grid.status()[i], inside.distances()[i] < 0) {
+        (GONE, _) => '.',
+        (_, true) => '#',
+        _ => 'o',
+    };
+    for y in 6..14 {
+        let row = |grid: &Grid, z: usize| (5..15).map(|x| mark(grid, x + 20 * (y + 20 * z))).collect::<String>();
+        let rows = [&plain, &coarse].map(|grid| [13, 14, 15].map(|z| row(grid, z)).join("  "));
+        assert!(page.contains(&format!("    {}\n", rows.join("        "))), "samples/README.md has other layers of the hopper, at y = {y}");
+    }
 }
