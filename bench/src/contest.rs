@@ -147,11 +147,15 @@ pub fn turns(calls: &Calls, case: &Case, state: &mut State, log: &mut Log) {
     }
 }
 
+pub fn finish(calls: &Calls, _: &Case, state: &mut State, _: &mut Log) {
+    state.record = (calls.finish)(state.record, &mut state.dist, &state.status).expect("finish takes the state");
+}
+
 pub fn whole(calls: &Calls, case: &Case, state: &mut State, log: &mut Log) {
     begin(calls, case, state, log);
     carve(calls, case, state, log);
     turns(calls, case, state, log);
-    state.record = (calls.finish)(state.record, &mut state.dist, &state.status).expect("finish takes the state");
+    finish(calls, case, state, log);
 }
 
 pub type Run = fn(&Calls, &Case, &mut State, &mut Log);

@@ -1,4 +1,4 @@
-//! The grids that are measured: a sphere, a torus and white noise, and those with gaps behind the face, each fitted to the sides.
+//! The grids that are measured: a sphere, a torus and white noise, those with gaps behind the face, and a stockpile, each fitted to the sides.
 
 use crate::types::{narrowed, size, Sides, HURRIED, MISSING, PINNED, UNMARKED};
 use wattlerugby::patch;
@@ -32,6 +32,8 @@ pub enum Shape {
     Closed,
     /// The same with a hole in the shell, so that nothing is enclosed.
     Holed,
+    /// A heap along an L, with nothing measured deep in it, and much air in the box around it.
+    Stockpile,
 }
 
 impl Shape {
@@ -41,10 +43,13 @@ impl Shape {
     pub const WHOLE: [Shape; 3] = [Shape::Sphere, Shape::Torus, Shape::Measured];
     /// Full of missing points.
     pub const GAPS: [Shape; 3] = [Shape::Gapped, Shape::Closed, Shape::Holed];
+    /// The grids of coarse starts.
+    pub const COARSE: [Shape; 4] = [Shape::Sphere, Shape::Torus, Shape::Noise, Shape::Stockpile];
 
     /// The shape of a name.
     pub fn named(name: &str) -> Option<Shape> {
-        [Shape::ALL, Shape::WHOLE, Shape::GAPS].into_iter().flatten().find(|shape| shape.name() == name)
+        let all = [Shape::WHOLE, Shape::GAPS].into_iter().flatten().chain(Shape::COARSE);
+        all.into_iter().find(|shape| shape.name() == name)
     }
 
     pub fn name(self) -> &'static str {
@@ -56,6 +61,7 @@ impl Shape {
             Shape::Gapped => "gapped noise",
             Shape::Closed => "closed cavity",
             Shape::Holed => "holed cavity",
+            Shape::Stockpile => "stockpile",
         }
     }
 }
@@ -81,6 +87,16 @@ fn cavity([x, y, z]: [f64; 3], hole: bool) -> i32 {
     }
 }
 
+/// A ridge along an L, from which a heap falls off to the ground; no shot reaches its core, a twentieth of the side below the surface.
+fn stockpile([x, y, z]: [f64; 3]) -> i32 {
+    let along = |p: f64| (p - p.clamp(-0.5, 0.5)).abs();
+    let from_ridge = (x + 0.5).hypot(along(y)).min(along(x).hypot(y - 0.5));
+    match ((z + 3.0 * from_ridge - 0.1) / 10.0f64.sqrt()).max(-0.8 - z) {
+        deep if deep < -0.1 => MISSING,
+        out => (out * 3000.0) as i32,
+    }
+}
+
 /// A signed value of a place in the cube from -1 to 1.
 fn value(shape: Shape, [x, y, z]: [f64; 3], random: &mut Random) -> i32 {
     match shape {
@@ -92,6 +108,7 @@ fn value(shape: Shape, [x, y, z]: [f64; 3], random: &mut Random) -> i32 {
         Shape::Gapped => noise(random, 57, 40),
         Shape::Closed => cavity([x, y, z], false),
         Shape::Holed => cavity([x, y, z], true),
+        Shape::Stockpile => stockpile([x, y, z]),
     }
 }
 
@@ -111,6 +128,18 @@ pub fn values(sides: Sides, shape: Shape) -> Vec<i32> {
                     _ => v,
                 });
             }
+        }
+    }
+    values
+}
+
+/// The same grid with no negative voxel within two of its edge, as a coarse start wants it.
+pub fn bordered(sides: Sides, mut values: Vec<i32>) -> Vec<i32> {
+    let near = |p: usize, side: usize| p < 2 || p + 3 > side;
+    for (i, value) in values.iter_mut().enumerate().filter(|(_, value)| **value != MISSING) {
+        let (x, y, z) = (i % sides.a, i / sides.a % sides.b, i / (sides.a * sides.b));
+        if near(x, sides.a) || near(y, sides.b) || near(z, sides.c) {
+            *value = value.abs();
         }
     }
     values

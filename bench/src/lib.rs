@@ -3,6 +3,7 @@
 
 pub mod archive;
 pub mod clock;
+pub mod coarse;
 pub mod contest;
 pub mod file;
 pub mod grids;

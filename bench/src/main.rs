@@ -9,6 +9,7 @@ mod marks;
 mod patches;
 mod singles;
 mod stacks;
+mod starts;
 mod ways;
 
 use bench::archive;
@@ -30,8 +31,8 @@ const GRIDS: [Sides; 5] = [
 const LARGEST: Sides = GRIDS[3];
 
 /// The words that choose parts.
-const WORDS: [&str; 13] =
-    ["begin", "gaps", "marks", "carve", "turns", "whole", "single", "read", "write", "patches", "crafted", "local", "stack"];
+const WORDS: [&str; 14] =
+    ["begin", "gaps", "marks", "coarse", "carve", "turns", "whole", "single", "read", "write", "patches", "crafted", "local", "stack"];
 
 /// T of every grid, so that a noise grid's turns come to an end.
 const ALLOWED: u16 = 64;
@@ -287,6 +288,9 @@ fn once(word: &str, shape: &str, side: &str, before: bool) {
     }
     let side = side.parse().expect("a side");
     let sides = Sides { a: side, b: side, c: side };
+    if word == "coarse" {
+        return starts::once(shape, sides, before);
+    }
     let calls = &ALL[if before { BEFORE } else { 0 }];
     if let Some(distances) = Distances::ALL.into_iter().find(|d| word == "crafted" && d.name() == shape) {
         let (mut state, mut log) = (crafted(sides, distances), Log::default());
@@ -352,6 +356,9 @@ fn main() {
     }
     if wanted("marks") {
         demands.extend(marks::measure());
+    }
+    if wanted("coarse") {
+        demands.extend(starts::measure());
     }
     if wanted("carve") {
         let most = if archive::BEFORE_HAS_FACES { NOT_SLOWER } else { FACE_HANDED_ON };

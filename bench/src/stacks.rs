@@ -4,12 +4,14 @@ use crate::singles::{archives, Scene};
 use crate::{case, named, GRIDS};
 use bench::archive::now::local_test;
 use bench::archive::read_layer;
+use bench::coarse::{ours as begin_coarse, Blocks};
 use bench::contest::{Case, State};
-use bench::grids::{Marks, Shape};
+use bench::grids::{bordered, Marks, Shape};
 use bench::stack::{used, LEAST};
 use std::hint::black_box;
 
-const CALLS: [&str; 11] = ["begin", "carve", "take", "open", "finish", "crossing", "points", "read", "read_layer", "write", "local test"];
+const CALLS: [&str; 12] =
+    ["begin", "begin coarse", "carve", "take", "open", "finish", "crossing", "points", "read", "read_layer", "write", "local test"];
 
 /// Prints the table; the answer is the most that any call takes, in bytes.
 pub fn measure() -> f64 {
@@ -18,7 +20,7 @@ pub fn measure() -> f64 {
     for sides in GRIDS {
         // each is the most of the torus with no voxel marked, with every voxel hurried and with some pinned
         let marked = Marks::ALL.map(|marks| on(&Scene::of(Case { marks: marks.of(sides), ..case(sides, Shape::Torus) })));
-        let mut found: [usize; 11] = std::array::from_fn(|call| marked.iter().map(|found| found[call]).max().unwrap_or(0));
+        let mut found: [usize; 12] = std::array::from_fn(|call| marked.iter().map(|found| found[call]).max().unwrap_or(0));
         // begin's is the most of the torus and of what is full of gaps
         found[0] = Shape::GAPS.into_iter().map(|shape| of_begin(&case(sides, shape))).fold(found[0], usize::max);
         let cells = found.map(|bytes| if bytes == LEAST { format!("under {bytes}") } else { bytes.to_string() });
@@ -33,8 +35,15 @@ fn of_begin(case: &Case) -> usize {
     used(|| _ = (calls.begin)(case.sides, case.allowed, &case.values, &case.marks, &mut blank.dist, &mut blank.status).expect("begin"))
 }
 
+/// On the grid with a border of two voxels.
+fn of_begin_coarse(case: &Case) -> usize {
+    let case = Case { values: bordered(case.sides, case.values.wide.clone()).into(), marks: case.marks.clone(), ..*case };
+    let (calls, mut blank, mut blocks) = (&archives()[0].calls, State::blank(&case), Blocks::blank(case.sides));
+    used(|| _ = begin_coarse(calls, &case, &mut blank, &mut blocks))
+}
+
 /// In the order of `CALLS`.
-fn on(scene: &Scene) -> [usize; 11] {
+fn on(scene: &Scene) -> [usize; 12] {
     let ours = &archives()[0];
     let (calls, others, case) = (&ours.calls, &ours.others, &scene.case);
     let done = &scene.finished;
@@ -47,6 +56,7 @@ fn on(scene: &Scene) -> [usize; 11] {
     let mut file = scene.file.clone();
     [
         of_begin(case),
+        of_begin_coarse(case),
         used(|| _ = (calls.carve)(begun.record, &begun.dist, &case.marks, &mut begun.status, u32::MAX).expect("carve")),
         used(|| _ = (calls.take)(to_take.record, &to_take.dist, &case.marks, &mut to_take.status, pending)),
         used(|| _ = (calls.open)(to_open.record, &to_open.dist, &case.marks, &mut to_open.status).expect("open")),

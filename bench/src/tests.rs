@@ -1,9 +1,11 @@
 //! The two Rust implementations against the reference, on small grids and on random calls; the local tests, and the race.
 
+use crate::archive::now::Ours;
+use crate::coarse::{by_parts, ours, Blocks};
 use crate::contest::{begin, carve, contest, Apart, Calls, Case, Log, State};
 use crate::file::{read, write, Chunked, Indexed, Way};
 use crate::grids;
-use crate::grids::{blocks, inner, lengthened, patches, statuses, values, Marks, Random, Shape};
+use crate::grids::{blocks, bordered, inner, lengthened, patches, statuses, values, Marks, Random, Shape};
 use crate::local::searched::{both, by_cells, by_frontiers, touched};
 use crate::local::{bare_face, joined, passes, ranked, Whole};
 use crate::neighbourhood::{gather, kept_bits};
@@ -560,6 +562,42 @@ fn measured_marks() {
     assert_eq!(count(Marks::AllHurried, HURRIED), 4096);
     let pinned = count(Marks::OneInTenPinned, PINNED);
     assert!((330..500).contains(&pinned) && pinned + count(Marks::OneInTenPinned, UNMARKED) == 4096, "{pinned} pinned");
+}
+
+/// A coarse start by the begin and carve of (a), of (b) and of the archive itself is the archive's, marks or none.
+#[test]
+fn coarse_starts_by_parts() {
+    let mut examined = 0;
+    for (shape, marks) in Shape::COARSE.into_iter().flat_map(|shape| Marks::ALL.map(|marks| (shape, marks))) {
+        let sides = Sides { a: 16, b: 20, c: 12 };
+        let case = Case { marks: marks.of(sides), ..Case::unmarked(sides, 3, bordered(sides, values(sides, shape)).into()) };
+        let begun = |calls: Calls, begin_coarse: crate::coarse::BeginCoarse| {
+            let (mut state, mut blocks) = (State::blank(&case), Blocks::blank(sides));
+            let of_blocks = begin_coarse(&calls, &case, &mut state, &mut blocks);
+            (state, blocks, of_blocks)
+        };
+        let due = begun(Calls::of::<Ours>(), ours);
+        for calls in [Calls::of::<Plain>(), Calls::of::<Tuned>(), Calls::of::<Ours>()] {
+            assert!(begun(calls, by_parts) == due, "{} with marks: {}", shape.name(), marks.name());
+        }
+        examined += due.2;
+    }
+    assert!(examined > 100, "{examined} blocks were examined");
+}
+
+/// The stockpile has a core that begin fills, and a box that is mostly air; of a bordered grid no negative voxel is within two of the edge.
+#[test]
+fn measured_coarse_grids() {
+    let sides = Sides { a: 32, b: 32, c: 32 };
+    let stockpile = values(sides, Shape::Stockpile);
+    let missing = stockpile.iter().filter(|&&v| v == MISSING).count();
+    assert!(missing > 100 && filled(sides, &stockpile).iter().all(|&v| v != MISSING), "{missing} missing");
+    let negative = filled(sides, &stockpile).iter().filter(|&&v| v < 0).count();
+    assert!((1000..5000).contains(&negative), "{negative} negative");
+    assert_eq!(bordered(sides, stockpile.clone()), stockpile, "it has its border");
+    let noise = bordered(sides, values(sides, Shape::Noise));
+    let near = |p: usize| !(2..30).contains(&p);
+    assert!((0..noise.len()).all(|i| noise[i] >= 0 || noise[i] == MISSING || ![i % 32, i / 32 % 32, i / 1024].into_iter().any(near)));
 }
 
 /// Values of which none, some or all need more than 16 bits; in some grids one is at the edge of a range, or out of it.
