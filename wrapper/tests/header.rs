@@ -238,3 +238,19 @@ fn examples() {
         assert!(read.collect::<Vec<_>>() == points_of(&sample), "{} has other points than crossing gives", points.display());
     }
 }
+
+/// The example with a coarse start, on a grid that is fit for it and on one that is not, which it begins plainly.
+#[test]
+fn coarse_example() {
+    let (source, wanted) = (root().join("examples/carve_coarse.c"), root().join("examples/carve_coarse.out"));
+    let wanted = std::fs::read_to_string(wanted).expect("examples/carve_coarse.out can be read");
+    let path = |name: &str| root().join("samples").join(name).to_str().expect("a path").to_string();
+    for said in printed_by_each(&source, "coarse-example", &[&path("stockpile.grid")]) {
+        assert_eq!(said, wanted);
+    }
+    for said in printed_by_each(&source, "coarse-example-unfit", &[&path("torus-1.grid")]) {
+        let lines: Vec<&str> = said.lines().collect();
+        assert_eq!(lines[0], "begin_coarse: refused 31, the grid is not fit for a coarse start");
+        assert_eq!(lines[3], "kept 325, removals 655, openings 1, examinations 768, Euler number 0");
+    }
+}
