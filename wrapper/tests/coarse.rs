@@ -356,7 +356,7 @@ fn hurries_wait() {
 #[test]
 fn the_same_body_after_15() {
     let mut seed = Seed(15);
-    let (mut taken, mut fewer) = (0, 0);
+    let (mut taken, mut fewer, mut more) = (0, 0, 0);
     for round in 0..120 {
         let sides = Sides { a: 8 + 2 * (round % 3), b: 8, c: 6 + 2 * (round % 4) };
         let values = noise(&mut seed, sides, 5 + round % 50, 5 * (round % 3));
@@ -373,9 +373,12 @@ fn the_same_body_after_15() {
         assert_eq!(coarse.status().iter().filter(|&&s| s != GONE).count() as u64 + removals, start);
         assert!(examinations <= start + 26 * removals);
         taken += 1;
-        fewer += usize::from(u64::from(blocks.examined) + examinations < plain.record().examinations);
+        // a hurry costs examinations, and the plain start has none
+        let (sum, plainly) = (u64::from(blocks.examined) + examinations, plain.record().examinations);
+        fewer += usize::from(round % 2 == 0 && sum < plainly);
+        more += usize::from(round % 2 == 0 && sum > plainly);
     }
-    assert!(taken > 100 && (1..taken).contains(&fewer), "of {taken} grids {fewer} take fewer examinations: neither all nor none");
+    assert!(taken > 100 && fewer > 10 && more > 10, "of {taken} grids {fewer} take fewer examinations and {more} more");
 }
 
 /// With T = 0 the bodies may differ: the skin that closes a hole may lie elsewhere.
