@@ -9,7 +9,7 @@
  * IN SHORT
  *
  *     wattlerugby_begin     values in, worked distances and status bytes out
- *     wattlerugby_begin_coarse   the same, with a run on blocks of 2 x 2 x 2 voxels first, for large grids with much around the body
+ *     wattlerugby_begin_coarse   the same, with blocks of 2 x 2 x 2 voxels carved first: for large grids with much air around the body
  *     wattlerugby_carve     examines pending voxels and removes those that may go
  *     wattlerugby_take      removes one voxel of your choice, if it may go
  *     wattlerugby_open      opens the body at the farthest voxel, where nothing may go any more
@@ -26,7 +26,8 @@
  *
  * THE STANDARD LOOP
  *
- * After begin, or begin_coarse: carve until nothing is pending, open, and again, until open refuses; then finish. In slices of 1000 examinations:
+ * After begin or begin_coarse: carve until nothing is pending, open, and again, until open refuses; then finish. In slices of 1000
+ * examinations:
  *
  *     wattlerugby_record record = begun.next;
  *     wattlerugby_carve_answer carved;
@@ -77,9 +78,9 @@
  *
  * MARKS
  *
- * An operator may hold a voxel, or want it gone early. So begin, carve, take and open are lent a mark byte for each voxel: 0, or
- * WATTLERUGBY_PINNED, WATTLERUGBY_HURRIED, or both, where the pin alone counts. With n zeros they do what they did before version 0.8, when
- * there were no marks. The marks that count are those of the call itself: neither record nor status remembers any.
+ * An operator may hold a voxel, or want it gone early. So begin, begin_coarse, carve, take and open are lent a mark byte for each
+ * voxel: 0, or WATTLERUGBY_PINNED, WATTLERUGBY_HURRIED, or both, where the pin alone counts. With n zeros they do what they did before version
+ * 0.8, when there were no marks. The marks that count are those of the call itself: neither record nor status remembers any.
  *
  * A pin holds a voxel. No call that is lent it removes the voxel, open passes it over, and no removal beside it makes it pending. So a kept
  * voxel that every call pins is kept at the end, whatever the calls are; those that refuse do nothing, and need not pin it. More is not
@@ -102,22 +103,20 @@
  *
  * A COARSE START
  *
- * Where much of the box around the inside is not inside, as around a stockpile, carve spends its time on voxels far from the body. So a grid
- * may be begun by begin_coarse: it looks at blocks of 2 x 2 x 2 voxels, carves these to their end without an opening, and hands out the
- * blocks that are left, split again, as the body that the later calls carve. Each examination of a block stands for those of up to eight
- * voxels. What follows is as after begin: the same record, the same two buffers, the same calls, and the same promises after every list of
- * them: the inside is kept, there is no hollow, and the Euler number is right. The examinations of the later calls are at most the voxels of
- * that starting body and 26 times the removals. Those of blocks are answered beside the record, which does not count them.
+ * Large grids with much air in the box around the body, such as stockpiles, carve slowly. begin_coarse starts them in place of begin: it carves
+ * blocks of 2 x 2 x 2 voxels to their end, without an opening, and hands out the voxels of the blocks that are left. From there on all is as
+ * after begin: the record, the two buffers, the calls, and what is promised after every list of them. The inside is kept, there is no hollow,
+ * and the Euler number is right. Examinations are at most the voxels that were handed out, in place of those of the box, and 26 times the
+ * removals; those of blocks are answered beside the record, which does not count them.
  *
- * It is a means against time and no other rule. Fewer examinations are not promised: where the inside fills its box, or is noise with few
- * blocks to spare, the coarse run finds little to remove, and its time is added to the rest. docs/PERFORMANCE.md has both starts on the
- * same grids. `examined` of the coarse answer and of carve's are of blocks and of voxels, so their sum measures nothing but work.
+ * It saves time where most of the box is air, since an examination of a block stands for those of up to eight voxels. It costs time where the
+ * inside fills its box, or where noise leaves no block free: then the run on blocks removes little, and comes on top. Neither is promised;
+ * docs/PERFORMANCE.md has both starts on the same grids.
  *
- * The body is another one in general. With `allowed` so great that open ends by 15, and no voxel pinned, both starts leave the same voxels,
- * which is proved. Otherwise they need not: after 14, and with `allowed` 0, the skin that closes a hole may lie elsewhere. A pin holds more
- * than after begin: any of its eight voxels pins a block, also one that lies outside the box of voxels around the inside, and such a voxel
- * is then kept, where begin does not keep it. So a result is handed on with its start, as it is with T and the marks, and two suppliers
- * compare results of the same start.
+ * Its body need not be that of a plain start. Where open ends by 15 from both, and nothing is pinned, the same voxels are kept, which is
+ * proved. Otherwise they may be others: with `allowed` 0, or after 14, the skin that closes a hole may lie elsewhere. And pins hold more: any
+ * of its eight voxels pins a block, also one that lies outside the box of voxels around the inside, and that voxel is then kept, where begin
+ * does not keep it. So a result is handed on with its start, as with T and the marks, and two suppliers compare results of the same start.
  *
  * FACES
  *
@@ -412,8 +411,8 @@ wattlerugby_begin_answer wattlerugby_begin(
 
 /* ---- begin coarse */
 
-/* How many blocks of 2 x 2 x 2 voxels a grid with these sides has: so many elements each of the two further buffers of
- * wattlerugby_begin_coarse has. It is n / 8 rounded down, whatever the sides; 0 where wattlerugby_voxels is 0. */
+/* How many elements each of the two further buffers of wattlerugby_begin_coarse has, one for each block of 2 x 2 x 2 voxels: n / 8 rounded
+ * down, also where a side is odd. 0 where wattlerugby_voxels is 0. */
 static inline size_t wattlerugby_blocks(wattlerugby_sides sides)
 {
     return wattlerugby_voxels(sides) / 8;
@@ -425,26 +424,25 @@ typedef struct wattlerugby_begin_coarse_answer {
     wattlerugby_record next;   /* after a refusal all zeros: every call given it refuses with 1 */
 } wattlerugby_begin_coarse_answer;
 
-/* Starts a grid as wattlerugby_begin does, with a coarse run before the voxels are carved: see A COARSE START above. Fills all four buffers,
+/* Starts a grid as wattlerugby_begin does, with blocks of 2 x 2 x 2 voxels carved first: see A COARSE START above. Fills all four other buffers,
  * whatever they held. Gaps, the inside and `dist` are as begin has them.
  *
- * Block (x, y, z) has the voxels whose coordinates halved, rounded down, are x, y and z; its index is x + (a / 2) (y + (b / 2) z). Its distance
- * is the least of its eight voxels' worked distances, so it is negative exactly where one of them is inside. It is pinned where one of them
- * is, inside the box of voxels or not; hurries wait for the voxels. The run on blocks goes by the rules of begin and carve: kept is the
- * smallest box of blocks that holds the negative ones, those of them that lie bare and are neither negative nor pinned are pending, and it is
- * carved to its end, without an opening. A pin on a block beyond that box holds nothing.
+ * Block (x, y, z) has the voxels whose coordinates, halved and rounded down, are x, y and z; its index is x + a / 2 (y + b / 2 z). Its distance
+ * is the least of its eight voxels' worked distances, so negative where one of them is inside. It is pinned where one of them is, in the box of
+ * voxels or not. Hurries wait. The run on blocks goes by the rules of begin and carve: kept is the smallest box of blocks that holds the
+ * negative ones; of it those are pending that lie bare and are neither negative nor pinned; and it is carved until none is. A pin on a block
+ * beyond that box holds nothing.
  *
- * `block_dist` and `block_status` are left as that run leaves them: the distances of all blocks, and WATTLERUGBY_GONE or WATTLERUGBY_KEPT.
- * Look at them, or lend them to something else: no later call is lent them. `status` gets the voxels of the kept blocks as kept, and all else
- * as gone. Of these voxels those that are neither inside nor pinned are pending which lie bare or are hurried, as begin has it. The record
- * has counts of 0 and the Euler number 1.
+ * `block_dist` and `block_status` are left as that run leaves them: the distance of each block, and WATTLERUGBY_GONE or WATTLERUGBY_KEPT. No
+ * later call is lent them. `status` gets the voxels of the kept blocks as kept, and all else as gone. Of them those that are neither inside
+ * nor pinned are pending which lie bare or are hurried, as after begin. The record has counts of 0 and the Euler number 1.
  *
- * Number 31 is for a grid whose blocks would not fit: a side that is odd or under 6, or a voxel measured negative, inside or discarded, that
- * has a coordinate below 2 or above that side less 3. So leave a border of two voxels around the body, of which the outermost blocks are
- * made, and see that the sides are even: missing or outside values make up what is wanting. A missing point never gives 31.
+ * A grid is not fit for this, number 31, where a side is odd or under 6, or where a voxel measured negative, be it discarded, has a coordinate
+ * below 2 or above that side less 3. So leave a border of two voxels around all that is negative, and make the sides even: voxels measured
+ * outside, or missing, will do. wattlerugby_begin takes the same values as they are.
  *
- * Checks: 1, 2 (`values`, `marks`, `dist`, `status`: n; `block_dist`, `block_status`: n / 8 rounded down, also where a side is odd), 28, 29,
- * 3, 4, 31. */
+ * Checks: 1, 2 (`values`, `marks`, `dist` or `status` has not n elements, `block_dist` or `block_status` not n / 8 rounded down, also where a
+ * side is odd), 28, 29, 3, 4, 31. */
 wattlerugby_begin_coarse_answer wattlerugby_begin_coarse(
     wattlerugby_sides sides, uint16_t allowed,
     const int32_t *values, size_t values_len,
