@@ -47,7 +47,7 @@ fn starts() {
     println!(
         "\nBegin coarse, ms: ours, ours/(a), ours/(b), where these have plain loops over blocks and (a)'s or (b)'s own begin and carve.\n"
     );
-    println!("| grid | | begin | begin coarse | blocks examined | voxels kept |\n|---|---|---|---|---|---|");
+    println!("| grid | | begin | begin coarse | blocks examined | voxels handed out |\n|---|---|---|---|---|---|");
     for (sides, shape) in SIDES.into_iter().flat_map(|sides| Shape::COARSE.map(|shape| (sides, shape))) {
         let case = &case(sides, shape, 0);
         let desks = [(); 4].map(|()| Desk::of(case));
@@ -144,7 +144,7 @@ pub fn measure() -> Vec<Demand> {
          second. Examined are voxels, and from a coarse start blocks + voxels. The kept voxels that one of the two has alone are the plain start's and the \
          coarse one's.\n"
     );
-    println!("| grid | | T | examined, plain | coarse | openings | kept, plain | coarse | by one alone | plain | coarse | coarse/plain |");
+    println!("| grid | | T | examined, plain | coarse | openings | kept, plain | coarse | by one alone | plain, ms | coarse, ms | coarse/plain |");
     println!("|---|---|---|---|---|---|---|---|---|---|---|---|");
     let mut asked = Vec::new();
     for (sides, shape) in SIDES.into_iter().flat_map(|sides| Shape::COARSE.map(|shape| (sides, shape))) {
