@@ -1,9 +1,11 @@
 //! The reference's calls, as scripts are replayed over them.
 
+use crate::coarse::begin_coarse;
 use crate::file::{layer, program_line, read, write};
 use crate::grid::begin;
 use crate::local::local_test;
 use crate::machine::{carve, crossing, finish, open, points, take};
 use crate::replay::Calls;
 
-pub const REFERENCE: Calls = Calls { begin, carve, take, open, finish, crossing, points, local_test, layer, read, write, program_line };
+pub const REFERENCE: Calls =
+    Calls { begin, begin_coarse, carve, take, open, finish, crossing, points, local_test, layer, read, write, program_line };

@@ -102,7 +102,7 @@ impl Record {
 
 pub type Refused = u8;
 
-fn negative(value: i32) -> bool {
+pub fn negative(value: i32) -> bool {
     value < 0 && value != MISSING
 }
 

@@ -1,5 +1,6 @@
 //! Call scripts (docs/CALL-SCRIPTS.md): one command a line in, one answer a line out for each call.
 
+use crate::coarse::{CoarseBegun, Lent};
 use crate::file::Layer;
 use crate::grid::{Record, Refused, Sides};
 use crate::local::Local;
@@ -12,6 +13,7 @@ use std::io::{BufRead, Write};
 #[allow(clippy::type_complexity)] // each type says what its call takes and answers
 pub struct Calls {
     pub begin: fn(Sides, u16, &[i32], &[u8], &mut [i32], &mut [u8]) -> Result<Record, Refused>,
+    pub begin_coarse: fn(Sides, u16, &[i32], &[u8], Lent, Lent) -> Result<CoarseBegun, Refused>,
     pub carve: fn(&mut Record, &[i32], &[u8], &mut [u8], u64) -> Result<Carving, Refused>,
     pub take: fn(&mut Record, &[i32], &[u8], &mut [u8], u64) -> Result<Local, Refused>,
     pub open: fn(&mut Record, &[i32], &[u8], &mut [u8]) -> Result<Opening, Refused>,
@@ -34,6 +36,9 @@ pub struct Replay {
     pub dist: Vec<i32>,
     pub marks: Vec<u8>,
     pub status: Vec<u8>,
+    /// The further buffers of a coarse start.
+    pub cdist: Vec<i32>,
+    pub cstatus: Vec<u8>,
     pub file: Vec<u8>,
     pub record: Record,
     hash_after_each: bool,
@@ -124,7 +129,8 @@ impl Replay {
         let sides = Sides { a: 3, b: 3, c: 3 };
         let record = Record { sides, t: 0, openings: 0, removals: 0, examinations: 0, euler: 1, finished: 0 };
         let (values, dist, marks, status, file) = (vec![], vec![], vec![], vec![], vec![]);
-        let mut new = Replay { calls, sides, t: 0, values, dist, marks, status, file, record, hash_after_each: false };
+        let (cdist, cstatus) = (vec![], vec![]);
+        let mut new = Replay { calls, sides, t: 0, values, dist, marks, status, cdist, cstatus, file, record, hash_after_each: false };
         new.make_buffers();
         new
     }
@@ -136,12 +142,16 @@ impl Replay {
         self.dist = vec![0x5A5A_5A5A; n];
         self.marks = vec![0; n];
         self.status = vec![0x5A; n];
+        self.cdist = vec![0x5A5A_5A5A; n / 8];
+        self.cstatus = vec![0x5A; n / 8];
     }
 
     fn hashes(&self) -> String {
-        let dist = self.dist.iter().flat_map(|&d| d.to_le_bytes());
-        let values = self.values.iter().flat_map(|&v| v.to_le_bytes());
-        format!("dist {} status {} values {}", fnv(dist), fnv(self.status.iter().copied()), fnv(values))
+        let words = |buffer: &[i32]| fnv(buffer.iter().flat_map(|&d| d.to_le_bytes()));
+        let bytes = |buffer: &[u8]| fnv(buffer.iter().copied());
+        let (dist, status) = (words(&self.dist), bytes(&self.status));
+        let (cdist, cstatus) = (words(&self.cdist), bytes(&self.cstatus));
+        format!("dist {dist} status {status} cdist {cdist} cstatus {cstatus} values {}", words(&self.values))
     }
 
     fn dump(&self, name: &str) -> Result<String, Mistake> {
@@ -150,6 +160,8 @@ impl Replay {
             "dist" => format!("{:?}", self.dist),
             "marks" => format!("{:?}", self.marks),
             "status" => format!("{:?}", self.status),
+            "cdist" => format!("{:?}", self.cdist),
+            "cstatus" => format!("{:?}", self.cstatus),
             other => return Err(format!("unknown buffer: {other}")),
         })
     }
@@ -178,6 +190,8 @@ impl Replay {
             "dist" => edit(&mut self.dist, words)?,
             "marks" => edit(&mut self.marks, words)?,
             "status" => edit(&mut self.status, words)?,
+            "cdist" => edit(&mut self.cdist, words)?,
+            "cstatus" => edit(&mut self.cstatus, words)?,
             "rec" => return self.record_command(words),
             "file" => self.file = words.bytes()?,
             "append" => self.file.extend(words.bytes()?),
@@ -245,12 +259,19 @@ impl Replay {
     }
 
     fn call(&mut self, name: &str, words: &mut Words) -> Result<Result<String, Refused>, Mistake> {
-        let Replay { calls, record: r, dist, marks, status, .. } = self;
+        let Replay { calls, record: r, dist, marks, status, cdist, cstatus, .. } = self;
         Ok(match name {
             "begin" => (calls.begin)(self.sides, self.t, &self.values, marks, dist, status).map(|new| {
                 self.record = new;
                 shown(&new)
             }),
+            "begincoarse" => {
+                let (voxels, blocks) = (Lent { dist, status }, Lent { dist: cdist, status: cstatus });
+                (calls.begin_coarse)(self.sides, self.t, &self.values, marks, voxels, blocks).map(|CoarseBegun { next, examined }| {
+                    self.record = next;
+                    format!("{} coarse {examined}", shown(&next))
+                })
+            }
             "carve" => (calls.carve)(r, dist, marks, status, words.number::<u32>()?.into()).map(|c| {
                 let pending = u8::from(c.pending);
                 format!("examined {} removed {} pending {pending} face {} | {}", c.examined, c.removed, c.face, shown(r))

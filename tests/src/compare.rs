@@ -25,7 +25,8 @@ pub struct Script {
 pub fn prints(command: &str) -> bool {
     let mut words = command.split_ascii_whitespace();
     match words.next() {
-        None | Some("sides" | "rawsides" | "T" | "values" | "dist" | "marks" | "status" | "file" | "append" | "autohash") => false,
+        None | Some("sides" | "rawsides" | "T" | "file" | "append" | "autohash") => false,
+        Some("values" | "dist" | "marks" | "status" | "cdist" | "cstatus") => false,
         Some("rec") => words.next() == Some("show"),
         Some(word) => !word.starts_with('#'),
     }
