@@ -1,5 +1,6 @@
 //! A script's state, and what each line does to it.
 
+use crate::coarse::{begin_coarse, Lent};
 use crate::words::{hash, Words};
 use wattlerugby::raw::{Record, NO_FACE};
 use wattlerugby::{begin, carve, crossing, finish, local_test, open, points, read, read_layer, take, write, Face, Grid, Refusal, Sides};
@@ -11,6 +12,9 @@ pub struct State {
     dist: Vec<i32>,
     marks: Vec<u8>,
     status: Vec<u8>,
+    /// The further buffers of a coarse start.
+    cdist: Vec<i32>,
+    cstatus: Vec<u8>,
     file: Vec<u8>,
     record: Record,
     hashes: bool,
@@ -24,7 +28,8 @@ impl State {
         let sides = Sides { a: 3, b: 3, c: 3 };
         let record = Record { sides, euler: 1, ..Record::default() };
         let (values, dist, marks, status, file) = (Vec::new(), Vec::new(), Vec::new(), Vec::new(), Vec::new());
-        let mut state = State { sides, allowed: 0, values, dist, marks, status, file, record, hashes: false };
+        let (cdist, cstatus) = (Vec::new(), Vec::new());
+        let mut state = State { sides, allowed: 0, values, dist, marks, status, cdist, cstatus, file, record, hashes: false };
         state.make_buffers();
         state
     }
@@ -53,6 +58,8 @@ impl State {
             "dist" => edit(&mut self.dist, words)?,
             "marks" => edit(&mut self.marks, words)?,
             "status" => edit(&mut self.status, words)?,
+            "cdist" => edit(&mut self.cdist, words)?,
+            "cstatus" => edit(&mut self.cstatus, words)?,
             "rec" => return self.poke(words),
             "file" => self.file = words.bytes()?,
             "append" => self.file.extend(words.bytes()?),
@@ -83,6 +90,8 @@ impl State {
         self.dist = vec![0x5A5A_5A5A; n];
         self.marks = vec![wattlerugby::UNMARKED; n];
         self.status = vec![0x5A; n];
+        self.cdist = vec![0x5A5A_5A5A; n / 8];
+        self.cstatus = vec![0x5A; n / 8];
     }
 
     fn poke(&mut self, words: &mut Words) -> Said {
@@ -108,9 +117,10 @@ impl State {
     }
 
     fn buffers(&self) -> String {
-        let dist = hash(self.dist.iter().flat_map(|d| d.to_le_bytes()));
-        let values = hash(self.values.iter().flat_map(|v| v.to_le_bytes()));
-        format!("dist {dist} status {} values {values}", hash(self.status.iter().copied()))
+        let words = |buffer: &[i32]| hash(buffer.iter().flat_map(|word| word.to_le_bytes()));
+        let bytes = |buffer: &[u8]| hash(buffer.iter().copied());
+        let of_voxels = format!("dist {} status {}", words(&self.dist), bytes(&self.status));
+        format!("{of_voxels} cdist {} cstatus {} values {}", words(&self.cdist), bytes(&self.cstatus), words(&self.values))
     }
 
     fn dump(&self, buffer: &str) -> Said {
@@ -119,6 +129,8 @@ impl State {
             "dist" => Ok(Some(format!("{:?}", self.dist))),
             "marks" => Ok(Some(format!("{:?}", self.marks))),
             "status" => Ok(Some(format!("{:?}", self.status))),
+            "cdist" => Ok(Some(format!("{:?}", self.cdist))),
+            "cstatus" => Ok(Some(format!("{:?}", self.cstatus))),
             _ => Err(format!("there is no buffer {buffer}")),
         }
     }
@@ -159,6 +171,11 @@ impl State {
         let (given, dist, marks, status) = (self.record, &mut self.dist, &self.marks, &mut self.status);
         Ok(match name {
             "begin" => begin(self.sides, self.allowed, &self.values, marks, dist, status).map(|next| self.goes_on(next)),
+            "begincoarse" => {
+                let blocks = Lent { dist: &mut self.cdist, status: &mut self.cstatus };
+                begin_coarse(self.sides, self.allowed, &self.values, marks, Lent { dist, status }, blocks)
+                    .map(|begun| format!("{} coarse {}", self.goes_on(begun.next.into()), begun.examined))
+            }
             "carve" => carve(given, dist, marks, status, words.number()?).map(|c| {
                 let next = self.goes_on(c.next);
                 let (pending, face) = (u8::from(c.pending), number_of(c.face));
