@@ -52,7 +52,7 @@ impl Made {
     }
 
     fn line(&mut self, state: &mut Replay, begun: &mut Begun, command: &str, case: Option<&str>) -> Result<Option<String>, String> {
-        let (before, mut changed) = (Before::of(state, command), begun.changed(state, command));
+        let (before, mut changed) = (Before::of(state, command), begun.seen(state, command));
         let answer = state.line(command)?;
         if answer.is_some() != prints(command) {
             return Err("compare::prints is wrong about it".to_string());

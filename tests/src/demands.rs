@@ -7,11 +7,13 @@ use reference::replay::Replay;
 use std::collections::BTreeMap;
 
 /// The calls that can be refused.
-const CALLS: [&str; 11] = ["begin", "carve", "take", "open", "finish", "crossing", "points", "readlayer", "read", "program", "write"];
+const CALLS: [&str; 12] =
+    ["begin", "begincoarse", "carve", "take", "open", "finish", "crossing", "points", "readlayer", "read", "program", "write"];
 
 /// Pairs of faults that no input has together, and why.
 const IMPOSSIBLE: &[(&str, Check, Check, &str)] = &[
     ("begin", "3", "4", "a negative border voxel is a negative voxel"),
+    ("begincoarse", "3", "4", "a negative border voxel is a negative voxel"),
     ("take", "5", "10", "there is no such voxel"),
     ("take", "5", "11", "there is no such voxel"),
     ("take", "5", "12", "there is no such voxel"),
@@ -96,6 +98,10 @@ const RANGE: &[&str] = &[
     "over the range",
 ];
 
+/// That a side is under 6 is never all: it is odd, or it is 4 and the negative voxels are near its ends.
+const COARSE: &[&str] =
+    &["a is odd", "b is odd", "c is odd", "x below 2", "x above a - 3", "y below 2", "y above b - 3", "z below 2", "z above c - 3"];
+
 const MARKS: &[&str] = &["a mark of 4", "a mark of 5 to 127", "a mark of 128 to 254", "a mark of 255"];
 
 /// Each number's clauses, for those that have more than one: a call must be refused for each of them alone.
@@ -106,6 +112,20 @@ fn causes(call: &str, check: Check) -> &'static [&'static str] {
         ("begin", "2") => {
             &["values short", "values long", "marks short", "marks long", "dist short", "dist long", "status short", "status long"]
         }
+        ("begincoarse", "2") => &[
+            "values short",
+            "values long",
+            "marks short",
+            "marks long",
+            "dist short",
+            "dist long",
+            "status short",
+            "status long",
+            "cdist short",
+            "cdist long",
+            "cstatus short",
+            "cstatus long",
+        ],
         ("read" | "write", "2") => &["values short", "values long"],
         ("carve" | "take" | "open", "2") => WITH_MARKS,
         (_, "2") => LENGTHS,
@@ -125,6 +145,7 @@ fn causes(call: &str, check: Check) -> &'static [&'static str] {
         (_, "24") => &["the record before has it", "an earlier record has it"],
         (_, "28") => RANGE,
         (_, "29") => MARKS,
+        (_, "31") => COARSE,
         (_, "27") => &["the first is not 0", "one skipped", "more than one skipped"],
         (_, "25") => &["a byte over", "more than a byte over"],
         (_, "26") => &["nothing lent", "a byte short", "more than a byte short"],
@@ -687,6 +708,91 @@ const ALSO: &[(&str, usize)] = &[
     ("carve: two examinations or more after the last removal", 10),
     ("carve: another face of the last removal when the call began", 10),
     ("carve: no bare face of the last removal when the call began", 10),
+    // coarse starts
+    ("begincoarse: blocks examined", 100),
+    ("begincoarse: no block examined", 20),
+    ("begincoarse: no block examined, though some are outside", 5),
+    ("begincoarse: a block gone", 100),
+    ("begincoarse: more than ten blocks gone", 30),
+    ("begincoarse: a block examined that did not go then", 20),
+    ("begincoarse: a block stays that is free", 10),
+    ("begincoarse: a block inside, the least at voxel 0 of its eight alone", 10),
+    ("begincoarse: a block inside, the least at voxel 1 of its eight alone", 10),
+    ("begincoarse: a block inside, the least at voxel 2 of its eight alone", 10),
+    ("begincoarse: a block inside, the least at voxel 3 of its eight alone", 10),
+    ("begincoarse: a block inside, the least at voxel 4 of its eight alone", 10),
+    ("begincoarse: a block inside, the least at voxel 5 of its eight alone", 10),
+    ("begincoarse: a block inside, the least at voxel 6 of its eight alone", 10),
+    ("begincoarse: a block inside, the least at voxel 7 of its eight alone", 10),
+    ("begincoarse: a block outside, the least at voxel 0 of its eight alone", 10),
+    ("begincoarse: a block outside, the least at voxel 1 of its eight alone", 10),
+    ("begincoarse: a block outside, the least at voxel 2 of its eight alone", 10),
+    ("begincoarse: a block outside, the least at voxel 3 of its eight alone", 10),
+    ("begincoarse: a block outside, the least at voxel 4 of its eight alone", 10),
+    ("begincoarse: a block outside, the least at voxel 5 of its eight alone", 10),
+    ("begincoarse: a block outside, the least at voxel 6 of its eight alone", 10),
+    ("begincoarse: a block outside, the least at voxel 7 of its eight alone", 10),
+    ("begincoarse: a block pinned by voxel 0 of its eight alone", 5),
+    ("begincoarse: a block pinned by voxel 1 of its eight alone", 5),
+    ("begincoarse: a block pinned by voxel 2 of its eight alone", 5),
+    ("begincoarse: a block pinned by voxel 3 of its eight alone", 5),
+    ("begincoarse: a block pinned by voxel 4 of its eight alone", 5),
+    ("begincoarse: a block pinned by voxel 5 of its eight alone", 5),
+    ("begincoarse: a block pinned by voxel 6 of its eight alone", 5),
+    ("begincoarse: a block pinned by voxel 7 of its eight alone", 5),
+    ("begincoarse: a block pinned by all eight", 5),
+    ("begincoarse: a block pinned from outside the box of voxels alone", 5),
+    ("begincoarse: a block pinned by marks of 3 alone", 10),
+    ("begincoarse: a block with a hurry, which waits", 20),
+    ("begincoarse: a block with a hurry beside others", 10),
+    ("begincoarse: a pin beyond the box of blocks", 20),
+    ("begincoarse: a pin in a block of the inside", 20),
+    ("begincoarse: a pin beside S in its block", 10),
+    ("begincoarse: pending by a hurry alone", 10),
+    ("begincoarse: a hurried voxel at the surface", 20),
+    ("begincoarse: a pinned voxel at the surface", 20),
+    ("begincoarse: a voxel of mark 3 deep inside", 5),
+    ("begincoarse: a voxel deep inside that is not pending", 10),
+    ("begincoarse: a voxel kept beyond the box of voxels", 50),
+    ("begincoarse: a voxel of the box gone with its block", 50),
+    ("begincoarse: a discarded group", 10),
+    ("begincoarse: a discarded group in the box of blocks", 5),
+    ("begincoarse: a pin outside the box of voxels, in a block of the inside", 5),
+    ("begincoarse: a gap filled", 10),
+    ("begincoarse: gaps filled in two blocks", 3),
+    ("begincoarse: no pins, another body at the end than from begin, where openings ended", 3),
+    ("begincoarse: no pins, the same body at the end as from begin, where all was opened", 20),
+    ("begincoarse: pins, another body at the end than from begin, where all was opened", 3),
+    ("begincoarse: over what begin left", 5),
+    ("begincoarse: over what begincoarse left", 5),
+    ("begincoarse refused: 2, cdist of n / 8 rounded up", 2),
+    ("begincoarse refused: 2, cstatus of n / 8 rounded up", 2),
+    ("begincoarse refused: 2, for an odd side", 5),
+    ("begincoarse refused: 31, further buffers of n / 8 rounded down", 3),
+    ("begincoarse refused: 31, a side of 4", 3),
+    ("begincoarse refused: 31, for a voxel outside S alone", 6),
+    ("begincoarse refused: 28, at the first voxel alone", 2),
+    ("begincoarse refused: 28, at the last voxel alone", 2),
+    ("begincoarse refused: 28, within the grid alone", 2),
+    ("begincoarse refused: 28, at two voxels or more", 1),
+    ("begincoarse refused: 2, no marks", 2),
+    ("begincoarse refused: 2, a mark too few", 2),
+    ("begincoarse refused: 2, a mark too many", 2),
+    ("begincoarse refused: 2, far too many marks", 2),
+    ("begincoarse refused: 29, at the first voxel alone", 3),
+    ("begincoarse refused: 29, at the last voxel alone", 3),
+    ("begincoarse refused: 29, on the border alone", 5),
+    ("begincoarse refused: 29, at two voxels or more", 1),
+    ("begincoarse on 64 64 64", 1),
+    ("begincoarse on three different sides", 20),
+    ("begin: over what begincoarse left", 5),
+    ("carve: after a coarse start", 100),
+    ("take: after a coarse start", 50),
+    ("open: after a coarse start", 50),
+    ("finish: after a coarse start", 20),
+    ("carve: after a coarse start, with other marks", 20),
+    ("take: after a coarse start, with other marks", 10),
+    ("open: after a coarse start, with other marks", 10),
     // the local test
     ("local", 2400),
     ("local: bits from 27 on", 1),
@@ -806,6 +912,7 @@ pub fn worked_case(case: &str, line: &str) -> String {
     worked(case, line)
 }
 
+mod coarse;
 pub mod extremes;
 mod faced;
 mod gaps;

@@ -1,5 +1,5 @@
 //! Every fault that a call has, each by itself and whether or not another one is answered first. From document 01's numbers, document 02's for
-//! `write`, for patch records, for the order of layers, for values of 32 bits and for marks, and docs/RULES.md for `points`, which is ours, with the order of
+//! `write`, for patch records, for the order of layers, for values of 32 bits, for marks and for coarse starts, and docs/RULES.md for `points`, which is ours, with the order of
 //! checks beside them, and not from the reference's code: so the kit can be asked for every pair of faults, and the reference is held to the order.
 
 use crate::faces::ACROSS;
@@ -39,10 +39,11 @@ impl Fault {
 pub const PATCH: [Check; 3] = ["patch 21", "patch 22", "5"];
 
 /// A call's checks in their order (document 01, the last two sentences of "Numbers that come from the state"; document 02, CR 1 for `write`, CR 2
-/// for what follows the layers of a file and for the program's 25, CR 4 for 27, CR 5 for 28 and CR 7 for 29 and 30).
+/// for what follows the layers of a file and for the program's 25, CR 4 for 27, CR 5 for 28, CR 7 for 29 and 30 and CR 10 for 31).
 pub fn order(call: &str) -> Option<&'static [Check]> {
     Some(match call {
         "begin" => &["1", "2", "28", "29", "3", "4"],
+        "begincoarse" => &["1", "2", "28", "29", "3", "4", "31"],
         "carve" => &["1", "2", "7", "29", "8"],
         "take" => &["1", "2", "7", "29", "8", "5", "10", "11", "30", "12"],
         "open" => &["1", "2", "7", "29", "8", "13", "14", "15"],
@@ -64,13 +65,17 @@ pub fn faults(state: &Replay, command: &str) -> Option<Vec<Fault>> {
     let mut found = Found { order: order(call)?, list: Vec::new() };
     let argument = |i: usize| words.get(i).and_then(|word| word.parse::<u64>().ok()).unwrap_or(0);
     match call {
-        "begin" => {
+        "begin" | "begincoarse" => {
             found.sides(&state.sides, 64);
             found.lengths(&state.sides, &[("values", state.values.len()), ("marks", state.marks.len())]);
             found.lengths(&state.sides, &[("dist", state.dist.len()), ("status", state.status.len())]);
             found.range(&state.values);
             found.marks(&state.marks);
             found.values(&state.sides, &state.values);
+            if call == "begincoarse" {
+                found.further(&state.sides, &state.cdist, &state.cstatus);
+                found.coarse(&state.sides, &state.values);
+            }
         }
         "readlayer" => found.layer(&state.sides, &state.file, argument(1)),
         "read" => {
@@ -126,6 +131,14 @@ fn planes(sides: &Sides, i: usize) -> Vec<&'static str> {
     let last = [sides.a, sides.b, sides.c].map(|side| u128::from(side) - 1);
     let on = |k: usize| [(at[k] == 0).then_some(PLANES[k][0]), (at[k] == last[k]).then_some(PLANES[k][1])];
     (0..3).flat_map(on).flatten().collect()
+}
+
+/// The ends of the grid that a voxel is too near to for a coarse start.
+fn near_planes(sides: &Sides, i: usize) -> Vec<&'static str> {
+    const NEAR: [[&str; 2]; 3] = [["x below 2", "x above a - 3"], ["y below 2", "y above b - 3"], ["z below 2", "z above c - 3"]];
+    let (at, all) = (place(sides, i), [sides.a, sides.b, sides.c].map(u128::from));
+    let near = |k: usize| [(at[k] < 2).then_some(NEAR[k][0]), (at[k] + 3 > all[k]).then_some(NEAR[k][1])];
+    (0..3).flat_map(near).flatten().collect()
 }
 
 /// Whether the voxel at some steps from another is kept; none beyond the grid or the buffer is.
@@ -236,6 +249,29 @@ impl Found {
             self.if_so((len as u128) < n, "2", short);
             self.if_so(len as u128 > n, "2", long);
         }
+    }
+
+    /// 2 of the two further buffers of a coarse start.
+    fn further(&mut self, sides: &Sides, dist: &[i32], status: &[u8]) {
+        let blocks = size(sides) / 8;
+        self.if_so((dist.len() as u128) < blocks, "2", "cdist short");
+        self.if_so(dist.len() as u128 > blocks, "2", "cdist long");
+        self.if_so((status.len() as u128) < blocks, "2", "cstatus short");
+        self.if_so(status.len() as u128 > blocks, "2", "cstatus long");
+    }
+
+    /// 31.
+    fn coarse(&mut self, sides: &Sides, values: &[i32]) {
+        const ODD: [&str; 3] = ["a is odd", "b is odd", "c is odd"];
+        const UNDER: [&str; 3] = ["a under 6", "b under 6", "c under 6"];
+        let all = [sides.a, sides.b, sides.c];
+        let mut causes: Vec<&str> = (0..3).filter(|&k| !all[k].is_multiple_of(2)).map(|k| ODD[k]).collect();
+        causes.extend((0..3).filter(|&k| all[k] < 6).map(|k| UNDER[k]));
+        let n = size(sides).min(values.len() as u128) as usize;
+        (0..n).filter(|&i| negative(values[i])).for_each(|i| causes.extend(near_planes(sides, i)));
+        causes.sort_unstable();
+        causes.dedup();
+        causes.into_iter().for_each(|cause| self.add_last("31", cause));
     }
 
     /// 28 of values that are lent.

@@ -1,4 +1,5 @@
-//! Grids of the kinds that carving meets: bodies with noise, thin walls, islands, pockets, ties, missing points, and thick walls with gaps in them.
+//! Grids of the kinds that carving meets: bodies with noise, thin walls, islands, pockets, ties, missing points, thick walls with gaps in them, and
+//! bodies of few voxels far from the border, for coarse starts.
 
 use crate::random::Random;
 use crate::records::{GREATEST, LEAST, MISSING};
@@ -132,4 +133,60 @@ pub fn walled(r: &mut Random, greatest: i64) -> Grid {
         }
     }
     Grid { sides, allowed: r.pick(&[0, 1, 3, 65535]), values }
+}
+
+/// The bodies of coarse starts: paths of single voxels, scattered voxels, whole blocks, rings about a hole, and thick ones with gaps.
+const THIN: [&str; 6] = ["paths", "paths", "scattered", "blocks", "rings", "thick"];
+
+/// A grid that a coarse start mostly takes: sides are even and from 6 on, and no negative voxel is near the border. Its box has many blocks that go.
+pub fn coarse(r: &mut Random, greatest: i64) -> Grid {
+    let sides = [0; 3].map(|_| 2 * r.between(3, greatest / 2) as usize);
+    let grid = Sides { a: sides[0] as u64, b: sides[1] as u64, c: sides[2] as u64 };
+    let (body, range, missing) = (r.pick(&THIN), r.pick(&[1, 4, 1000, 1_000_000]), r.pick(&[0, 0, 3, 20]));
+    let mut values: Vec<i32> = (0..grid.n()).map(|_| r.between(0, range) as i32).collect();
+    (0..grid.n()).filter(|_| r.chance(missing)).collect::<Vec<_>>().into_iter().for_each(|i| values[i] = MISSING);
+    let any = |r: &mut Random| sides.map(|side| r.between(2, side as i64 - 3));
+    let mut put = |v: [i64; 3], value: i32| values[grid.index(v).expect("a voxel of the grid")] = value;
+    let within = |v: [i64; 3]| (0..3).all(|k| v[k] >= 2 && v[k] <= sides[k] as i64 - 3);
+    match body {
+        "scattered" => {
+            for _ in 0..r.between(2, 40) {
+                put(any(r), -(r.between(1, range.max(1)) as i32));
+            }
+        }
+        "blocks" => {
+            for _ in 0..r.between(1, 6) {
+                let corner = any(r).map(|x| x / 2 * 2);
+                (0..8).for_each(|o| put([corner[0] + o % 2, corner[1] + o / 2 % 2, corner[2] + o / 4], -1 - o as i32));
+            }
+        }
+        "rings" => {
+            let (z, [x, y, _]) = (any(r)[2], any(r));
+            for k in 0..sides[0].max(sides[1]) as i64 {
+                let ends = [[k, 2, z], [k, sides[1] as i64 - 3, z], [2, k, z], [sides[0] as i64 - 3, k, z], [x, y, k]];
+                ends.into_iter().filter(|&v| within(v)).for_each(|v| put(v, -3));
+            }
+        }
+        "thick" => {
+            let (dense, holes) = (r.pick(&[60, 90, 98]), r.pick(&[0, 5, 20]));
+            for v in (0..grid.n()).map(|i| grid.coordinates(i)).filter(|&v| within(v)) {
+                if r.chance(dense) {
+                    put(v, if r.chance(holes) { MISSING } else { -(r.between(1, 9) as i32) });
+                }
+            }
+        }
+        _ => {
+            let mut v = any(r);
+            for _ in 0..r.between(1, 60) {
+                put(v, -(r.between(1, range.max(1)) as i32));
+                let axis = r.below(3) as usize;
+                v[axis] = (v[axis] + r.between(-1, 1)).clamp(2, sides[axis] as i64 - 3);
+            }
+        }
+    }
+    if r.chance(3) {
+        let v = sides.map(|side| r.between(1, side as i64 - 2));
+        put(v, -1);
+    }
+    Grid { sides, allowed: r.pick(&[0, 0, 1, 2, 10, 65535]), values }
 }

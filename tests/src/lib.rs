@@ -1,5 +1,6 @@
 //! Grids, grid files and call scripts, the same on every machine; what conformance/ must contain; and how a tool is compared.
 
+pub mod coarse;
 pub mod compare;
 pub mod conformance;
 pub mod demands;

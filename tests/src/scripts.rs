@@ -1,10 +1,11 @@
 //! Call scripts (docs/CALL-SCRIPTS.md). Those from seeds: lists of calls from begin, crafted records, unfit ones, finished grids, files read, patched,
-//! written, out of order and of both widths, walls with gaps, marks that change, blocks; each is made along with a run of the reference, so that it
+//! written, out of order and of both widths, walls with gaps, marks that change, coarse starts, blocks; each is made along with a run of the reference, so that it
 //! can choose voxels by what they are at that moment. And those written out, in the modules below: every fault, every worked case, and what chance
 //! leaves out.
 
 mod both;
 pub mod cases;
+mod coarse;
 mod crafted;
 mod damage;
 mod extremes;
@@ -31,7 +32,7 @@ use reference::machine::{carve, finish, open, take};
 use std::fmt::{Display, Write};
 
 /// The kinds of scripts from seeds.
-pub const SEEDED: [&str; 14] = [
+pub const SEEDED: [&str; 15] = [
     "lists",
     "takes",
     "openings",
@@ -45,13 +46,14 @@ pub const SEEDED: [&str; 14] = [
     "widths",
     "gaps",
     "marks",
+    "starts",
     "blocks",
 ];
 
 /// The kinds of scripts that are written out. What takes longest stands last.
-pub const WRITTEN: [&str; 16] = [
-    "cases", "language", "refusals", "damage", "ordering", "patching", "writing", "widening", "filling", "marking", "faces", "extremes",
-    "long", "points", "shapes", "greatest",
+pub const WRITTEN: [&str; 17] = [
+    "cases", "language", "refusals", "damage", "ordering", "patching", "writing", "widening", "filling", "marking", "faces", "coarse",
+    "extremes", "long", "points", "shapes", "greatest",
 ];
 
 /// How many scripts of each seeded kind a second supplier is given.
@@ -61,7 +63,7 @@ const GIVEN: u64 = 40;
 pub fn conformance(kind: &str) -> Vec<String> {
     if SEEDED.contains(&kind) {
         // What carves needs room for ties and tunnels; the rest stays small.
-        let greatest = if ["lists", "takes", "openings", "crafted", "gaps", "marks"].contains(&kind) { 9 } else { 5 };
+        let greatest = if ["lists", "takes", "openings", "crafted", "gaps", "marks", "starts"].contains(&kind) { 9 } else { 5 };
         return (1..=GIVEN).map(|seed| script(kind, seed, greatest)).collect();
     }
     let written = match kind {
@@ -75,6 +77,7 @@ pub fn conformance(kind: &str) -> Vec<String> {
         "filling" => filling::scripts(),
         "marking" => marking::scripts(),
         "faces" => faces::scripts(),
+        "coarse" => coarse::scripts(),
         "patching" => patching::scripts(),
         "long" => long::scripts(),
         "points" => points::scripts(),
@@ -105,6 +108,7 @@ pub fn script(kind: &str, seed: u64, greatest: i64) -> String {
         "widths" => m.widths(greatest),
         "gaps" => m.gaps(greatest),
         "marks" => m.marked(greatest),
+        "starts" => m.starts(greatest),
         "large" => m.large(),
         _ => m.blocks(),
     }

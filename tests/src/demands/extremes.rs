@@ -11,14 +11,23 @@ use reference::replay::Replay;
 /// The calls on a record.
 const ON_RECORDS: [&str; 6] = ["carve", "take", "open", "finish", "crossing", "points"];
 
-/// The buffers that a call is lent, each of n.
+/// The buffers that a call is lent, each of n but for the two further ones of a coarse start.
 pub fn buffers(call: &str) -> &'static [&'static str] {
     match call {
+        "begincoarse" => &["values", "marks", "dist", "status", "cdist", "cstatus"],
         "begin" => &["values", "marks", "dist", "status"],
         "carve" | "take" | "open" => &["marks", "dist", "status"],
         "finish" | "crossing" | "points" => &["dist", "status"],
         "read" | "write" => &["values"],
         _ => &[],
+    }
+}
+
+/// How many places a buffer has to have.
+pub fn places(buffer: &str, n: u64) -> u64 {
+    match buffer {
+        "cdist" | "cstatus" => n / 8,
+        _ => n,
     }
 }
 
@@ -35,6 +44,7 @@ pub const MARKS: [u8; 9] = [4, 5, 6, 7, 127, 128, 129, 130, 131];
 
 /// Numbers out: the call, the word before the number, and bounds that it must be over, or under where they are below 0.
 const OUT: &[(&str, &str, &[i64])] = &[
+    ("begincoarse", "coarse", &[255, 65_535]),
     ("carve", "examined", &[255, 65_535, 131_071]),
     ("carve", "removed", &[255, 65_535]),
     ("carve", "face", &[5]),
@@ -93,14 +103,14 @@ fn side_of(bound: i64) -> &'static str {
 /// Every entry, each of which one call must meet.
 pub fn entries() -> Vec<String> {
     let mut all = Vec::new();
-    for call in ["begin", "write", "readlayer"].into_iter().chain(ON_RECORDS) {
+    for call in ["begin", "begincoarse", "write", "readlayer"].into_iter().chain(ON_RECORDS) {
         let sides = ["a", "b", "c"].into_iter().flat_map(|side| OF_64.map(|bits| (side, bits)));
         all.extend(sides.map(|(side, bits)| format!("{call} refused: 1, {side} fit in its low {bits} bits")));
     }
-    for call in ["begin", "read", "write"].into_iter().chain(ON_RECORDS) {
+    for call in ["begin", "begincoarse", "read", "write"].into_iter().chain(ON_RECORDS) {
         for buffer in buffers(call) {
             all.extend(["1", "2"].map(|number| format!("{call} refused: {number}, {buffer} empty")));
-            all.extend(OF_LENGTHS.map(|bits| format!("{call} refused: 2, n {buffer} in the low {bits} bits")));
+            all.extend(OF_LENGTHS.map(|bits| format!("{call} refused: 2, {buffer} of the right length in its low {bits} bits")));
         }
     }
     for call in ON_RECORDS {
@@ -112,7 +122,7 @@ pub fn entries() -> Vec<String> {
             all.extend(bounds.iter().map(|&bound| format!("{call}: given {field} {} {bound}", side_of(bound))));
         }
     }
-    for call in ["begin", "carve", "take", "open"] {
+    for call in ["begin", "begincoarse", "carve", "take", "open"] {
         all.extend(MARKS.map(|byte| format!("{call} refused: 29, a mark of {byte}")));
     }
     for &(call, number, bounds) in OUT {
@@ -144,7 +154,9 @@ fn arguments() -> Vec<String> {
     all.extend(["x", "y", "z"].map(|axis| format!("crossing: over 62 along {axis}")));
     all.extend(OF_32.map(|bits| format!("carve: a limit of 2^{bits} with a voxel pending")));
     all.extend([255, 65_535].map(|bound| format!("carve: ended by a limit over {bound}")));
-    all.extend([255, 256, 32_767, 32_768, 65_535].map(|t| format!("begin: T of {t}")));
+    for call in ["begin", "begincoarse"] {
+        all.extend([255, 256, 32_767, 32_768, 65_535].map(|t| format!("{call}: T of {t}")));
+    }
     all.extend([256, 32_768, 65_535].map(|t| format!("open refused: 14, T of {t}")));
     all.extend(["open: openings that are T in their low 8 bits".to_string(), "write: lent 2097152".to_string()]);
     for call in ["carve", "carve, hurried voxels", "open"] {
@@ -191,6 +203,8 @@ fn length(state: &Replay, buffer: &str) -> u64 {
         "values" => state.values.len(),
         "marks" => state.marks.len(),
         "dist" => state.dist.len(),
+        "cdist" => state.cdist.len(),
+        "cstatus" => state.cstatus.len(),
         _ => state.status.len(),
     };
     length as u64
@@ -208,7 +222,7 @@ pub fn of(state: &Replay, call: &str, words: &[&str]) -> Vec<String> {
         let given = numbers_of(&state.record);
         seen.extend(bounds_met(&given).into_iter().map(|(field, bound)| format!("{call}: given {field} {} {bound}", side_of(bound))));
     }
-    if ["begin", "carve", "take", "open"].contains(&call) {
+    if ["begin", "begincoarse", "carve", "take", "open"].contains(&call) {
         let wrong: Vec<u8> = state.marks.iter().copied().filter(|&mark| mark > 3).take(2).collect();
         seen.extend(wrong.iter().filter(|_| wrong.len() == 1).map(|mark| format!("if refused 29: {call} refused: 29, a mark of {mark}")));
     }
@@ -219,7 +233,7 @@ pub fn of(state: &Replay, call: &str, words: &[&str]) -> Vec<String> {
         "crossing" => crossing(state, number(1), number(2)),
         "points" => points(state, number(1), number(2)),
         "write" => write(number(1)),
-        "begin" => vec![format!("begin: T of {}", state.t)],
+        "begin" | "begincoarse" => vec![format!("{call}: T of {}", state.t)],
         "readlayer" => start(state, number(1)),
         "read" | "program" => file(call, &state.file),
         _ => Vec::new(),
@@ -238,7 +252,7 @@ fn cut_sides(state: &Replay, call: &str, sides: Sides) -> Vec<String> {
         let mut cut = all;
         cut[k] = low(all[k], bits);
         let n: u64 = cut.iter().map(|&side| side % 65).product();
-        !fit(&all[k]) && fit(&cut[k]) && buffers(call).iter().all(|buffer| length(state, buffer) == n)
+        !fit(&all[k]) && fit(&cut[k]) && buffers(call).iter().all(|buffer| length(state, buffer) == places(buffer, n))
     };
     let places = (0..3).flat_map(|k| OF_64.map(|bits| (k, bits))).filter(|&(k, bits)| cut(k, bits));
     places.map(|(k, bits)| format!("if refused 1: {call} refused: 1, {} fit in its low {bits} bits", ["a", "b", "c"][k])).collect()
@@ -250,14 +264,16 @@ fn lengths(state: &Replay, call: &str, sides: Sides) -> Vec<String> {
     let all = buffers(call);
     let mut seen = Vec::new();
     for buffer in all {
-        let others = || all.iter().filter(|other| *other != buffer).map(|other| length(state, other));
+        let others = || all.iter().filter(|other| *other != buffer);
         let is = length(state, buffer);
-        if is == 0 && others().all(|length| length > 0) {
+        if is == 0 && others().all(|other| length(state, other) > 0) {
             seen.extend(["1", "2"].map(|number| format!("if refused {number}: {call} refused: {number}, {buffer} empty")));
         }
         let n = if sides.fit() { sides.n() as u64 } else { continue };
-        let cut = OF_LENGTHS.into_iter().filter(|&bits| is > n && low(is, bits) == n && others().all(|length| length == n));
-        seen.extend(cut.map(|bits| format!("if refused 2: {call} refused: 2, n {buffer} in the low {bits} bits")));
+        let right = others().all(|other| length(state, other) == places(other, n));
+        let wanted = places(buffer, n);
+        let cut = OF_LENGTHS.into_iter().filter(|&bits| right && is > wanted && low(is, bits) == wanted);
+        seen.extend(cut.map(|bits| format!("if refused 2: {call} refused: 2, {buffer} of the right length in its low {bits} bits")));
     }
     seen
 }

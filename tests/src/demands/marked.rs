@@ -6,14 +6,17 @@ use reference::grid::Sides;
 use reference::machine::test_at;
 use reference::replay::Replay;
 
+/// The calls that are given sides and values.
+const STARTS: [&str; 2] = ["begin", "begincoarse"];
+
 /// What is seen of the marks before a call.
 pub fn of(state: &Replay, call: &str, index: u64) -> Vec<String> {
-    let sides = if call == "begin" { &state.sides } else { &state.record.sides };
+    let sides = if STARTS.contains(&call) { &state.sides } else { &state.record.sides };
     if !sides.fit() || state.marks.iter().all(|&mark| mark == 0) && state.marks.len() == sides.n() {
         return Vec::new();
     }
     let seen = match call {
-        "begin" | "carve" | "take" | "open" => lent(state, sides, call, index),
+        "begin" | "begincoarse" | "carve" | "take" | "open" => lent(state, sides, call, index),
         "finish" | "crossing" | "points" => chosen(&[
             (state.marks.len() != sides.n(), "marks of another length"),
             (state.marks.iter().any(|&mark| wrong_mark(mark).is_some()), "a mark over 3"),
@@ -54,6 +57,8 @@ fn lent(state: &Replay, sides: &Sides, call: &str, index: u64) -> Vec<String> {
     seen.extend(chosen(&[(*sides == Sides { a: 64, b: 64, c: 64 }, "marks on 64 64 64")]));
     seen.extend(match call {
         "begin" => begin(state, sides),
+        // coarse.rs has what such a start does with marks
+        "begincoarse" => Vec::new(),
         "carve" => carve(state, index),
         "take" => take(state, index),
         _ => open(state),
@@ -63,7 +68,7 @@ fn lent(state: &Replay, sides: &Sides, call: &str, index: u64) -> Vec<String> {
 
 /// Where the one byte is that is no mark.
 fn wrong_at(state: &Replay, sides: &Sides, call: &str, i: usize) -> Vec<String> {
-    let status = state.status.get(i).copied().filter(|_| call != "begin");
+    let status = state.status.get(i).copied().filter(|_| !STARTS.contains(&call));
     let distance = state.dist.get(i).copied().unwrap_or(0);
     chosen(&[
         (i == 0, "if refused 29: at the first voxel alone"),
@@ -215,39 +220,57 @@ fn open(state: &Replay) -> Vec<String> {
     ])
 }
 
-/// The marks of the begin that the record comes from, where nothing but calls and other marks came after it.
+/// The start that the record comes from, where nothing but calls and other marks came after it: which call it was, and its marks.
 #[derive(Default)]
-pub struct Begun(Option<Vec<u8>>);
+pub struct Begun(Option<(String, Vec<u8>)>);
 
 impl Begun {
     /// After a line was done.
     pub fn note(&mut self, state: &Replay, command: &str, answer: Option<&str>) {
         let word = command.split_ascii_whitespace().next().unwrap_or("");
         match word {
-            "begin" if answer.is_some_and(|said| said.starts_with("begin ok")) => self.0 = Some(state.marks.clone()),
+            "begin" | "begincoarse" if answer.is_some_and(|said| said.starts_with(&format!("{word} ok"))) => {
+                self.0 = Some((word.to_string(), state.marks.clone()));
+            }
             "sides" | "rawsides" | "rec" | "dist" | "status" => self.0 = None,
             _ => {}
         }
     }
 
-    /// What is seen of marks of 3 that came or went since begin, on voxels that could go, if the call is done.
-    pub fn changed(&self, state: &Replay, command: &str) -> Vec<String> {
+    /// What is seen of the start, if the call is done.
+    pub fn seen(&self, state: &Replay, command: &str) -> Vec<String> {
         let call = command.split_ascii_whitespace().next().unwrap_or("");
-        let Replay { record, dist, marks, status, .. } = state;
-        let Some(begun) = self.0.as_ref().filter(|begun| ["carve", "take", "open"].contains(&call) && begun.len() == marks.len()) else {
-            return Vec::new();
-        };
-        let may_go: Vec<usize> = (0..marks.len()).filter(|&i| status[i] != 0 && dist[i] >= 0).collect();
-        let has = |before: u8, now: u8| may_go.iter().any(|&i| (begun[i], marks[i]) == (before, now));
-        let mut seen = Vec::new();
-        for (mark, name) in [(UNMARKED, "unmarked"), (PINNED, "pinned"), (HURRIED, "hurried")] {
-            seen.extend(chosen(&[
-                (has(BOTH, mark), format!("{call}: both at begin, {name} now")),
-                (has(mark, BOTH), format!("{call}: {name} at begin, both now")),
-            ]));
+        let Some((start, marks)) = &self.0 else { return Vec::new() };
+        let later = ["carve", "take", "open", "finish"].contains(&call);
+        let mut seen = chosen(&[
+            (later && start == "begincoarse", format!("{call}: after a coarse start")),
+            (STARTS.contains(&call), format!("{call}: over what {start} left")),
+        ]);
+        if ["carve", "take", "open"].contains(&call) && marks.len() == state.marks.len() {
+            seen.extend(changed(state, call, marks));
+            let hurry = |i: usize| marks[i] != state.marks[i] && state.status[i] != 0;
+            seen.extend(chosen(&[(
+                start == "begincoarse" && (0..marks.len()).any(hurry),
+                format!("{call}: after a coarse start, with other marks"),
+            )]));
         }
-        let stays = |&i: &usize| begun[i] == BOTH && !pinned(marks[i]) && status[i] == 1 && test_at(record, status, i).passes();
-        seen.extend(chosen(&[(may_go.iter().any(stays), format!("{call}: both at begin, free now, not pending although it passes"))]));
         seen
     }
+}
+
+/// What is seen of marks of 3 that came or went since begin, on voxels that could go.
+fn changed(state: &Replay, call: &str, begun: &[u8]) -> Vec<String> {
+    let Replay { record, dist, marks, status, .. } = state;
+    let may_go: Vec<usize> = (0..marks.len()).filter(|&i| status[i] != 0 && dist[i] >= 0).collect();
+    let has = |before: u8, now: u8| may_go.iter().any(|&i| (begun[i], marks[i]) == (before, now));
+    let mut seen = Vec::new();
+    for (mark, name) in [(UNMARKED, "unmarked"), (PINNED, "pinned"), (HURRIED, "hurried")] {
+        seen.extend(chosen(&[
+            (has(BOTH, mark), format!("{call}: both at begin, {name} now")),
+            (has(mark, BOTH), format!("{call}: {name} at begin, both now")),
+        ]));
+    }
+    let stays = |&i: &usize| begun[i] == BOTH && !pinned(marks[i]) && status[i] == 1 && test_at(record, status, i).passes();
+    seen.extend(chosen(&[(may_go.iter().any(stays), format!("{call}: both at begin, free now, not pending although it passes"))]));
+    seen
 }

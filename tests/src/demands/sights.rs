@@ -1,6 +1,6 @@
 //! What a call is about, besides its faults: the entries of `ALSO` that it meets if it is done.
 
-use super::{gaps, marked, ordered, patched, wide};
+use super::{coarse, gaps, marked, ordered, patched, wide};
 use crate::gaps::filled;
 use crate::records::{negative, written_length, written_width, GREATEST, LONGEST_INPUT, MISSING};
 use reference::file::read;
@@ -12,6 +12,7 @@ pub fn of(state: &Replay, call: &str, words: &[&str]) -> Vec<String> {
     let number = |i: usize| words.get(i).and_then(|word| word.parse::<u64>().ok()).unwrap_or(0);
     let mut seen = match call {
         "begin" => begin(state),
+        "begincoarse" => begin_coarse(state),
         "carve" => carve(state, number(1)),
         "take" => take(state, number(1)),
         "finish" => finish(state),
@@ -31,8 +32,8 @@ pub fn of(state: &Replay, call: &str, words: &[&str]) -> Vec<String> {
         _ => {}
     }
     seen.extend(marked::of(state, call, number(1)));
-    if ["begin", "carve", "take", "open", "finish", "crossing", "points", "write"].contains(&call) {
-        let sides = if ["begin", "write"].contains(&call) { state.sides } else { state.record.sides };
+    if ["begin", "begincoarse", "carve", "take", "open", "finish", "crossing", "points", "write"].contains(&call) {
+        let sides = if ["begin", "begincoarse", "write"].contains(&call) { state.sides } else { state.record.sides };
         seen.extend(chosen(&[
             (sides == Sides { a: 64, b: 64, c: 64 }, format!("{call} on 64 64 64")),
             (different(&sides), format!("{call} on three different sides")),
@@ -114,6 +115,16 @@ fn begin(state: &Replay) -> Vec<String> {
         (values.contains(&-32767), "begin: a value of -32767"),
         ((0..values.len()).any(|i| values[i] == MISSING && sides.border(i)), "begin: a missing border voxel"),
     ]));
+    seen
+}
+
+fn begin_coarse(state: &Replay) -> Vec<String> {
+    let (sides, values) = (&state.sides, &state.values);
+    if !sides.fit() || values.len() != sides.n() {
+        return Vec::new();
+    }
+    let mut seen = wide::places_of_28("begincoarse", sides, values);
+    seen.extend(coarse::of(state));
     seen
 }
 

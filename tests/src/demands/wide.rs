@@ -17,7 +17,7 @@ fn over_16_bits(value: i32) -> bool {
 }
 
 /// Where a value stands that is refused with 28.
-fn places_of_28(call: &str, sides: &Sides, values: &[i32]) -> Vec<String> {
+pub fn places_of_28(call: &str, sides: &Sides, values: &[i32]) -> Vec<String> {
     let wrong: Vec<usize> = (0..values.len()).filter(|&i| out_of_range(values[i]).is_some()).collect();
     let alone = |wanted: bool| wrong.len() == 1 && wanted;
     let on_border = sides.fit() && values.len() == sides.n() && wrong.iter().all(|&i| sides.border(i));

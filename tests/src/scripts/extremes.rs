@@ -3,7 +3,7 @@
 
 use super::refusals::{PAIR, RING};
 use super::writing::{given, varied};
-use crate::demands::extremes::{buffers, MARKS, OF_32, OF_64, OF_DISTANCES, OF_INDICES, OF_LENGTHS, STATUS};
+use crate::demands::extremes::{buffers, places, MARKS, OF_32, OF_64, OF_DISTANCES, OF_INDICES, OF_LENGTHS, STATUS};
 use crate::files::{file_of, hex, patch};
 use crate::grids::Grid;
 use crate::random::Random;
@@ -24,7 +24,7 @@ impl Subject {
     }
 
     fn on_record(&self) -> bool {
-        !["begin", "write", "readlayer"].contains(&self.call())
+        !["begin", "begincoarse", "write", "readlayer"].contains(&self.call())
     }
 
     fn n(&self) -> u64 {
@@ -61,8 +61,9 @@ impl Subject {
     }
 
     fn long_buffers(&self) -> String {
-        let lens = buffers(self.call()).iter().flat_map(|buffer| OF_LENGTHS.map(|bits| (buffer, self.n() + (1 << bits))));
-        let each = lens.map(|(buffer, len)| format!("{buffer} len {len}\n{}\n{buffer} len {}\n", self.line, self.n()));
+        let all = buffers(self.call()).iter().map(|buffer| (buffer, places(buffer, self.n())));
+        let lens = all.flat_map(|(buffer, right)| OF_LENGTHS.map(|bits| (buffer, right, right + (1 << bits))));
+        let each = lens.map(|(buffer, right, len)| format!("{buffer} len {len}\n{}\n{buffer} len {right}\n", self.line));
         self.script("a buffer with as many as there are voxels in its length's low bits is 2", each.collect())
     }
 
@@ -289,6 +290,18 @@ fn greatest_openings() -> String {
     format!("# open: the most parts, and the most joined\n{state}{}open\n{state}{}open\n", kept(0), kept(1))
 }
 
+/// A coarse start, whose two further buffers have n / 8 places.
+fn coarse() -> Subject {
+    let state = "sides 6 6 6\nT 9\nvalues fill 4\nvalues set 86 -4\nvalues set 129 -4\n";
+    Subject { line: "begincoarse", state: state.to_string(), sides: [6, 6, 6], within: (87, 3) }
+}
+
+/// T is handed on as it is.
+fn coarse_t() -> String {
+    let each = [255, 256, 32_767, 32_768, 65_535].map(|t| format!("T {t}\nbegincoarse\n")).concat();
+    format!("# a coarse start: T at the ends of its bytes\n{}{each}", coarse().state)
+}
+
 pub fn scripts() -> Vec<String> {
     let mut scripts: Vec<String> = subjects().iter().flat_map(Subject::scripts).collect();
     scripts.push(arguments());
@@ -296,5 +309,7 @@ pub fn scripts() -> Vec<String> {
     scripts.push(openings());
     scripts.extend(order_of_distances());
     scripts.extend([files(), blocks(), greatest_openings(), noise(1, 40), noise(2, 15)]);
+    scripts.extend(coarse().scripts());
+    scripts.push(coarse_t());
     scripts
 }

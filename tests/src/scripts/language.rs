@@ -28,6 +28,12 @@ const SCRIPTS: &[&str] = &[
      marks fill 255\ndump marks\nhash\nbegin\nmarks list\ndump marks\nrawsides 3 4 3\ndump marks\nmarks len 2097152\nbegin\ncarve 0\n\
      sides 4 3 5\ndump marks\nmarks set 59 3\nvalues set 17 -1\nbegin\ncarve 1\n\
      dump marks\nsides 65 3 3\ndump marks\nsides 3 3 3\n",
+    "# cdist and cstatus: the ends of their ranges, fill, list and len, that sides make them of n / 8 and hashes show them\ndump cdist\ndump cstatus\n\
+     cdist list -2147483648 -1 0 2147483647\nhash\ndump cdist\ncdist len 6\ncdist set 5 7\ncdist len 2\ndump cdist\ncdist fill -3\nhash\n\
+     cstatus list 0 1 3 255\nhash\ncstatus set 3 2\ncstatus len 5\ndump cstatus\ncstatus fill 09\nhash\ncdist list\ncstatus list\nhash\n\
+     dump cdist\ndump cstatus\nrawsides 6 6 6\nhash\nsides 4 3 5\ndump cdist\ndump cstatus\nbegincoarse\nsides 6 6 6\nvalues set 86 -5\n\
+     begincoarse\ndump cdist\ndump cstatus\nautohash 0\nbegincoarse\nautohash 1\ncdist len 2097152\nhash\nbegincoarse\nbegin\nsides 65 6 6\n\
+     dump cdist\nhash\nbegincoarse\nrec show 0\nsides 3 3 3\n",
 ];
 
 /// Lines that a tool must refuse, each a script by itself: it prints nothing, and its status is 2.
@@ -133,6 +139,33 @@ pub const MISTAKES: &[&str] = &[
     "marks len -1",
     "marks len 2097153",
     "marks add 1",
+    "cdist",
+    "cdist fill",
+    "cdist fill 2147483648",
+    "cdist fill -2147483649",
+    "cdist set 3 0",
+    "cdist set -1 0",
+    "cdist set 0",
+    "cdist list 1 x",
+    "cdist len -1",
+    "cdist len 2097153",
+    "cdist add 1",
+    "cstatus",
+    "cstatus fill 256",
+    "cstatus fill -1",
+    "cstatus set 3 0",
+    "cstatus set 0 256",
+    "cstatus list 0 256",
+    "cstatus len 2097153",
+    "cmarks fill 0",
+    "cvalues fill 0",
+    "dump cmarks",
+    "dump cdist 0",
+    "dump cstatus 0",
+    "begincoarse 0",
+    "begin coarse",
+    "beginCoarse",
+    "coarse",
     "mark fill 0",
     "dump mark",
     "dump marks 0",
