@@ -1,6 +1,7 @@
 //! Every fault that a call has, each by itself and whether or not another one is answered first. From document 01's numbers, document 02's for
-//! `write`, for patch records, for the order of layers, for values of 32 bits, for marks and for coarse starts, and docs/RULES.md for `points`, which is ours, with the order of
-//! checks beside them, and not from the reference's code: so the kit can be asked for every pair of faults, and the reference is held to the order.
+//! `write`, for patch records, for the order of layers, for values of 32 bits, for marks and for coarse starts, and docs/RULES.md for `points`, which
+//! is ours, with the order of checks beside them, and not from the reference's code: so the kit can be asked for every pair of faults, and the
+//! reference is held to the order.
 
 use crate::faces::ACROSS;
 use crate::marks::{pinned, wrong_mark};

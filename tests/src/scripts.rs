@@ -1,7 +1,7 @@
 //! Call scripts (docs/CALL-SCRIPTS.md). Those from seeds: lists of calls from begin, crafted records, unfit ones, finished grids, files read, patched,
-//! written, out of order and of both widths, walls with gaps, marks that change, coarse starts, blocks; each is made along with a run of the reference, so that it
-//! can choose voxels by what they are at that moment. And those written out, in the modules below: every fault, every worked case, and what chance
-//! leaves out.
+//! written, out of order and of both widths, walls with gaps, marks that change, coarse starts, blocks; each is made along with a run of the
+//! reference, so that it can choose voxels by what they are at that moment. And those written out, in the modules below: every fault, every worked
+//! case, and what chance leaves out.
 
 mod both;
 pub mod cases;

@@ -524,7 +524,7 @@ fn lengths() -> String {
 
 /// A refused start writes nothing, and the next one, set right, is done.
 fn set_right() -> String {
-    let mut text = format!("# refused, then done: record and buffers stay until then\n{}", small());
+    let mut text = format!("# refused, then done: record and buffers stay until then\n{}begincoarse\n", small());
     for (wrong, right) in [
         ("cdist len 63", "cdist len 64"),
         ("cstatus len 65", "cstatus len 64"),
@@ -608,6 +608,12 @@ fn long_grids() -> String {
     text
 }
 
+/// A box of 504 blocks, nearly all of which go.
+fn many_blocks() -> String {
+    let sides = [20, 18, 22];
+    format!("# hundreds of blocks examined\n{}begincoarse\ncarve 1\ncarve 100\n{}", grid(sides, 1, 6, &branches(sides)), to_the_end(1))
+}
+
 /// Bodies that differ at the end, where openings are limited.
 fn other_bodies() -> String {
     let mut text = "# where openings are limited, either start may end with another body\n".to_string();
@@ -637,7 +643,7 @@ pub fn scripts() -> Vec<String> {
     scripts.push(discarded());
     scripts.extend(subject().scripts());
     scripts.extend([of_odd_sides(), lengths(), set_right(), over_each_other()]);
-    scripts.extend([taken(), one_by_one(), openings(), long_grids(), other_bodies()]);
+    scripts.extend([taken(), one_by_one(), openings(), long_grids(), many_blocks(), other_bodies()]);
     scripts
 }
 
