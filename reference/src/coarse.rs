@@ -98,11 +98,11 @@ pub fn begin_coarse(sides: Sides, t: u16, values: &[i32], marks: &[u8], voxels: 
     }
     voxels.dist.copy_from_slice(&dist);
     let mut block_marks = vec![0; blocks.dist.len()];
-    for j in 0..blocks.dist.len() {
+    for (j, mark) in block_marks.iter_mut().enumerate() {
         let eight = voxels_of(&sides, j);
         blocks.dist[j] = eight.iter().map(|&i| dist[i]).min().expect("eight voxels");
         // hurries wait
-        block_marks[j] = u8::from(eight.iter().any(|&i| pinned(marks[i])));
+        *mark = u8::from(eight.iter().any(|&i| pinned(marks[i])));
     }
     let examined = run(&halved(&sides), &block_marks, &mut blocks)?;
     let inside: Vec<bool> = dist.iter().map(|&d| d < 0).collect();
