@@ -5,7 +5,7 @@ use Rattle.rules.proofs.Pinned.{gone-stays-gone}
 use Rattle.rules.proofs.Border.{pinned-stays}
 use Rattle.coarse.specs.Blocks.{halved, blockOf, eight, leastFrom, blockDistance, blockDistances, blockMarks, splitBody}
 use Rattle.coarse.specs.Coarse.{negativeBlocks, blockBox, firstStatus, coarseRun, nearBorder, unfitCoarse, wrongLengths, coarseOn, beginCoarse}
-use Rattle.coarse.specs.Examples.{grid, lent, coarseOf, twoBlocks, plainRod, coarseRod, pin}
+use Rattle.coarse.specs.Examples.{grid, lent, coarseOf, twoBlocks, plain, coarse, pin}
 use Rattle.coarse.specs.Examples.{RunOfBlocks, TwoBlocks, SplitBlocks, CoarseNumbers, PinOutsideTheBox}
 
 -- to unfold `coarse-rules` is to unfold the rules
@@ -44,9 +44,11 @@ coarse-numbers =
     }
 
 pub pin-outside-the-box : PinOutsideTheBox
-unfolding coarse-rules plainRod coarseRod
+unfolding coarse-rules plain coarse
 pin-outside-the-box =
     record {
-      plain-gone = gone-stays-gone plainRod 114 refl;
-      coarse-kept = λ calls pins. pinned-stays pin coarseRod calls pins 114 refl refl;
+      plain-ends = refl;
+      coarse-ends = refl;
+      plain-gone = gone-stays-gone plain 129 refl;
+      coarse-kept = λ calls pins. pinned-stays pin coarse calls pins 129 refl refl;
     }

@@ -7,7 +7,7 @@ use native.Mathlib.Omega.{arith}
 use lib.Dec.{eqb}
 use lib.ListN.{replicate, set}
 use lib.IntN.{ℤ, pos, negsuc, natAbs}
-use Rattle.rules.specs.Answer.{buffers}
+use Rattle.rules.specs.Answer.{isDone, buffers}
 use Rattle.rules.specs.Checks.{firstFailing}
 use Rattle.rules.specs.Status.{Progress, statusOf}
 use Rattle.rules.specs.Marks.{Marked, unmarked, noMarks}
@@ -113,6 +113,7 @@ pub coarse-answers : CoarseAnswers
 unfolding coarse-rules twoBlocks
 coarse-answers =
     record {
-      starts = answers (λ marks. coarseOf slab (155 ∷ 164 ∷ []) marks .answer) (set (markAt slab 148 1) 149 2) [] 2 refl refl;
+      starts = answers (λ marks. coarseOf slab (155 ∷ 164 ∷ []) marks .answer) (set (markAt slab 148 1) 149 2) [] 2
+          (ap isDone (two-blocks .answer)) refl;
       starts-otherwise = λ c h. let e : _≡_ {A = ℕ} 0 1 = ap (λ (a : CoarseStart). a .next .allowed) (same-answer _ _ c (h 0) (h 1)) in omega arith;
     }

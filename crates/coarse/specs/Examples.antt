@@ -12,10 +12,10 @@ use Rattle.rules.specs.Answer.{Reply, refused, done, Outcome, outcome, buffers}
 use Rattle.rules.specs.Begin.{statusAt, newRecord}
 use Rattle.rules.specs.Status.{Progress, statusOf, isKept}
 use Rattle.rules.specs.Marks.{Marked, unmarked, noMarks}
-use Rattle.rules.specs.Machine.{State}
+use Rattle.rules.specs.Machine.{State, openNext}
 use Rattle.rules.specs.Demand.{Call, run}
 use Rattle.rules.specs.Fifteen.{Pins}
-use Rattle.rules.specs.Cases.{sides, startWith, markAt}
+use Rattle.rules.specs.Cases.{sides, startWith, carvedWith, markAt}
 use Rattle.coarse.specs.Blocks.{blockDistance, splitBody}
 use Rattle.coarse.specs.Coarse.{coarseRun, nearBorder, FourBuffers, fourBuffers, CoarseStart, beginCoarse}
 use Rattle.coarse.specs.Promises.{coarseState}
@@ -117,21 +117,24 @@ pub record CoarseNumbers : Type 0 where
   -- a refusal writes nothing
   pub untouched : coarseOf (sides 3 3 3) (13 ∷ []) (noMarks (sides 3 3 3)) ≡ outcome (refused 31) (lent (sides 3 3 3))
 
--- ---- 8, 6, 6: S is (3, 3, 3) and (4, 3, 3), and (2, 2, 2) is pinned, outside the box of voxels and in a negative block
+-- ---- 6, 6, 6: S is (2, 2, 2), and (3, 3, 3) is pinned, outside the box of voxels and in the block that is kept
 
-abbrev pub rod : Sides
-rod = sides 8 6 6
+abbrev pub small : Sides
+small = sides 6 6 6
 
 abbrev pub pin : List ℕ
-pin = markAt rod 114 1
+pin = markAt small 129 1
 
-unfoldable pub plainRod : State
-plainRod = startWith pin rod 1 (grid rod (171 ∷ 172 ∷ []))
+unfoldable pub plain : State
+plain = startWith pin small 1 (grid small (86 ∷ []))
 
-unfoldable pub coarseRod : State
-coarseRod = coarseState (coarseOf rod (171 ∷ 172 ∷ []) pin .lent) (record { next = newRecord rod 1; examined = 0 })
+unfoldable pub coarse : State
+coarse = coarseState (coarseOf small (86 ∷ []) pin .lent) (record { next = newRecord small 1; examined = 0 })
 
--- after every list of calls that pins it, a coarse start has that voxel, and a plain one never does: with pins the bodies at the end may differ
+-- with pins the bodies at the end may differ: after each start a carve leads to 15
 pub record PinOutsideTheBox : Type 0 where
-  pub plain-gone : (calls : List Call) → isKept (run calls plainRod .end .status) 114 ≡ false
-  pub coarse-kept : (calls : List Call) → Pins pin coarseRod calls → isKept (run calls coarseRod .end .status) 114 ≡ true
+  pub plain-ends : openNext pin (carvedWith pin 100 plain) .answer ≡ refused 15
+  pub coarse-ends : openNext pin (carvedWith pin 100 coarse) .answer ≡ refused 15
+  -- whatever the calls, the plain start never has the pinned voxel, and the coarse one keeps it while it is pinned
+  pub plain-gone : (calls : List Call) → isKept (run calls plain .end .status) 129 ≡ false
+  pub coarse-kept : (calls : List Call) → Pins pin coarse calls → isKept (run calls coarse .end .status) 129 ≡ true
