@@ -3,7 +3,7 @@
 ghost use mathlib.Core.Path.{_≡_};
 ghost use Prim.Native.Nat.{_≤_, min, max};
 ghost use lib.IntN.{natAbs};
-ghost use Rattle.numbers.specs.Signed.{greater};
+ghost use Rattle.numbers.specs.Signed.{greater, lesser};
 
 pub fn greater_u64(x: u64, y: u64) -> u64
     ensures { λ r. ⌜ r ≡ max x y ⌝ }
@@ -21,6 +21,12 @@ pub fn greater_i32(v: i32, w: i32) -> i32
     ensures { λ r. ⌜ r ≡ greater v w ⌝ }
 {
     if v < w { w } else { v }
+}
+
+pub fn lesser_i32(v: i32, w: i32) -> i32
+    ensures { λ r. ⌜ r ≡ lesser v w ⌝ }
+{
+    if w < v { w } else { v }
 }
 
 pub fn lesser_u8(x: u8, y: u8) -> u8
