@@ -11,8 +11,8 @@ use rules::Carved;
 use rules::Record;
 use rules::Sides;
 
-// The index of pending voxels has room for the largest grid: 12 KB, and nothing on the caller's side.
-fn carve_all(s: Sides, dist: &[i32], marks: &[u8], status: &mut [u8], limit: u32) -> Tally
+// Examines pending voxels up to limit times. Their index has room for the largest grid: 12 KB, and nothing on the caller's side.
+pub fn carve_all(s: Sides, dist: &[i32], marks: &[u8], status: &mut [u8], limit: u32) -> Tally
     requires { ⌜ FitVoxels s (now dist) (now status) ⌝ }
     ensures { λ r. ⌜ Tallied s (marked (now (marks .entry))) (now (dist .entry)) limit (now (status .entry)) (now (status .exit)) r ⌝ }
 {

@@ -3,7 +3,6 @@ use mathlib.Core.Path.{_≡_, sym, _∙_}
 use mathlib.Core.Bool.{true}
 use native.Mathlib.Omega.{arith}
 use Prim.Native.Nat.{_/_}
-use lib.ListN.{length}
 use borrow.Author.Needs.{needs}
 use Rattle.prelude.proofs.Bools.{not-true, not-false}
 use Rattle.rules.specs.Grid.{fitSides, size}
