@@ -209,6 +209,33 @@ mod tests {
         }
     }
 
+    /// 86, 87 and 129 are of the one block that is not on the border; 64 touches none of them, and 85 is near low x alone.
+    #[test]
+    fn an_answer_for_another_coarse_start_is_told() {
+        let all = [
+            ("values set 64 -1", "31", "begincoarse refused: 31, for a voxel outside S alone"),
+            ("values set 85 -1", "31", "begincoarse refused: 31, x below 2 alone"),
+            ("values fill 6", "4", "begincoarse refused: 4, none below 0 alone"),
+            ("values set 0 -1", "3", "begincoarse: 3 before 31"),
+            ("cdist len 28", "2", "begincoarse refused: 2, cdist long alone"),
+            ("cstatus len 0", "2", "begincoarse refused: 2, cstatus empty"),
+            ("rawsides 6 6 7", "2", "begincoarse: 2 before 31"),
+            ("marks set 5 4", "29", "begincoarse refused: 29, on the border alone"),
+        ];
+        for (line, number, met) in all {
+            let mut state = Replay::new(REFERENCE);
+            for line in ["sides 6 6 6", "values fill 6", "values set 86 -6", "values set 87 -6", "values set 129 -6", line] {
+                state.line(line).expect("a line of the language");
+            }
+            let entries = |answer: &str| Before::of(&state, "begincoarse").entries(answer);
+            assert!(entries(&format!("begincoarse refused {number}")).is_ok_and(|all| all.contains(&met.to_string())), "{met}");
+            for other in ["1", "2", "28", "29", "3", "4", "31", "7"].into_iter().filter(|&other| other != number) {
+                assert!(entries(&format!("begincoarse refused {other}")).is_err(), "{met}: {other}");
+            }
+            assert!(entries("begincoarse ok rec").is_err(), "{met}");
+        }
+    }
+
     /// 22 is of mark 3 at begin and free in the carve, which passes it by; other buffers make it another record.
     #[test]
     fn a_mark_of_3_that_changed_since_begin_is_told() {
