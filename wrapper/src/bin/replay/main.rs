@@ -1,6 +1,5 @@
 //! Runs the call script on standard input (docs/CALL-SCRIPTS.md) and prints one line for each call.
 
-mod coarse;
 mod script;
 mod words;
 

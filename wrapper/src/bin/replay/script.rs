@@ -1,9 +1,10 @@
 //! A script's state, and what each line does to it.
 
-use crate::coarse::{begin_coarse, Lent};
 use crate::words::{hash, Words};
 use wattlerugby::raw::{Record, NO_FACE};
-use wattlerugby::{begin, carve, crossing, finish, local_test, open, points, read, read_layer, take, write, Face, Grid, Refusal, Sides};
+use wattlerugby::{
+    begin, begin_coarse, carve, crossing, finish, local_test, open, points, read, read_layer, take, write, Face, Grid, Refusal, Sides,
+};
 
 pub struct State {
     sides: Sides,
@@ -172,9 +173,9 @@ impl State {
         Ok(match name {
             "begin" => begin(self.sides, self.allowed, &self.values, marks, dist, status).map(|next| self.goes_on(next)),
             "begincoarse" => {
-                let blocks = Lent { dist: &mut self.cdist, status: &mut self.cstatus };
-                begin_coarse(self.sides, self.allowed, &self.values, marks, Lent { dist, status }, blocks)
-                    .map(|begun| format!("{} coarse {}", self.goes_on(begun.next.into()), begun.examined))
+                let (block_dist, block_status) = (&mut self.cdist, &mut self.cstatus);
+                begin_coarse(self.sides, self.allowed, &self.values, marks, dist, status, block_dist, block_status)
+                    .map(|begun| format!("{} coarse {}", self.goes_on(begun.next), begun.examined))
             }
             "carve" => carve(given, dist, marks, status, words.number()?).map(|c| {
                 let next = self.goes_on(c.next);
