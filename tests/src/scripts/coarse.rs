@@ -115,9 +115,7 @@ fn least_of_eight() -> Vec<String> {
         // S is beside the block at its low x and at its high x, so that each of its eight keeps its value
         let around = |v: Voxel| [[v[0] - 1, v[1], v[2]], [v[0] + 1, v[1], v[2]]];
         let beside: Vec<Voxel> = eight([2, 2, 2]).flat_map(around).filter(|v| !(4..6).contains(&v[0])).collect();
-        let mut s: Vec<Voxel> = beside.into_iter().chain((2..8).map(|x| [x, 3, 4])).collect();
-        s.sort_unstable();
-        s.dedup();
+        let s: Vec<Voxel> = beside.into_iter().chain((2..8).map(|x| [x, 3, 4])).collect();
         outside += &grid([10, 10, 10], 0, 50, &s);
         outside += &eight([2, 2, 2])
             .enumerate()
@@ -282,15 +280,14 @@ fn unfit_sides() -> String {
 
 /// Near each end along each axis; and the voxels next to these, which are not too near.
 fn near_ends(of_s: bool) -> String {
-    let body: Vec<Voxel> = vec![[3, 4, 3], [4, 4, 3], [4, 5, 3]];
+    let (body, at): (&[Voxel], Voxel) = if of_s { (&[], [3, 4, 3]) } else { (&[[3, 4, 3], [4, 4, 3], [4, 5, 3]], [2, 7, 2]) };
     let which = if of_s { "the only negative one" } else { "apart from S" };
     let mut text = format!("# 31: a negative voxel near each end along each axis, {which}\n");
     for k in 0..3 {
         for x in [1, 2, GOOD[k] - 3, GOOD[k] - 2] {
-            let mut v = if of_s { [3, 4, 3] } else { [[6, 8, 4], [6, 7, 4], [5, 7, 2]][k] };
-            v = std::array::from_fn(|j| if j == k { x } else { v[j].clamp(2, GOOD[j] - 3) });
-            let inside: Vec<Voxel> = if of_s { vec![v] } else { body.iter().copied().chain([v]).collect() };
-            text += &format!("{}begincoarse\nbegin\nbegincoarse\ndump cdist\n", grid(GOOD, 1, 4, &inside));
+            let mut v = at;
+            v[k] = x;
+            text += &format!("{}begincoarse\nbegin\nbegincoarse\ndump cdist\n", grid(GOOD, 1, 4, &[body, &[v]].concat()));
         }
     }
     text
@@ -364,16 +361,17 @@ fn cross_about([x, y, z]: Voxel) -> Vec<Voxel> {
     vec![[x - 1, y, z], [x + 1, y, z], [x, y - 1, z], [x, y + 1, z], [x, y, z - 1], [x, y, z + 1]]
 }
 
-/// The inside is S alone: other negative voxels are outside, in a block of S or in one of their own.
+/// The inside is S alone: other negative voxels are outside. None of them is in a block of S, as all eight of a block touch.
 fn discarded() -> String {
     let sides = [14, 10, 8];
     let path: Vec<Voxel> = (2..9).map(|x| [x, 2, 2]).collect();
-    let mut text = "# groups that are discarded: beside the box, in it, in a block of S, and of equal size\n".to_string();
-    let others: [&[Voxel]; 6] = [
+    let mut text = "# groups that are discarded: beside the box, in it, next to a block of S, and of equal size\n".to_string();
+    let others: [&[Voxel]; 7] = [
         &[[11, 7, 5]],
         &[[2, 5, 5], [8, 7, 5]],
         &[[4, 4, 2], [5, 5, 5]],
         &[[10, 3, 3]],
+        &[[10, 3, 3], [11, 2, 3]],
         &[[2, 4, 3], [8, 4, 3]],
         &[[2, 7, 5], [3, 7, 5], [4, 7, 5], [5, 7, 5], [6, 7, 5], [7, 7, 5], [8, 7, 5]],
     ];
@@ -381,9 +379,7 @@ fn discarded() -> String {
         let all: Vec<Voxel> = path.iter().copied().chain(other.iter().copied()).collect();
         text += &format!("{}begincoarse\n{SHOWN}carve 4294967295\nopen\n", grid(sides, 1, 5, &all));
     }
-    // 9, 2, 2 lies in the block of 8, 2, 2: the path ends before it, and a voxel apart begins at 10
-    let all: Vec<Voxel> = (2..7).map(|x| [x, 2, 2]).chain([[8, 3, 3], [9, 2, 3]]).collect();
-    text + &format!("{}begincoarse\n{SHOWN}", grid(sides, 1, 5, &all))
+    text
 }
 
 // ---- other numbers
