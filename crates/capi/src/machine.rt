@@ -1,12 +1,14 @@
-// begin, carve, take, open and finish for C. After a refusal `next` is the record given.
+// begin, begin coarse, carve, take, open and finish for C. After a refusal `next` is the record given.
 ghost use mathlib.Core.Path.{_≡_};
 ghost use Rattle.rules.specs.Answer.{buffers};
 ghost use Rattle.rules.specs.Begin.{begin};
 ghost use Rattle.rules.specs.Machine as machine;
 ghost use Rattle.rules.specs.Machine.{state};
+ghost use Rattle.coarse.specs.Coarse.{fourBuffers, beginCoarse};
 ghost use Rattle.replies.specs.Reply.{returned, writtenOut};
-ghost use Rattle.replies.specs.Structs.{recordIn, beginStruct, carveStruct, takeStruct, openStruct, finishStruct};
+ghost use Rattle.replies.specs.Structs.{recordIn, beginStruct, beginCoarseStruct, carveStruct, takeStruct, openStruct, finishStruct};
 use replies::BeginAnswer;
+use replies::BeginCoarseAnswer;
 use replies::CRecord;
 use replies::CarveAnswer;
 use replies::FinishAnswer;
@@ -27,6 +29,34 @@ pub extern "C" fn wattlerugby_begin_8(
         ≡ writtenOut beginStruct (begin sides allowed (now (values .entry)) (now (marks .entry)) (now (dist .entry)) (now (status .entry))) ⌝ }
 {
     replies::begin_answer(beginning::begin(sides, allowed, values, marks, dist, status))
+}
+
+#[no_mangle]
+pub extern "C" fn wattlerugby_begin_coarse(
+    sides: Sides,
+    allowed: u16,
+    values: &[i32],
+    marks: &[u8],
+    dist: &mut [i32],
+    status: &mut [u8],
+    block_dist: &mut [i32],
+    block_status: &mut [u8],
+) -> BeginCoarseAnswer
+    ensures { λ r. ⌜
+        returned r (fourBuffers (buffers (now (dist .exit)) (now (status .exit))) (buffers (now («block_dist» .exit)) (now («block_status» .exit))))
+        ≡ writtenOut beginCoarseStruct (beginCoarse sides allowed (now (values .entry)) (now (marks .entry))
+        (fourBuffers (buffers (now (dist .entry)) (now (status .entry))) (buffers (now («block_dist» .entry)) (now («block_status» .entry))))) ⌝ }
+{
+    replies::begin_coarse_answer(coarsening::begin_coarse(
+        sides,
+        allowed,
+        values,
+        marks,
+        dist,
+        status,
+        block_dist,
+        block_status,
+    ))
 }
 
 #[no_mangle]
