@@ -74,7 +74,8 @@
  *
  * So 10 bytes a voxel and the file, and 6 a voxel once begin has answered: then `values` may be given back, unless you want to tell the
  * missing points that count as inside (see begin). A coarse start needs 10 5/8 a voxel, and no later call reads its blocks. Points need 24
- * bytes for each that you have room for. On the stack carve and begin_coarse use 13 KB, every other call under 1 KB (docs/PERFORMANCE.md).
+ * bytes for each that you have room for. On the stack begin_coarse and carve use under 14 KB, begin under 1.2 KB, and every other call under
+ * 1 KB (docs/PERFORMANCE.md).
  *
  * MARKS
  *
