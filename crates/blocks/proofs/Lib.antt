@@ -1,4 +1,2 @@
 pub mod Corners
 pub mod Rows
-pub mod Pins
-pub mod Starting

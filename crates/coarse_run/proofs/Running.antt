@@ -24,7 +24,7 @@ use Rattle.examining.specs.Examining.{Tallied}
 use Rattle.coarse.specs.Blocks.{eight, blockMarks}
 use Rattle.coarse.specs.Coarse.{negativeBlocks, blockBox, firstStatus, coarseRun}
 use Rattle.coarse.proofs.Run.{first-fit}
-use Rattle.blocks.proofs.Starting.{negative-in}
+use Rattle.block_start.proofs.Starting.{negative-in}
 use Rattle.coarse_run.specs.Run.{Runnable, Ran}
 
 none-pinned : (s : Sides) → marked [] ≡ blockMarks s (marked [])

@@ -12,7 +12,7 @@ use Rattle.rules.specs.Machine.{isInside}
 use Rattle.coarse.specs.Blocks.{halved}
 use Rattle.coarse.specs.Eight.{Even}
 use Rattle.coarse.specs.Coarse.{coarseRun}
-use Rattle.blocks.specs.Work.{Startable}
+use Rattle.block_start.specs.Start.{Startable}
 
 -- a grid that has blocks, room for a byte for each voxel, and no mark or one for each voxel
 pub record Pinnable (s : Sides) (marks n : ℕ) : Type 0 where

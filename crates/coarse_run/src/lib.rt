@@ -22,16 +22,16 @@ pub fn pin(bytes: &mut [u8], marks: &[u8], s: Sides) -> usize
         return 0;
     }
     let n = bytes.len() / 8;
-    blocks::pin(&mut bytes[..n], marks, s);
+    block_pins::pin(&mut bytes[..n], marks, s);
     n
 }
 
-// Runs it, and returns how many examinations it made.
+// Carves the blocks of these distances to their end, and returns how many examinations that took.
 pub fn run(dist: &[i32], pins: &[u8], status: &mut [u8], h: Sides) -> u32
     requires { ⌜ Runnable h (now dist) (length (now status)) × (length (now pins) ≤ size h) ⌝ }
     ensures { λ r. ⌜ Ran h (marked (now (pins .entry))) (now (dist .entry)) (now (status .exit)) r ⌝ }
 {
-    blocks::start(status, dist, h);
+    block_start::start(status, dist, h);
     first_marks::mark_statuses(status, dist, pins);
     let n = sizes::voxel_count(h);
     let t = carving::carve_all(h, dist, pins, status, (27 * n) as u32);

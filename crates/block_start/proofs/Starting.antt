@@ -1,6 +1,6 @@
 -- Step 4 on blocks: labels that are 0 at the negative blocks, and the status of their box.
 use mathlib.Core.Path.{_≡_, refl, ap, sym, _∙_}
-use mathlib.Core.Bool.{Bool, true, false, not, cond}
+use mathlib.Core.Bool.{Bool, true, false, cond}
 use mathlib.Core.List.{List}
 use Prim.Native.Nat.{ℕ, _<_}
 use native.Mathlib.Omega.{arith}
@@ -20,7 +20,7 @@ use Rattle.bounding_box.specs.declared.Bounds.{Bounds}
 use Rattle.bounding_box.specs.Bounds.{Enclosable, Enclosed, statusBy}
 use Rattle.bounding_box.proofs.Settling.{enclosable, status-is}
 use Rattle.coarse.specs.Coarse.{negativeBlocks, blockBox, firstStatus}
-use Rattle.blocks.specs.Work.{labelOf, Startable}
+use Rattle.block_start.specs.Start.{labelOf, Startable}
 
 module _ (h : Sides) (blocks : List ℤ) where
   abbrev B : List ℕ
@@ -42,7 +42,7 @@ module _ (h : Sides) (blocks : List ℤ) where
     some : SomeVoxels h B
     some = record { filled = (s .some, sym (negative-in (s .some) (s .some-in)) ∙ s .some-negative); within = negative-below }
 
-    zero-label : (t : Bool) → t ≡ eqb (cond {A = ℕ} (not t) 1 0) 0
+    zero-label : (t : Bool) → t ≡ eqb (cond {A = ℕ} t 0 1) 0
     zero-label true = refl
     zero-label false = refl
 

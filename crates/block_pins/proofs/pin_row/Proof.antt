@@ -7,13 +7,13 @@ use lib.ListN.{length}
 use Rattle.cells.specs.Groups.{any}
 use Rattle.rules.specs.Marks.{marked}
 use Rattle.coarse.specs.Blocks.{blockMarks}
-use Rattle.blocks.specs.Work.{pinAt}
+use Rattle.block_pins.specs.Pins.{pinAt}
 use Rattle.blocks.proofs.Rows.{Small, small, corners-are, corners-room}
 use borrow.Author.Needs.{needs}
 use Rattle.loops.specs.InPlace.{Each}
 use Rattle.loops.proofs.InPlace.{each-none, each-more}
-use Rattle.blocks.proofs.pin_row.Statement.{statement}
-use Rattle.blocks.proofs.pin_row.Tie as tie
+use Rattle.block_pins.proofs.pin_row.Statement.{statement}
+use Rattle.block_pins.proofs.pin_row.Tie as tie
 
 abbrev Inv-loop : tie.InvT-loop
 Inv-loop pins₀ marks s row first end from l j₀ pins j = (first ≤ j) × (j ≤ end) × Each 0 (pinAt s (marked marks)) first j pins₀ pins

@@ -1,9 +1,9 @@
 -- `start` leaves what the rule says.
 use mathlib.Core.Path.{refl}
 use borrow.Author.Needs.{needs}
-use Rattle.blocks.proofs.Starting.{labelled, started}
-use Rattle.blocks.proofs.start.Statement.{statement}
-use Rattle.blocks.proofs.start.Tie as tie
+use Rattle.block_start.proofs.Starting.{labelled, started}
+use Rattle.block_start.proofs.start.Statement.{statement}
+use Rattle.block_start.proofs.start.Tie as tie
 
 label-requires : tie.Need-label-requires
 label-requires c κs = search needs

@@ -1,17 +1,19 @@
 -- `label`: below j the labels are written.
 use mathlib.Core.Path.{_≡_, _∙_, ap, subst}
-use mathlib.Core.Bool.{Bool, not, cond}
 use Prim.Native.Nat.{ℕ, _-_, _≤_}
 use native.Mathlib.Omega.{arith}
+use lib.IntN.{ℤ}
 use lib.ListN.{length}
+use mir.Syntax.{w32}
+use mir.Val.{toZ, ofZ}
+use mir.Facts.{toZ-ofZ}
 use borrow.Author.Needs.{needs, sfits-of}
-use Rattle.prelude.proofs.Signs.{held-negative}
 use Rattle.rules.specs.Grid.{distanceAt}
 use Rattle.loops.specs.InPlace.{Each}
 use Rattle.loops.proofs.InPlace.{each-none, each-more}
-use Rattle.blocks.specs.Work.{labelOf}
-use Rattle.blocks.proofs.label.Statement.{statement}
-use Rattle.blocks.proofs.label.Tie as tie
+use Rattle.block_start.specs.Start.{labelOf}
+use Rattle.block_start.proofs.label.Statement.{statement}
+use Rattle.block_start.proofs.label.Tie as tie
 
 abbrev Inv-loop : tie.InvT-loop
 Inv-loop status₀ blocks j₀ status j = (j ≤ length blocks) × Each 0 (λ k d. labelOf (distanceAt blocks k)) 0 j status₀ status
@@ -28,8 +30,8 @@ mul-d c = search needs
 shared-slice-copy-out-d : tie.Need-shared-slice-copy-out-d Inv-loop μ-loop
 shared-slice-copy-out-d c = search needs
 
-flag-requires : tie.Need-flag-requires Inv-loop μ-loop
-flag-requires c κs = search needs
+label-of-requires : tie.Need-label-of-requires Inv-loop μ-loop
+label-of-requires c κs = search needs
 
 slice-write-status : tie.Need-slice-write-status Inv-loop μ-loop
 slice-write-status c = search needs
@@ -46,10 +48,12 @@ loop-again c =
     let t = v .before in
     let l = t .before in
     let s = l .before .before in
-    let j = l .loop .j in (
+    let j = l .loop .j in
+    let d : ℤ = distanceAt (s .args .blocks .now) j in
+    let e : toZ w32 (ofZ w32 d) ≡ d = toZ-ofZ (sfits-of (v .d .given)) in (
       search needs,
-      each-more _ _ _ j _ (l .loop .status) (c .flag .result) (omega arith) (omega (arith, s .pre, t .loop-test .taken)) (l .loop .inv .1)
-          (c .flag .ensures ∙ ap (λ (t : Bool). cond {A = ℕ} (not t) 1 0) (held-negative {z = distanceAt (s .args .blocks .now) j} (sfits-of (v .d .given)))),
+      each-more _ _ _ j _ (l .loop .status) (c .label-of .result) (omega arith) (omega (arith, s .pre, t .loop-test .taken)) (l .loop .inv .1)
+          (c .label-of .ensures ∙ ap (λ (x : ℤ). labelOf x) e),
     )
 
 same-length : tie.Need-same-length Inv-loop μ-loop
@@ -71,7 +75,7 @@ label-spec =
     loop-holds
     mul-d
     shared-slice-copy-out-d
-    flag-requires
+    label-of-requires
     slice-write-status
     add-j
     loop-less

@@ -1,10 +1,10 @@
 -- `pins_block`: four pairs are eight voxels.
 use mathlib.Core.Path.{ap₂, _∙_}
 use mathlib.Core.Bool.{_||_}
-use Rattle.blocks.proofs.Corners.{any-corners}
+use Rattle.block_pins.proofs.Pins.{any-corners}
 use borrow.Author.Needs.{needs}
-use Rattle.blocks.proofs.pins_block.Statement.{statement}
-use Rattle.blocks.proofs.pins_block.Tie as tie
+use Rattle.block_pins.proofs.pins_block.Statement.{statement}
+use Rattle.block_pins.proofs.pins_block.Tie as tie
 
 pins-pair-requires : tie.Need-pins-pair-requires
 pins-pair-requires c κs = search needs

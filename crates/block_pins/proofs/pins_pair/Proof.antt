@@ -1,9 +1,9 @@
 -- `pins_pair` by the two marks.
 use native.Mathlib.Omega.{arith}
-use Rattle.blocks.proofs.Pins.{pair-pinned}
+use Rattle.block_pins.proofs.Pins.{pair-pinned}
 use borrow.Author.Needs.{needs}
-use Rattle.blocks.proofs.pins_pair.Statement.{statement}
-use Rattle.blocks.proofs.pins_pair.Tie as tie
+use Rattle.block_pins.proofs.pins_pair.Statement.{statement}
+use Rattle.block_pins.proofs.pins_pair.Tie as tie
 
 shared-slice-read-p : tie.Need-shared-slice-read-p
 shared-slice-read-p c = search needs

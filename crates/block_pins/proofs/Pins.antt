@@ -8,6 +8,7 @@ use native.Mathlib.Decide.{decLt}
 use native.Mathlib.Nat.{mul-comm, mul-assoc, mul-le-mul, mul-le-mul-left, div-lt-iff-lt-mul}
 use lib.ListN.{length, getD, List·getD-eq-default}
 use Rattle.cells.specs.Groups.{any}
+use Rattle.prelude.proofs.Bools.{or-zero}
 use Rattle.prelude.proofs.Lists.{false-any}
 use Rattle.prelude.proofs.Ranges.{getD-map-range, length-map-range}
 use Rattle.rules.specs.declared.Sides.{Sides}
@@ -16,7 +17,24 @@ use Rattle.rules.specs.Marks.{markOf, pinnedMark, hurriedMark, marked}
 use Rattle.rules.proofs.Places.{fit}
 use Rattle.rules.proofs.InsideLeast.{map-mem}
 use Rattle.coarse.specs.Blocks.{halved, partOf, eight, blockMarks}
-use Rattle.blocks.specs.Work.{Blocked, pinAt}
+use Rattle.blocks.specs.Work.{corners, Blocked}
+use Rattle.block_pins.specs.Pins.{pinAt}
+
+-- a test of four pairs is one of the eight
+pub any-corners : (p : ℕ → Bool) (a l at : ℕ)
+    → ((p at || p (at + 1)) || (p (at + a) || p (at + a + 1))) || ((p (at + l) || p (at + l + 1)) || (p (at + a + l) || p (at + a + l + 1)))
+    ≡ any p (corners a l at)
+unfolding any
+any-corners p a l at =
+    four (p at) (p (at + 1)) (p (at + a)) (p (at + a + 1)) _
+    ∙ ap (λ (t : Bool). p at || (p (at + 1) || (p (at + a) || (p (at + a + 1) || t))))
+    (sym (or-zero _) ∙ four (p (at + l)) (p (at + l + 1)) (p (at + a + l)) (p (at + a + l + 1)) false)
+  where
+    four : (x y z w t : Bool) → ((x || y) || (z || w)) || t ≡ x || (y || (z || (w || t)))
+    four true y z w t = refl
+    four false true z w t = refl
+    four false false true w t = refl
+    four false false false w t = refl
 
 -- two marks side by side
 pub pair-pinned : (marks : List ℕ) (at i j : ℕ) (t u : Bool) → t ≡ pinnedMark (markOf marks i) → u ≡ pinnedMark (markOf marks j) → i ≡ at → j ≡ at + 1

@@ -9,11 +9,11 @@ use Rattle.loops.specs.InPlace.{Each}
 use Rattle.loops.proofs.InPlace.{each-none, each-all}
 use Rattle.loops.proofs.Rows.{each-row}
 use Rattle.rules.specs.Marks.{marked}
-use Rattle.blocks.specs.Work.{pinAt}
+use Rattle.block_pins.specs.Pins.{pinAt}
 use Rattle.blocks.proofs.Rows.{rows-low, past-rows}
-use Rattle.blocks.proofs.Pins.{pins-are}
-use Rattle.blocks.proofs.pin.Statement.{statement}
-use Rattle.blocks.proofs.pin.Tie as tie
+use Rattle.block_pins.proofs.Pins.{pins-are}
+use Rattle.block_pins.proofs.pin.Statement.{statement}
+use Rattle.block_pins.proofs.pin.Tie as tie
 
 abbrev Inv-loop : tie.InvT-loop
 Inv-loop pins₀ marks s rows row₀ pins row = (row ≤ rows) × Each 0 (pinAt s (marked marks)) 0 (s .a / 2 * row) pins₀ pins
