@@ -24,7 +24,7 @@ use Rattle.rules.proofs.Distance.{gap-none}
 use Rattle.rules.proofs.Fill.{missing-from, filled-is-enclosed, filled-lt, filled-other}
 use Rattle.rules.proofs.Topology.Around.{inner-in}
 use Rattle.rules.proofs.Topology.Start.{border-inner}
-use Rattle.coarse.specs.Coarse.{unfitSide, nearEnd, nearBorder, unfitCoarse}
+use Rattle.coarse.specs.Coarse.{unfitSide, unfitSides, nearEnd, nearBorder, unfitCoarse}
 use Rattle.coarse.specs.Eight.{Even}
 use Rattle.coarse.specs.Promises.{FilledAsFit}
 
@@ -47,14 +47,11 @@ side-fit n e =
     let odd = eqb-false (n % 2) 1 (r .0) in
     (ltb-false n 6 (r .1), omega arith)
 
-end-off : (side x : ℕ) → nearEnd side x ≡ false → Within side x
+pub end-off : (side x : ℕ) → nearEnd side x ≡ false → Within side x
 end-off side x e = let r = or-false (ltb x 2) (ltb side (x + 3)) e in (ltb-false x 2 (r .0), ltb-false side (x + 3) (r .1))
 
-off-end : (side x : ℕ) → Within side x → nearEnd side x ≡ false
+pub off-end : (side x : ℕ) → Within side x → nearEnd side x ≡ false
 off-end side x w = ap₂ _||_ (le-ltb x 2 (w .0)) (le-ltb side (x + 3) (w .1))
-
-abbrev unfitSides : Sides → Bool
-unfitSides s = unfitSide (s .a) || (unfitSide (s .b) || unfitSide (s .c))
 
 abbrev tooNear : Sides → List ℤ → ℕ → Bool
 tooNear s values i = measuredNegative (valueAt values i) && nearBorder s i

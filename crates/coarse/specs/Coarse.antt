@@ -42,6 +42,9 @@ coarseRun h m dist = carving h (mayGo m dist) (sooner m dist) (27 * size h) (fir
 abbrev pub unfitSide : ℕ → Bool
 unfitSide n = eqb (n % 2) 1 || ltb n 6
 
+abbrev pub unfitSides : Sides → Bool
+unfitSides s = unfitSide (s .a) || (unfitSide (s .b) || unfitSide (s .c))
+
 -- x is above the side less 3 where x + 3 is above the side
 abbrev pub nearEnd : ℕ → ℕ → Bool
 nearEnd side x = ltb x 2 || ltb side (x + 3)
@@ -50,9 +53,7 @@ unfoldable pub nearBorder : Sides → ℕ → Bool
 nearBorder s i = nearEnd (s .a) (voxel s i .x) || (nearEnd (s .b) (voxel s i .y) || nearEnd (s .c) (voxel s i .z))
 
 unfoldable pub unfitCoarse : Sides → List ℤ → Bool
-unfitCoarse s values =
-    (unfitSide (s .a) || (unfitSide (s .b) || unfitSide (s .c)))
-    || any (λ i. measuredNegative (valueAt values i) && nearBorder s i) (voxels s)
+unfitCoarse s values = unfitSides s || any (λ i. measuredNegative (valueAt values i) && nearBorder s i) (voxels s)
 
 -- ---- the call
 

@@ -19,13 +19,10 @@ use Rattle.rules.specs.Fit.{Sized}
 use Rattle.rules.proofs.Checks.{Deciding, deciding-refused, deciding-next, deciding-done, fails-first, holds-first, held-none, held-at}
 use Rattle.begin_checks.specs.Given.{nearEdge, edgeNegative, givenChecks}
 use Rattle.begin_checks.proofs.Numbers.{calling, sides-refused, others-refused, others-held}
-use Rattle.coarse.specs.Coarse.{unfitSide, nearBorder, unfitCoarse, FourBuffers, wrongLengths, coarseChecks}
+use Rattle.coarse.specs.Coarse.{unfitSide, unfitSides, nearBorder, unfitCoarse, FourBuffers, wrongLengths, coarseChecks}
 use Rattle.coarse_checks.specs.Lengths.{Lengths}
 
 -- ---- number 31
-
-abbrev pub unfitSides : Sides → Bool
-unfitSides s = unfitSide (s .a) || (unfitSide (s .b) || unfitSide (s .c))
 
 module _ (s : Sides) (values : List ℤ) where
   abbrev near : ℕ → Bool

@@ -1,15 +1,13 @@
 -- Rows of voxels of kept blocks: their bytes by rows of blocks, and by the rule.
-use mathlib.Core.Path.{_≡_, refl, ap, sym, _∙_, subst}
+use mathlib.Core.Path.{_≡_, refl, ap, ap₂, sym, _∙_, subst}
 use mathlib.Core.Logic.{_⊎_, inl, inr}
 use mathlib.Core.Bool.{Bool, true, false, not, _&&_, _||_}
 use mathlib.Core.List.{List, map}
 use Prim.Native.Nat.{ℕ, _+_, _-_, _*_, _/_, _%_, _≤_, _<_}
 use native.Mathlib.Omega.{arith}
 use native.Mathlib.Nat.{mul-le-mul}
-use lib.Dec.{ltb}
 use lib.IntN.{ℤ}
 use lib.ListN.{length, set}
-use borrow.Author.Tests.{ltb-false, le-ltb}
 use Rattle.cells.specs.Groups.{any}
 use Rattle.prelude.proofs.Bools.{two, not-both, or-false}
 use Rattle.rules.specs.declared.Sides.{Sides}
@@ -29,6 +27,7 @@ use Rattle.loops.proofs.Rows.{row-voxel, rows-more}
 use Rattle.coarse.specs.Blocks.{halved, halfOf, blockOf, splitBody}
 use Rattle.coarse.specs.Coarse.{nearEnd}
 use Rattle.coarse.proofs.Eight.{half-grid}
+use Rattle.coarse.proofs.Fitness.{Within, end-off, off-end}
 use Rattle.splitting.specs.Split.{byteBy, byteOf, Splittable, across, blockRow, Paired, pairByte}
 use Rattle.splitting.proofs.Faces.{block, acrossKept, around}
 
@@ -74,22 +73,12 @@ same-byte k i {p} {q} e f = ap (λ (t : Bool). byteBy t p i) e ∙ go k f
 
 -- a row whose blocks lie off the ends of the grid
 pub record Inward (s : Sides) (y z : ℕ) : Type 0 where
-  pub y-low : 2 ≤ y
-  pub y-high : y + 3 ≤ s .b
-  pub z-low : 2 ≤ z
-  pub z-high : z + 3 ≤ s .c
+  pub y-off : Within (s .b) y
+  pub z-off : Within (s .c) z
 
 pub inward : (s : Sides) (y z : ℕ) → nearEnd (s .b) y || nearEnd (s .c) z ≡ false → Inward s y z
 inward s y z e =
-    let p = or-false (nearEnd (s .b) y) (nearEnd (s .c) z) e in
-    let q = or-false (ltb y 2) (ltb (s .b) (y + 3)) (p .0) in
-    let r = or-false (ltb z 2) (ltb (s .c) (z + 3)) (p .1) in
-    record {
-      y-low = ltb-false y 2 (q .0);
-      y-high = ltb-false (s .b) (y + 3) (q .1);
-      z-low = ltb-false z 2 (r .0);
-      z-high = ltb-false (s .c) (z + 3) (r .1);
-    }
+    let p = or-false (nearEnd (s .b) y) (nearEnd (s .c) z) e in record { y-off = end-off (s .b) y (p .0); z-off = end-off (s .c) z (p .1) }
 
 module _ (s : Sides) (dist : List ℤ) (blocks : List ℕ) (n : ℕ) (P : Splittable s dist blocks n) (r : ℕ) (R : Row s n r) where
   abbrev y : ℕ
@@ -150,11 +139,8 @@ module _ (s : Sides) (dist : List ℤ) (blocks : List ℕ) (n : ℕ) (P : Splitt
         inside : Inner (halved s) (halfOf u) → nearEnd (s .b) y || nearEnd (s .c) z ≡ false
         inside n =
             unfold halved in
-            let p = le-ltb y 2 (omega (arith, n .y-low)) in
-            let q = le-ltb (s .b) (y + 3) (omega (arith, n .y-high)) in
-            let v = le-ltb z 2 (omega (arith, n .z-low)) in
-            let w = le-ltb (s .c) (z + 3) (omega (arith, n .z-high)) in
-            λ i. (p i || q i) || (v i || w i)
+            ap₂ _||_ (off-end (s .b) y (omega (arith, n .y-low), omega (arith, n .y-high)))
+            (off-end (s .c) z (omega (arith, n .z-low), omega (arith, n .z-high)))
 
   -- the rows of blocks
   module _ (own beside above : ℕ) (o : own ≡ blockRow s (y / 2) (z / 2)) (b : beside ≡ blockRow s (across y) (z / 2))
@@ -183,7 +169,7 @@ module _ (s : Sides) (dist : List ℤ) (blocks : List ℕ) (n : ℕ) (P : Splitt
     pub paired : Inward s y z → Paired n (length dist) (length blocks) (s .a * r) own beside above (s .a / 2)
     paired i =
         let few : 1 * 1 ≤ blockRow s (y / 2) (z / 2) =
-        mul-le-mul (let g : 1 ≤ s .a / 2 = omega (arith, R .a-low) in g) (let g : 1 ≤ y / 2 + s .b / 2 * (z / 2) = omega (arith, i .y-low) in g) in
+        mul-le-mul (let g : 1 ≤ s .a / 2 = omega (arith, R .a-low) in g) (let g : 1 ≤ y / 2 + s .b / 2 * (z / 2) = omega (arith, i .y-off .0) in g) in
         let next : blockRow s (y / 2 + 1) (z / 2) ≡ blockRow s (y / 2) (z / 2) + s .a / 2 =
         ap (λ (n : ℕ). s .a / 2 * n) (let g : y / 2 + 1 + s .b / 2 * (z / 2) ≡ y / 2 + s .b / 2 * (z / 2) + 1 = omega arith in g)
         ∙ rows-more (s .a / 2) (y / 2 + s .b / 2 * (z / 2)) in
@@ -191,9 +177,9 @@ module _ (s : Sides) (dist : List ℤ) (blocks : List ℕ) (n : ℕ) (P : Splitt
           room = omega (arith, R .last, P .even .a-even);
           measured = P .distances ∙ sym (P .statuses);
           own-low = omega arith;
-          own-in = omega (arith, row-room (y / 2 + 1) (z / 2) (omega (arith, i .y-high)) (omega (arith, i .z-high)), R .a-low);
-          beside-in = omega (arith, row-room (across y) (z / 2) (omega (arith, i .y-high)) (omega (arith, i .z-high)));
-          above-in = omega (arith, row-room (y / 2) (across z) (omega (arith, i .y-high)) (omega (arith, i .z-high)));
+          own-in = omega (arith, row-room (y / 2 + 1) (z / 2) (omega (arith, i .y-off .1)) (omega (arith, i .z-off .1)), R .a-low);
+          beside-in = omega (arith, row-room (across y) (z / 2) (omega (arith, i .y-off .1)) (omega (arith, i .z-off .1)));
+          above-in = omega (arith, row-room (y / 2) (across z) (omega (arith, i .y-off .1)) (omega (arith, i .z-off .1)));
         }
 
 -- ---- all voxels

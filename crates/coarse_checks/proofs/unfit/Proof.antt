@@ -2,7 +2,8 @@
 use mathlib.Core.Path.{_≡_, ap₂, sym, _∙_}
 use mathlib.Core.Bool.{_||_}
 use borrow.Author.Needs.{needs}
-use Rattle.coarse_checks.proofs.Numbers.{unfitSides, by-side, by-edge, wide}
+use Rattle.coarse.specs.Coarse.{unfitSides}
+use Rattle.coarse_checks.proofs.Numbers.{by-side, by-edge, wide}
 use Rattle.coarse_checks.proofs.unfit.Statement.{statement}
 use Rattle.coarse_checks.proofs.unfit.Tie as tie
 
