@@ -9,12 +9,17 @@ use lib.ListN.{replicate, set}
 use lib.IntN.{ℤ, pos, negsuc, natAbs}
 use Rattle.rules.specs.Answer.{isDone, buffers}
 use Rattle.rules.specs.Checks.{firstFailing}
+use Rattle.rules.specs.Begin.{newRecord, inside, inBox}
+use Rattle.rules.specs.Fill.{filled}
+use Rattle.rules.specs.Meaning.{found}
+use Rattle.rules.specs.Demand.{carveUpTo, call, run}
 use Rattle.rules.specs.Status.{Progress, statusOf}
 use Rattle.rules.specs.Marks.{Marked, unmarked, noMarks}
 use Rattle.rules.specs.Cases.{sides, markAt}
 use Rattle.rules.proofs.Answers.{answers, same-answer}
 use Rattle.coarse.specs.Coarse.{fourBuffers, CoarseStart}
-use Rattle.coarse.specs.Examples.{grid, lent, coarseOf, diagonal, pinnedAt, slab, aroundIt, twoBlocks}
+use Rattle.coarse.specs.Promises.{coarseState}
+use Rattle.coarse.specs.Examples.{grid, lent, coarseOf, diagonal, pinnedAt, slab, aroundIt, twoBlocks, small}
 use Rattle.coarse.specs.Wrong.{greatestFrom, WrongBlocks, WrongRuns, WrongSplits, WrongFitness, OwnParts, CoarseAnswers}
 use Rattle.coarse.proofs.Examples.{coarse-rules, two-blocks}
 
@@ -59,6 +64,14 @@ wrong-runs =
 
 -- ---- the split
 
+-- one voxel of S, and the seven others of its block: pending after the start, and pinned by the call after it
+pinned-pending :
+    let begun = coarseState (coarseOf small (86 ∷ []) (noMarks small) .lent) (record { next = newRecord small 1; examined = 0 }) in
+    let sums = run (carveUpTo (replicate 216 1) 100 ∷ []) begun .answers in
+    (sums .examined ≡ 7) × (sums .removed ≡ 0) × (found small (inBox small (inside small (filled small (grid small (86 ∷ []))))) ≡ 1)
+unfolding coarse-rules run call
+pinned-pending = (refl, refl, refl)
+
 pub wrong-splits : WrongSplits
 unfolding coarse-rules twoBlocks
 wrong-splits =
@@ -72,6 +85,9 @@ wrong-splits =
       counts-in-the-record = λ h.
           let z : _≡_ {A = ℕ} 0 1 = h slab 1 (grid slab (155 ∷ 164 ∷ [])) (set (markAt slab 148 1) 149 2) (lent slab) _ (two-blocks .answer) in
           omega arith;
+      bound-of-the-box = λ h.
+          let z = h small 1 (grid small (86 ∷ [])) (noMarks small) (lent small) (record { next = newRecord small 1; examined = 0 }) refl in
+          omega (arith, z (carveUpTo (replicate 216 1) 100 ∷ []), pinned-pending .0, pinned-pending .1, pinned-pending .2);
     }
 
 -- ---- number 31, of 6, 6, 6 but for the odd side and the order

@@ -2,7 +2,7 @@
 use mathlib.Core.Path.{_≡_}
 use mathlib.Core.Bool.{Bool, true, false, not, cond, _&&_, _||_}
 use mathlib.Core.List.{List, [], _∷_, map}
-use Prim.Native.Nat.{ℕ, _+_, _*_, _%_}
+use Prim.Native.Nat.{ℕ, _+_, _*_, _%_, _≤_}
 use lib.Dec.{leb, ltb, eqb}
 use lib.ListN.{length}
 use lib.IntN.{ℤ, pos}
@@ -18,10 +18,12 @@ use Rattle.rules.specs.Meaning.{found}
 use Rattle.rules.specs.Marks.{Marked, strayMark, wrongMarks, noMarks}
 use Rattle.rules.specs.Status.{Progress, carving}
 use Rattle.rules.specs.Machine.{mayGo, sooner}
+use Rattle.rules.specs.Demand.{Call, run}
 use Rattle.rules.specs.Cases.{sides}
 use Rattle.coarse.specs.Blocks.{halved, eight, blockDistance, blockMarks, splitBody}
 use Rattle.coarse.specs.Coarse.{negativeBlocks, blockBox, firstStatus, coarseRun, unfitSide, nearEnd, unfitCoarse, FourBuffers, CoarseStart}
 use Rattle.coarse.specs.Coarse.{wrongLengths, coarseChecks, beginCoarse}
+use Rattle.coarse.specs.Promises.{FromCoarse}
 use Rattle.coarse.specs.Examples.{grid, lent, coarseOf, slab}
 
 -- ---- blocks
@@ -95,6 +97,11 @@ pub record WrongSplits : Type 0 where
   pub counts-in-the-record :
       ((s : Sides) (T : ℕ) (values : List ℤ) (marks : List ℕ) (l : FourBuffers) (c : CoarseStart)
       → beginCoarse s T values marks l .answer ≡ done c → c .next .examinations ≡ c .examined) → ⊥
+  -- examinations are bounded by the box: blocks stick out of it, and calls that pin what is pending examine it and remove nothing
+  pub bound-of-the-box :
+      FromCoarse (λ s T values marks start begun.
+      (calls : List Call)
+      → let sums = run calls begun .answers in sums .examined ≤ found s (inBox s (inside s values)) + 26 * sums .removed) → ⊥
 
 -- ---- number 31
 
