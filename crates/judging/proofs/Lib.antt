@@ -1,0 +1,9 @@
+pub mod Accepted
+pub mod ReadBack
+pub mod Starts
+pub mod Following
+pub mod Own
+pub mod Guarantee
+pub mod Closed
+pub mod Examples
+pub mod Wrong
