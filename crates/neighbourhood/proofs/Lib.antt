@@ -1,3 +1,4 @@
 pub mod Interior
 pub mod Gathering
 pub mod Bodies
+pub mod Few

@@ -23,7 +23,7 @@ pub struct Held {
 }
 
 // Whether voxel i is kept and one of the six that share a face with it is not.
-fn on_surface(status: &[u8], a: usize, l: usize, i: usize) -> bool
+pub fn on_surface(status: &[u8], a: usize, l: usize, i: usize) -> bool
     requires { ⌜ Span a l i (i + 1) (length (now status)) ⌝ }
     ensures { λ r. ⌜ r ≡ surfaceAt (now (status .entry)) a l i ⌝ }
 {

@@ -8,7 +8,8 @@ use mir.Facts.{toZ-ofZ}
 use Rattle.rules.specs.Marks.{marked}
 use Rattle.rules.specs.Machine.{State, state, mayGo}
 use Rattle.opening.proofs.Opening.{open-removable, opened-is}
-use Rattle.opening.proofs.Counting.{few, countable-open}
+use Rattle.neighbourhood.proofs.Few.{groups-few}
+use Rattle.opening.proofs.Counting.{countable-open}
 use Rattle.opening.proofs.open_at.Statement.{statement}
 use Rattle.opening.proofs.open_at.Tie as tie
 
@@ -39,7 +40,7 @@ change-requires : tie.Need-change-requires
 change-requires c κs =
     let t = tested c in
     let s = begun t in
-    few (lent-to s) (s .args .i) (t .groups-at .result) (t .groups-at .ensures)
+    groups-few (lent-to s .rec .sides) (lent-to s .status) (s .args .i) (t .groups-at .result) (t .groups-at .ensures)
 
 -- the change as the machine holds it
 changed :
