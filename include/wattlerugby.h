@@ -16,6 +16,8 @@
  *     wattlerugby_finish    closes the list of calls: what is kept is the body
  *     wattlerugby_crossing  a point of the body's surface between two voxels
  *     wattlerugby_points    all points of the surface, as many at a time as you have room for
+ *     wattlerugby_judge     whether a list of removals, another supplier's or your own, keeps the rules on a begun grid
+ *     wattlerugby_entry     one removal, as bytes to append to such a list
  *     wattlerugby_read, wattlerugby_read_layer   a grid file, whole or a layer at a time
  *     wattlerugby_read_header, wattlerugby_voxels   the sides that a file has, and how many voxels these are: so much to lend
  *     wattlerugby_write     values out as a grid file; wattlerugby_written_width and wattlerugby_written_length say how long it is
@@ -74,8 +76,8 @@
  *
  * So 10 bytes a voxel and the file, and 6 a voxel once begin has answered: then `values` may be given back, unless you want to tell the
  * missing points that count as inside (see begin). A coarse start needs 10 5/8 a voxel, and no later call reads its blocks. Points need 24
- * bytes for each that you have room for. On the stack begin_coarse and carve use under 14 KB, begin under 1.2 KB, and every other call under
- * 1 KB (docs/PERFORMANCE.md).
+ * bytes for each that you have room for. A removal list has 6 bytes for each voxel that it removes, and judge needs no room beside it. On the
+ * stack begin_coarse and carve use under 14 KB, begin under 1.2 KB, and every other call under 1 KB (docs/PERFORMANCE.md).
  *
  * MARKS
  *
@@ -119,6 +121,26 @@
  * of its eight voxels pins a block, also one that lies outside the box of voxels around the inside, and that voxel is then kept, where begin
  * does not keep it. So a result is handed on with its start, as with T and the marks, and two suppliers compare results of the same start.
  *
+ * REMOVAL LISTS
+ *
+ * Two firms that carve the same grid hand each other the list of their removals, and each judges the other's without running the other's program.
+ * A list is a row of entries, nothing before or between them and nothing after the last, each of 6 bytes:
+ *
+ *     ordinary   hex 56 52, and the voxel's index in four bytes, low byte first
+ *     opening    hex 56 4F, and the same
+ *
+ * wattlerugby_judge is given the grid as begin or begin_coarse left it, and the list. It removes the voxels in the list's order, each by the rules
+ * and none by its distance, and puts everything back. A list is accepted where each removal is allowed at its turn, and at its end no voxel is left
+ * that passes. It need not be in the order in which carve and open remove, nor leave the same body.
+ *
+ * What is then promised, whoever made the list, is what our own calls promise, and it is proved. The inside is kept. What is not kept hangs together
+ * by faces and with the border, so there is no hollow. The Euler number is that of the body that the list leaves. Where the list has no opening, the
+ * body is in one piece and the number is 1. And where the list leaves no bare voxel outside that is kept, as where open would answer 15, the body is
+ * the one that our own calls come to by 15 with nothing pinned: two such lists leave the same voxels.
+ *
+ * Our own list is accepted, with the counts of our own record, where nothing was pinned and nothing is pending at its end; so are lists with takes
+ * and with hurries. Marks are not lent to judge, which knows no pins: a list that spares a pinned voxel which passes is refused with 33.
+ *
  * FACES
  *
  * A display may draw each removed voxel sliding away. So take and open answer which side their voxel came out by, and carve of the last voxel
@@ -130,9 +152,9 @@
  * ANSWERS
  *
  * Each answer is a struct, by value. Its first field, `refusal`, is 0 when the call did what it is for. Otherwise it is one of the
- * numbers below, nothing was written to any buffer, and every other number in the answer is 0: `face` too, which then stands for no face. A
- * record in `next` is the one for the next call on the same buffers: after a refusal that is the record you gave, each field as it was. So a
- * caller that always goes on with it is always right.
+ * numbers below, nothing was written to any buffer, or by judge nothing that it has not put back, and every other number in the answer is 0:
+ * `face` too, which then stands for no face. A record in `next` is the one for the next call on the same buffers: after a refusal that is the
+ * record you gave, each field as it was. So a caller that always goes on with it is always right.
  *
  * Checks are made in the order that stands with each call, and the first that fails gives the number. Any input at all gets an answer:
  * there is no record, buffer content, index or file that a call may not be given. What you owe is C's own: pointers as above.
@@ -141,7 +163,7 @@
  *
  * Threads may call at the same time on buffers of their own. They may also share a finished grid, since crossing and points only read it:
  * any number of threads may be inside them on the same record, distances and status bytes, each with a buffer of its own for the points. A
- * grid in work is for one thread at a time.
+ * grid in work is for one thread at a time, also while it is judged: judge works in the status bytes before it puts them back.
  *
  * STORING A RECORD
  *
@@ -168,11 +190,11 @@
 /* ---- version */
 
 #define WATTLERUGBY_VERSION_MAJOR 0
-#define WATTLERUGBY_VERSION_MINOR 11
+#define WATTLERUGBY_VERSION_MINOR 12
 #define WATTLERUGBY_VERSION_PATCH 0
-#define WATTLERUGBY_VERSION "0.11.0"
+#define WATTLERUGBY_VERSION "0.12.0"
 
-/* The version as one number, 11000 for 0.11.0: the later of two versions has the greater one. It may stand in an #if, where it is 0 with
+/* The version as one number, 12000 for 0.12.0: the later of two versions has the greater one. It may stand in an #if, where it is 0 with
  * a header that does not have it yet. */
 #define WATTLERUGBY_VERSION_NUMBER \
     (WATTLERUGBY_VERSION_MAJOR * 1000000u + WATTLERUGBY_VERSION_MINOR * 1000u + WATTLERUGBY_VERSION_PATCH)
@@ -217,7 +239,7 @@ enum {
     WATTLERUGBY_LENGTH = 2,            /* the length of a lent value, mark, distance or status buffer is not n, or of blocks not n / 8 */
     WATTLERUGBY_BORDER_NEGATIVE = 3,   /* a border voxel is measured negative: the body reaches the edge of the grid */
     WATTLERUGBY_NO_NEGATIVE = 4,       /* no voxel is measured negative: there is no body */
-    WATTLERUGBY_INDEX = 5,             /* the index, or in read a patch's index, is n or more; points: the position is over 3 n */
+    WATTLERUGBY_INDEX = 5,             /* the index, in read a patch's, in judge an entry's, is n or more; points: the position is over 3 n */
     WATTLERUGBY_AXIS = 6,              /* the axis is over 2, or the next voxel lies beyond the grid */
 
     /* the state */
@@ -231,8 +253,8 @@ enum {
     WATTLERUGBY_NO_OPENING_LEFT = 14,  /* open: as many openings as were allowed have been made */
     WATTLERUGBY_NOTHING_TO_OPEN = 15,  /* open: no kept voxel outside the body lies bare, but for pinned ones */
 
-    /* the grid file */
-    WATTLERUGBY_SHORT = 21,            /* fewer bytes are left than the header, the layer record or the patch record now due is long */
+    /* the grid file, and the removal list */
+    WATTLERUGBY_SHORT = 21,            /* fewer bytes are left than the header, the layer or patch record, or the entry now due is long */
     WATTLERUGBY_MARK = 22,             /* wrong mark */
     WATTLERUGBY_LAYER = 23,            /* a layer's z is c or more */
     WATTLERUGBY_LAYER_TWICE = 24,      /* a layer's z came before */
@@ -248,7 +270,11 @@ enum {
     WATTLERUGBY_PINNED_VOXEL = 30,     /* take: the voxel is pinned */
 
     /* the coarse start */
-    WATTLERUGBY_COARSE = 31            /* begin_coarse: a side is odd or under 6, or a measured negative voxel lies within 2 of the edge */
+    WATTLERUGBY_COARSE = 31,           /* begin_coarse: a side is odd or under 6, or a measured negative voxel lies within 2 of the edge */
+
+    /* the removal list */
+    WATTLERUGBY_BREAKS_RULES = 32,     /* judge: a removal that the rules do not allow at its turn */
+    WATTLERUGBY_STILL_PASSES = 33      /* judge: at the list's end a kept voxel outside passes the local test */
 };
 
 /* What a refusal number says, in English, without a full stop. Any number gets a text. */
@@ -260,7 +286,7 @@ static inline const char *wattlerugby_reason(uint8_t refusal)
     case WATTLERUGBY_LENGTH: return "a lent buffer's length is not the number of voxels";
     case WATTLERUGBY_BORDER_NEGATIVE: return "a border voxel is measured negative";
     case WATTLERUGBY_NO_NEGATIVE: return "no voxel is measured negative";
-    case WATTLERUGBY_INDEX: return "the index, or a patch's index, is beyond the grid";
+    case WATTLERUGBY_INDEX: return "the index, a patch's or an entry's among them, is beyond the grid";
     case WATTLERUGBY_AXIS: return "the axis is over 2, or the next voxel lies beyond the grid";
     case WATTLERUGBY_UNFIT: return "the record does not fit its buffers";
     case WATTLERUGBY_FINISHED: return "the grid is finished";
@@ -271,8 +297,8 @@ static inline const char *wattlerugby_reason(uint8_t refusal)
     case WATTLERUGBY_STILL_PENDING: return "a voxel is pending";
     case WATTLERUGBY_NO_OPENING_LEFT: return "as many openings as were allowed have been made";
     case WATTLERUGBY_NOTHING_TO_OPEN: return "there is no voxel to open";
-    case WATTLERUGBY_SHORT: return "the file ends where more bytes are due";
-    case WATTLERUGBY_MARK: return "a mark in the file is wrong";
+    case WATTLERUGBY_SHORT: return "the file or the list ends where more bytes are due";
+    case WATTLERUGBY_MARK: return "a mark in the file or the list is wrong";
     case WATTLERUGBY_LAYER: return "a layer's z is beyond the grid";
     case WATTLERUGBY_LAYER_TWICE: return "a layer's z came before";
     case WATTLERUGBY_BYTES_LEFT: return "the input is over 65,536 bytes";
@@ -282,6 +308,8 @@ static inline const char *wattlerugby_reason(uint8_t refusal)
     case WATTLERUGBY_MARK_BYTE: return "a mark byte is over 3";
     case WATTLERUGBY_PINNED_VOXEL: return "the voxel is pinned";
     case WATTLERUGBY_COARSE: return "the grid is not fit for a coarse start";
+    case WATTLERUGBY_BREAKS_RULES: return "a removal of the list breaks the rules";
+    case WATTLERUGBY_STILL_PASSES: return "a voxel still passes the local test at the list's end";
     default: return "no number of this library";
     }
 }
@@ -523,6 +551,49 @@ wattlerugby_open_answer wattlerugby_open(
     const int32_t *dist, size_t dist_len,
     const uint8_t *marks, size_t marks_len,
     uint8_t *status, size_t status_len);
+
+/* ---- judge */
+
+/* The bytes of an entry of a removal list: see REMOVAL LISTS above. */
+#define WATTLERUGBY_ENTRY_LENGTH 6
+
+/* Writes the entry of one removal into 6 bytes of yours, an opening's or an ordinary one's: append them to a list. The index is not looked at,
+ * since an entry does not know its grid: judge refuses one of n or more with 5. */
+static inline void wattlerugby_entry(uint32_t index, bool opening, uint8_t *entry)
+{
+    size_t i;
+    entry[0] = 0x56;
+    entry[1] = opening ? 0x4F : 0x52;
+    for (i = 0; i < 4; i++)
+        entry[2 + i] = (uint8_t)(index >> 8 * i);
+}
+
+typedef struct wattlerugby_judge_answer {
+    uint8_t refusal;
+    uint64_t removals;   /* entries, openings among them */
+    uint32_t openings;
+    int32_t euler;       /* the Euler number of what the list leaves: 1, and k - m more for each opening */
+} wattlerugby_judge_answer;
+
+/* Judges a removal list on a grid, from the kept voxels of `status` on, with counts of 0 and the Euler number 1. Of the record only the sides and
+ * `allowed` count once it is found fit: its own removals, openings and Euler number do not, nor does it matter which voxels are pending. Lend the
+ * buffers that begin or begin_coarse filled, not yet carved, with that record.
+ *
+ * The list is accepted exactly where each entry's voxel is kept and outside at its turn; an ordinary one passes the local test then; an opening has
+ * a face neighbour that is not kept, and comes when no kept voxel outside passes, so that it does not pass itself; there are at most `allowed`
+ * openings; and at the end no kept voxel outside passes. The order of distances is free, of openings too. A list without entries is accepted where no
+ * kept voxel outside passes. Marks are not lent: judge knows no pins.
+ *
+ * `status` is worked in while the call runs. On every way out, accepted or refused, both buffers hold what they held before. The answer has no record:
+ * go on with the one that you gave. The time is in proportion to n and to the entries, however many of them are openings (docs/PERFORMANCE.md).
+ *
+ * Checks: 1, 2 (`dist` and `status`), 7, 8; of each entry in turn, before the next is looked at, 21 (fewer than 6 bytes are left), 22, 5 (the index is
+ * n or more), 32 (a rule above is broken, an opening over `allowed` too); at the end 33. */
+wattlerugby_judge_answer wattlerugby_judge(
+    wattlerugby_record given,
+    const int32_t *dist, size_t dist_len,
+    uint8_t *status, size_t status_len,
+    const uint8_t *list, size_t list_len);
 
 /* ---- finish */
 

@@ -1,8 +1,8 @@
 //! A grid in work: a record with the two buffers that belong to it, and its marks.
 
 use crate::{
-    begin, begin_coarse, carve, crossing, finish, open, read_values, take, Carved, Opened, Point, Points, Record, Refusal, Sides, Taken,
-    HURRIED, NO_LIMIT, PINNED, UNMARKED,
+    begin, begin_coarse, carve, crossing, finish, judge, open, read_values, take, Carved, Judged, Opened, Point, Points, Record, Refusal,
+    Sides, Taken, HURRIED, NO_LIMIT, PINNED, UNMARKED,
 };
 
 /// A record with its worked distances and status bytes, and the marks that it lends to each call: none, unless you set them. After each call
@@ -317,6 +317,12 @@ impl Grid {
         let done = open(self.record, &self.dist, &self.marks, &mut self.status)?;
         self.record = done.next;
         Ok(done)
+    }
+
+    /// Judges a removal list from the voxels that are kept now, and leaves the grid as it is: begin, and judge before anything is carved. See
+    /// [`crate::judge`], and "Removal lists" on the crate's page. The status bytes are worked in and put back, hence `&mut`.
+    pub fn judge(&mut self, list: &[u8]) -> Result<Judged, Refusal> {
+        judge(self.record, &self.dist, &mut self.status, list)
     }
 
     /// Makes what is kept the body. See [`crate::finish`].

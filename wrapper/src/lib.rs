@@ -83,6 +83,29 @@
 //! It needs even sides of 6 or more, and two voxels between the body and the grid's edge: otherwise it refuses with 31. It is lent a distance and a
 //! status byte for each block besides; [`Grid::begin_coarse`] has them.
 //!
+//! # Removal lists
+//!
+//! Two firms that carve the same grid hand each other their removals as a list of [`Entry`]s in bytes, and [`judge`] tells whether a list keeps the
+//! rules, without the program that made it. The order of distances is free, and marks are not lent. The body of an accepted list has what our own
+//! calls promise, which is proved: the inside is kept, there is no hollow, the Euler number is right, and without an opening it is in one piece.
+//!
+//! ```
+//! use wattlerugby::{Entry, Grid, Judged, Refusal, Sides};
+//!
+//! // a ring: eight voxels around an empty one, in the middle layer of 5 x 5 x 3, with one opening allowed
+//! let mut values = [4; 75];
+//! for i in [31, 32, 33, 36, 38, 41, 42, 43] {
+//!     values[i] = -4;
+//! }
+//! let mut ring = Grid::begin(Sides { a: 5, b: 5, c: 3 }, 1, &values)?;
+//! let opened = Entry::Opening(37).bytes();
+//! assert_eq!(opened, [0x56, 0x4F, 37, 0, 0, 0]);
+//! assert_eq!(ring.judge(&opened)?, Judged { removals: 1, openings: 1, euler: 0 });
+//! assert_eq!(ring.judge(&[])?, Judged { removals: 0, openings: 0, euler: 1 }); // none passes, and nobody has to open
+//! assert_eq!(ring.judge(&Entry::Ordinary(37).bytes()), Err(Refusal::BREAKS_RULES)); // the hole's skin does not pass
+//! # Ok::<(), Refusal>(())
+//! ```
+//!
 //! # The archive
 //!
 //! The library is the archive that `rt staticlib capi` writes: build.rs looks for it in the folder that the variable `WATTLERUGBY_ARCHIVE`
@@ -101,12 +124,14 @@ compile_error!(
      README.md says what can be done on other machines"
 );
 
+mod entry;
 mod face;
 mod grid;
 pub mod raw;
 mod refusal;
 mod surface;
 
+pub use entry::Entry;
 pub use face::Face;
 pub use grid::{Blocks, Grid};
 pub use refusal::Refusal;
@@ -296,6 +321,17 @@ pub struct Opened {
     pub face: Face,
     /// The record for the next call.
     pub next: Record,
+}
+
+/// What a list that [`judge`] accepts comes to.
+#[derive(Clone, Copy, Debug, PartialEq, Eq)]
+pub struct Judged {
+    /// Voxels removed, openings among them: the list's entries.
+    pub removals: u64,
+    /// Openings among them.
+    pub openings: u32,
+    /// The Euler number of what the list leaves.
+    pub euler: i32,
 }
 
 /// What [`points`] found.
@@ -578,6 +614,40 @@ pub fn open(given: impl Into<raw::Record>, dist: &[i32], marks: &[u8], status: &
         raw::wattlerugby_open(given.into(), dist.as_ptr(), dist.len(), marks.as_ptr(), marks.len(), status.as_mut_ptr(), status.len())
     };
     done(r.refusal, r).map(|r| Opened { index: r.index, k: r.k, m: r.m, face: bare_face(r.face), next: r.next.into() })
+}
+
+/// Judges a removal list, a row of [`Entry`]s in bytes, from the kept voxels of `status` on, with counts of 0 and the Euler number 1. Once the record
+/// is found fit only its sides and T count. Both buffers end as they began, whatever the answer; `status` is worked in meanwhile.
+///
+/// A list is accepted exactly where each voxel is kept and outside at its turn; an ordinary one passes the local test then; an opening has a face
+/// neighbour that is not kept, and comes when no kept voxel outside passes; there are at most T openings; and at the end no kept voxel outside passes.
+///
+/// Checks: 1, 2 (`dist` and `status`), 7, 8; of each entry in turn 21 (fewer than 6 bytes are left), 22, 5 (the index is n or more), 32 (a rule is
+/// broken); at the end 33 (a voxel passes).
+///
+/// ```
+/// use wattlerugby::{begin, judge, Entry, Judged, Refusal, Sides, UNMARKED};
+///
+/// let sides = Sides { a: 4, b: 4, c: 3 };
+/// let mut values = [6; 48];
+/// (values[21], values[26]) = (-6, -6); // two voxels that touch in an edge: 22 and 25 fill the box around them, and pass
+/// let (mut dist, mut status) = ([0; 48], [0; 48]);
+/// let record = begin(sides, 0, &values, &[UNMARKED; 48], &mut dist, &mut status)?;
+/// let mut list = |entries: &[Entry]| judge(record, &dist, &mut status, &Entry::list(entries));
+///
+/// let both = Judged { removals: 2, openings: 0, euler: 1 };
+/// assert_eq!(list(&[Entry::Ordinary(22), Entry::Ordinary(25)])?, both);
+/// assert_eq!(list(&[Entry::Ordinary(25), Entry::Ordinary(22)])?, both); // the order is free
+/// assert_eq!(list(&[Entry::Ordinary(22)]), Err(Refusal::STILL_PASSES)); // 25 does
+/// assert_eq!(list(&[Entry::Ordinary(21)]), Err(Refusal::BREAKS_RULES)); // it is inside
+/// # Ok::<(), Refusal>(())
+/// ```
+pub fn judge(given: impl Into<raw::Record>, dist: &[i32], status: &mut [u8], list: &[u8]) -> Result<Judged, Refusal> {
+    // SAFETY: as in `begin`.
+    let r = unsafe {
+        raw::wattlerugby_judge(given.into(), dist.as_ptr(), dist.len(), status.as_mut_ptr(), status.len(), list.as_ptr(), list.len())
+    };
+    done(r.refusal, Judged { removals: r.removals, openings: r.openings, euler: r.euler })
 }
 
 /// Makes every kept voxel part of the body: a worked distance w of 0 or more becomes -w, or -1 where w is 0.

@@ -75,6 +75,14 @@ pub struct OpenAnswer {
 }
 
 #[repr(C)]
+pub struct JudgeAnswer {
+    pub refusal: u8,
+    pub removals: u64,
+    pub openings: u32,
+    pub euler: i32,
+}
+
+#[repr(C)]
 pub struct FinishAnswer {
     pub refusal: u8,
     pub next: Record,
@@ -200,6 +208,16 @@ extern "C" {
         status: *mut u8,
         status_len: usize,
     ) -> OpenAnswer;
+
+    pub fn wattlerugby_judge(
+        given: Record,
+        dist: *const i32,
+        dist_len: usize,
+        status: *mut u8,
+        status_len: usize,
+        list: *const u8,
+        list_len: usize,
+    ) -> JudgeAnswer;
 
     pub fn wattlerugby_finish(given: Record, dist: *mut i32, dist_len: usize, status: *const u8, status_len: usize) -> FinishAnswer;
 

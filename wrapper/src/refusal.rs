@@ -49,7 +49,7 @@ numbers! {
     2 LENGTH "a lent buffer's length is not the number of voxels"
     3 BORDER_NEGATIVE "a border voxel is measured negative"
     4 NO_NEGATIVE "no voxel is measured negative"
-    5 INDEX "the index, or a patch's index, is beyond the grid"
+    5 INDEX "the index, a patch's or an entry's among them, is beyond the grid"
     6 AXIS "the axis is over 2, or the next voxel lies beyond the grid"
     7 UNFIT "the record does not fit its buffers"
     8 FINISHED "the grid is finished"
@@ -60,8 +60,8 @@ numbers! {
     13 STILL_PENDING "a voxel is pending"
     14 NO_OPENING_LEFT "as many openings as were allowed have been made"
     15 NOTHING_TO_OPEN "there is no voxel to open"
-    21 SHORT "the file ends where more bytes are due"
-    22 MARK "a mark in the file is wrong"
+    21 SHORT "the file or the list ends where more bytes are due"
+    22 MARK "a mark in the file or the list is wrong"
     23 LAYER "a layer's z is beyond the grid"
     24 LAYER_TWICE "a layer's z came before"
     /// No call refuses with it any more: the program `carve` alone prints it.
@@ -73,6 +73,9 @@ numbers! {
     30 PINNED_VOXEL "the voxel is pinned"
     /// A side is odd or under 6, or a measured negative voxel has a coordinate below 2 or above that side less 3.
     31 COARSE "the grid is not fit for a coarse start"
+    /// [`crate::judge`] says which rules these are.
+    32 BREAKS_RULES "a removal of the list breaks the rules"
+    33 STILL_PASSES "a voxel still passes the local test at the list's end"
 }
 
 impl std::fmt::Debug for Refusal {

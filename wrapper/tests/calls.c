@@ -1,6 +1,6 @@
 /* Every call on a state from C, on document 01's case C, with each answer printed: a ring of eight voxels around an empty one, and one
- * opening allowed. Then marks, a coarse start, faces, a file out and in, patches to it, layers of both widths, and what the header says of null
- * pointers, padding and numbers. The status is 0 where all of that holds. */
+ * opening allowed. Then marks, a coarse start, removal lists, faces, a file out and in, patches to it, layers of both widths, and what the header
+ * says of null pointers, padding and numbers. The status is 0 where all of that holds. */
 #include <stdio.h>
 #include <string.h>
 
@@ -424,6 +424,72 @@ static int coarse(void)
     return wrong;
 }
 
+/* ---- removal lists, on case D: 22 and 25 pass, 21 and 26 are inside, and one opening is allowed */
+
+/* The list of these voxels, each an opening where its sign is negative. */
+static size_t list_of(const int *voxels, size_t count, uint8_t *list)
+{
+    size_t i;
+    for (i = 0; i < count; i++)
+        wattlerugby_entry((uint32_t)(voxels[i] < 0 ? -voxels[i] : voxels[i]), voxels[i] < 0, list + WATTLERUGBY_ENTRY_LENGTH * i);
+    return WATTLERUGBY_ENTRY_LENGTH * count;
+}
+
+/* Judges, and prints the answer; both buffers are to end as they began. The list stands alone in its memory, which a checker of addresses sees. */
+static int judge_d(const char *what, const grid_d *given, size_t dist_len, size_t status_len, const uint8_t *list, size_t list_len)
+{
+    grid_d g = *given;
+    wattlerugby_judge_answer r = wattlerugby_judge(g.record, g.dist, dist_len, g.status, status_len, list, list_len);
+    printf("  %s: refused %u, removals %u, openings %u, Euler number %d\n", what, r.refusal, (unsigned)r.removals, (unsigned)r.openings,
+           (int)r.euler);
+    return memcmp(g.dist, given->dist, sizeof g.dist) != 0 || memcmp(g.status, given->status, sizeof g.status) != 0;
+}
+
+static int lists(void)
+{
+    static const struct {
+        const char *what;
+        int voxels[2];
+        size_t count, more; /* entries, and how many of its bytes a further one keeps */
+    } some[] = {
+        {"both", {22, 25}, 2, 0},          {"the other way round", {25, 22}, 2, 0}, {"one", {22}, 1, 0},
+        {"none", {0}, 0, 0},               {"one twice", {25, 25}, 2, 0},           {"inside", {22, 21}, 2, 0},
+        {"an opening that passes", {-22, 25}, 2, 0}, {"beyond the grid", {48, 21}, 2, 0}, {"inside before beyond", {21, 48}, 2, 0},
+        {"both, and a byte", {22, 25}, 2, 1}, {"both, and five bytes", {22, 25}, 2, 5},
+    };
+    uint8_t list[3 * WATTLERUGBY_ENTRY_LENGTH];
+    grid_d g = begun_d(0, 0), other = g;
+    size_t i, length;
+    int wrong = 0;
+    printf("lists:\n");
+    for (i = 0; i < sizeof some / sizeof some[0]; i++) {
+        length = list_of(some[i].voxels, some[i].count, list);
+        wattlerugby_entry(22, false, list + length);
+        wrong += judge_d(some[i].what, &g, OF_D, OF_D, list, length + some[i].more);
+    }
+    length = list_of(some[0].voxels, 2, list);
+    list[7] = 0x50;
+    wrong += judge_d("another mark", &g, OF_D, OF_D, list, length);
+    /* 1, 2, 7 and 8 come before the first entry, and of a fit record the counts are not read */
+    list[0] = 0;
+    other.record.sides.c = 65;
+    wrong += judge_d("an unfit side", &other, OF_D, OF_D, list, length);
+    wrong += judge_d("a distance too few", &g, OF_D - 1, OF_D, list, length) + judge_d("a status too few", &g, OF_D, OF_D - 1, list, length);
+    other = g;
+    other.record.finished = 1;
+    wrong += judge_d("a finished grid", &other, OF_D, OF_D, list, length);
+    other.record.openings = 2;
+    wrong += judge_d("and an unfit record", &other, OF_D, OF_D, list, length);
+    other = g;
+    other.record.openings = 1;
+    other.record.removals = 40;
+    other.record.euler = -7;
+    length = list_of(some[1].voxels, 2, list);
+    wrong += judge_d("other counts before", &other, OF_D, OF_D, list, length);
+    printf("lists: %s\n", wrong ? "WRONG" : "both buffers end as they began");
+    return wrong;
+}
+
 /* ---- faces: a block of 3 x 3 x 3 voxels, of which the middle one of each side in turn is outside. It comes out by that side, whichever call
  * removes it. */
 
@@ -696,6 +762,9 @@ static int nulls(void)
     wrong += wattlerugby_carve(r, dist, 27, NULL, 0, status, 27, 1).refusal != WATTLERUGBY_LENGTH;
     wrong += wattlerugby_take(r, dist, 27, NULL, 0, status, 27, 13).refusal != WATTLERUGBY_LENGTH;
     wrong += wattlerugby_open(r, dist, 27, NULL, 0, status, 27).refusal != WATTLERUGBY_LENGTH;
+    wrong += wattlerugby_judge(r, NULL, 0, NULL, 0, NULL, 0).refusal != WATTLERUGBY_LENGTH;
+    /* a list without entries, on a grid of which nothing is kept */
+    wrong += wattlerugby_judge(r, dist, 27, status, 27, NULL, 0).refusal != 0;
     wrong += wattlerugby_finish(r, NULL, 0, NULL, 0).refusal != WATTLERUGBY_LENGTH;
     wrong += wattlerugby_crossing(r, NULL, 0, NULL, 0, 13, 0).refusal != WATTLERUGBY_LENGTH;
     wrong += wattlerugby_points(r, NULL, 0, NULL, 0, 0, NULL, 0).refusal != WATTLERUGBY_LENGTH;
@@ -745,6 +814,7 @@ static int padding(void)
         wrong += wattlerugby_carve(r, dist, 27, unmarked, 27, status, 27, WATTLERUGBY_NO_LIMIT).refusal != 0;
         wrong += wattlerugby_take(r, dist, 27, unmarked, 27, status, 27, 13).refusal != WATTLERUGBY_INSIDE;
         wrong += wattlerugby_open(r, dist, 27, unmarked, 27, status, 27).refusal != WATTLERUGBY_NO_OPENING_LEFT;
+        wrong += wattlerugby_judge(r, dist, 27, status, 27, NULL, 0).refusal != 0;
         r = padded(wattlerugby_finish(r, dist, 27, status, 27).next, byte);
         wrong += wattlerugby_crossing(r, dist, 27, status, 27, 13, 0).point.x != 1.5;
         wrong += wattlerugby_points(r, dist, 27, status, 27, 0, out, 18).count != 6 || out[9] != 1.5;
@@ -779,6 +849,7 @@ static int finished_bytes(void)
         wrong += taken.refusal != WATTLERUGBY_FINISHED || taken.next.finished != byte;
         wrong += opened.refusal != WATTLERUGBY_FINISHED || opened.next.finished != byte;
         wrong += closed.refusal != WATTLERUGBY_FINISHED || closed.next.finished != byte;
+        wrong += wattlerugby_judge(r, dist, 27, status, 27, NULL, 0).refusal != WATTLERUGBY_FINISHED;
         wrong += wattlerugby_crossing(r, dist, 27, status, 27, 13, 0).refusal != 0;
         wrong += wattlerugby_points(r, dist, 27, status, 27, 0, NULL, 0).refusal != 0;
     }
@@ -829,6 +900,8 @@ static void numbers(void)
     NUMBER(MARK_BYTE);
     NUMBER(PINNED_VOXEL);
     NUMBER(COARSE);
+    NUMBER(BREAKS_RULES);
+    NUMBER(STILL_PASSES);
     printf("255 %s\n", wattlerugby_reason(255));
     printf("longest file %u\n", (unsigned)WATTLERUGBY_LONGEST_FILE);
     printf("values of %d bits, %d to %d, missing %d\n", WATTLERUGBY_VALUE_BITS, WATTLERUGBY_LEAST_VALUE, WATTLERUGBY_GREATEST_VALUE,
@@ -950,8 +1023,28 @@ static void print_patches(void)
         }
 }
 
+/* ---- entries: a line `INDEX OPENING HEX` for some voxels */
+
+static void print_entries(void)
+{
+    static const uint32_t voxels[] = {0, 13, 262143, 0x01020304, UINT32_MAX};
+    uint8_t entry[WATTLERUGBY_ENTRY_LENGTH];
+    size_t i;
+    int opening;
+    for (i = 0; i < sizeof voxels / sizeof voxels[0]; i++)
+        for (opening = 0; opening < 2; opening++) {
+            wattlerugby_entry(voxels[i], opening != 0, entry);
+            printf("%u %d ", (unsigned)voxels[i], opening);
+            print_hex(entry, sizeof entry);
+        }
+}
+
 int main(int argc, char **argv)
 {
+    if (argc > 1 && strcmp(argv[1], "entries") == 0) {
+        print_entries();
+        return 0;
+    }
     if (argc > 1 && strcmp(argv[1], "headers") == 0) {
         print_headers();
         return 0;
@@ -972,5 +1065,6 @@ int main(int argc, char **argv)
         lengths();
         return 0;
     }
-    return ring() + marks() + coarse() + faces() + files() + patches() + order() + widths() + nulls() + padding() + finished_bytes();
+    return ring() + marks() + coarse() + lists() + faces() + files() + patches() + order() + widths() + nulls() + padding() +
+           finished_bytes();
 }

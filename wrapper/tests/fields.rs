@@ -35,6 +35,8 @@ fn the_record_given_comes_back() {
             assert_eq!((opened.refusal, opened.index, opened.k, opened.m, opened.face, opened.next), (7, 0, 0, 0, 0, given));
             let closed = wattlerugby_finish(given, d, N, s, N);
             assert_eq!((closed.refusal, closed.next), (7, given));
+            let judged = wattlerugby_judge(given, d, N, s, N, std::ptr::null(), 0);
+            assert_eq!((judged.refusal, judged.removals, judged.openings, judged.euler), (7, 0, 0, 0));
             let crossed = wattlerugby_crossing(given, d, N, s, N, 9, 1);
             assert_eq!((crossed.refusal, crossed.crosses, crossed.point.x), (7, false, 0.0));
             let filled = wattlerugby_points(given, d, N, s, N, 9, std::ptr::null_mut(), 0);
@@ -119,6 +121,31 @@ fn begin_coarse_and_its_buffers() {
     let block = |y: usize, z: usize| (block_dist[1 + 3 * (y + 4 * z)], block_status[1 + 3 * (y + 4 * z)]);
     assert_eq!([block(1, 1), block(2, 2), block(2, 3)], [(-5, 1), (-8, 1), (-7, 1)]);
     assert_eq!([block(2, 1), block(1, 2), block(1, 3)].map(|(_, status)| status), [0; 3]);
+}
+
+#[test]
+fn judge_and_its_counts() {
+    // a ring around two voxels, each pending: one opening, and then the other passes
+    const SIDES: Sides = Sides { a: 6, b: 5, c: 3 };
+    const N: usize = 90;
+    let mut values = [7i32; N];
+    for i in [37, 38, 39, 40, 43, 46, 49, 50, 51, 52] {
+        values[i] = -5;
+    }
+    let (mut dist, mut status) = ([0i32; N], [0u8; N]);
+    let begun = wattlerugby::begin(SIDES, 1, &values, &[0; N], &mut dist, &mut status).unwrap();
+    let (before, list) = (status, [0x56, 0x4F, 44, 0, 0, 0, 0x56, 0x52, 45, 0, 0, 0]);
+    // SAFETY: the pointers are those of three live arrays, of which no more is lent than there is.
+    let mut judge =
+        |[d, s, l]: [usize; 3]| unsafe { wattlerugby_judge(begun.into(), dist.as_ptr(), d, status.as_mut_ptr(), s, list.as_ptr(), l) };
+    for (lengths, number) in [([N - 1, N, 12], 2), ([N, N - 1, 12], 2), ([N, N, 11], 21), ([N, N, 6], 33)] {
+        let refused = judge(lengths);
+        assert_eq!((refused.refusal, refused.removals, refused.openings, refused.euler), (number, 0, 0, 0), "{lengths:?}");
+    }
+    // no two of the numbers are equal
+    let judged = judge([N, N, 12]);
+    assert_eq!((judged.refusal, judged.removals, judged.openings, judged.euler), (0, 2, 1, 0));
+    assert_eq!((status, status[44]), (before, 3));
 }
 
 #[test]

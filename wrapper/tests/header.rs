@@ -7,7 +7,9 @@ use std::mem::{offset_of, size_of};
 use std::path::Path;
 use std::process::Command;
 use wattlerugby::raw::*;
-use wattlerugby::{archive_version, patch, read, read_header, write, written_length, written_width, Face, Grid, Point, Refusal, Sides};
+use wattlerugby::{
+    archive_version, patch, read, read_header, write, written_length, written_width, Entry, Face, Grid, Point, Refusal, Sides,
+};
 use wattlerugby::{GONE, HURRIED, KEPT, PENDING, PINNED, PINNED_AND_HURRIED, UNMARKED};
 use wattlerugby::{GREATEST_VALUE, LEAST_VALUE, LONGEST_FILE, MISSING, NARROW, NARROW_MISSING, VERSION, WIDE};
 
@@ -68,6 +70,7 @@ fn sizes_and_offsets() {
     lay_out!(ours, "carve_answer", CarveAnswer, refusal examined removed pending face next);
     lay_out!(ours, "take_answer", TakeAnswer, refusal k m face next);
     lay_out!(ours, "open_answer", OpenAnswer, refusal index k m face next);
+    lay_out!(ours, "judge_answer", JudgeAnswer, refusal removals openings euler);
     lay_out!(ours, "finish_answer", FinishAnswer, refusal next);
     lay_out!(ours, "crossing_answer", CrossingAnswer, refusal crosses point);
     lay_out!(ours, "points_answer", PointsAnswer, refusal count next);
@@ -80,7 +83,8 @@ fn sizes_and_offsets() {
     }
 }
 
-/// Each call's answers, marks, a coarse start, faces, a file out and in, patches, layers out of order, both widths, null pointers, padding.
+/// Each call's answers, marks, a coarse start, removal lists, faces, a file out and in, patches, layers out of order, both widths, null pointers,
+/// padding.
 #[test]
 fn calls() {
     let source = root().join("wrapper/tests/calls.c");
@@ -203,6 +207,21 @@ fn patches() {
     }
 }
 
+/// The header's entries of a removal list and the wrapper's: the same bytes.
+#[test]
+fn entries() {
+    for said in printed_by_each(&root().join("wrapper/tests/calls.c"), "entries", &["entries"]) {
+        for line in said.lines() {
+            let words: Vec<&str> = line.split(' ').collect();
+            let index: u32 = words[0].parse().expect("an index");
+            let entry = if words[1] == "1" { Entry::Opening(index) } else { Entry::Ordinary(index) };
+            assert_eq!(bytes(words[2]), entry.bytes(), "{line}");
+            assert_eq!(Entry::first(&bytes(words[2])), Ok(entry), "{line}");
+        }
+        assert_eq!(said.lines().count(), 2 * 5);
+    }
+}
+
 /// Every crossing of a file's body, in rising order of 3 index + axis.
 fn points_of(file: &Path) -> Vec<[f64; 3]> {
     let mut grid = Grid::from_file(&std::fs::read(file).expect("the sample can be read")).expect("the sample is taken");
@@ -237,6 +256,30 @@ fn examples() {
         });
         assert!(read.collect::<Vec<_>>() == points_of(&sample), "{} has other points than crossing gives", points.display());
     }
+}
+
+/// The example that judges: our own list, lists of another hand, taken whole and cut, and each file that is not there.
+#[test]
+fn judge_example() {
+    let (source, wanted) = (root().join("examples/judge_list.c"), root().join("examples/judge_list.out"));
+    let wanted = std::fs::read_to_string(wanted).expect("examples/judge_list.out can be read");
+    let sample = root().join("samples/torus-1.grid").to_str().expect("a path").to_string();
+    for said in printed_by_each(&source, "judge-example", &[&sample]) {
+        assert_eq!(said, wanted);
+    }
+    let program = Path::new(env!("CARGO_TARGET_TMPDIR")).join("judge-example-cc");
+    let run = |words: &[&str]| {
+        let out = Command::new(&program).args(words).output().expect("the example runs");
+        (out.status.code(), String::from_utf8(out.stdout).expect("text"))
+    };
+    let list = Path::new(env!("CARGO_TARGET_TMPDIR")).join("judge-example.list");
+    let path = list.to_str().expect("a path");
+    std::fs::write(&list, Entry::Ordinary(0).bytes()).expect("a list is written");
+    assert_eq!(run(&[&sample, path]), (Some(1), "judge: refused 32, a removal of the list breaks the rules\n".into()));
+    std::fs::write(&list, []).expect("a list is written");
+    let passes = "judge: refused 33, a voxel still passes the local test at the list's end\n";
+    assert_eq!(run(&[&sample, path]), (Some(1), passes.into()));
+    assert_eq!((run(&[&sample, "no such list"]).0, run(&["no such grid"]).0, run(&[]).0), (Some(2), Some(2), Some(2)));
 }
 
 /// The example with a coarse start, on a grid that is fit for it and on one that is not, which it begins plainly.

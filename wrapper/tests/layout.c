@@ -51,6 +51,11 @@ int main(void)
     FIELD(open_answer, m);
     FIELD(open_answer, face);
     FIELD(open_answer, next);
+    STRUCT(judge_answer);
+    FIELD(judge_answer, refusal);
+    FIELD(judge_answer, removals);
+    FIELD(judge_answer, openings);
+    FIELD(judge_answer, euler);
     STRUCT(finish_answer);
     FIELD(finish_answer, refusal);
     FIELD(finish_answer, next);

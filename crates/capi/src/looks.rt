@@ -1,4 +1,5 @@
-// crossing, all points, read, reading a layer, write and the local test for C: none of them changes a grid.
+// crossing, all points, read, reading a layer, write, judge and the local test for C: none of them changes a grid. Judge works in the lent status
+// bytes and gives them back as they were.
 ghost use mathlib.Core.Path.{_≡_};
 ghost use mathlib.Core.Option.{Option};
 ghost use Rattle.cells.specs.Cells.{test};
@@ -11,12 +12,14 @@ ghost use Rattle.points.specs.Listing.{points};
 ghost use Rattle.format.specs.File.{read};
 ghost use Rattle.format.specs.Layer.{readLayer};
 ghost use Rattle.format.specs.Written.{write};
+ghost use Rattle.judging.specs.Judge.{judge};
 ghost use Rattle.replies.specs.Reply.{returned, writtenOut};
 ghost use Rattle.replies.specs.Structs.{recordIn};
 ghost use Rattle.local_test.specs.Answers.{asTest};
-ghost use Rattle.look_replies.specs.Looks.{crossingStruct, pointsStruct, readStruct, layerStruct, writeStruct};
+ghost use Rattle.look_replies.specs.Looks.{crossingStruct, pointsStruct, readStruct, layerStruct, writeStruct, judgeStruct};
 use local_test::Local;
 use look_replies::CrossingAnswer;
+use look_replies::JudgeAnswer;
 use look_replies::LayerReply;
 use look_replies::PointsAnswer;
 use look_replies::ReadReply;
@@ -80,6 +83,20 @@ pub extern "C" fn wattlerugby_write_6(
     ensures { λ r. ⌜ returned r (now (file .exit)) ≡ writtenOut writeStruct (write sides allowed (now (values .entry)) (now (file .entry))) ⌝ }
 {
     look_replies::write_answer(writing::write(sides, allowed, values, file))
+}
+
+#[no_mangle]
+pub extern "C" fn wattlerugby_judge(
+    given: CRecord,
+    dist: &[i32],
+    status: &mut [u8],
+    list: &[u8],
+) -> JudgeAnswer
+    ensures { λ r. ⌜ returned r (buffers (now (dist .entry)) (now (status .exit)))
+        ≡ writtenOut judgeStruct (judge (now (list .entry)) (state (recordIn given) (now (dist .entry)) (now (status .entry)))) ⌝ }
+{
+    let r = replies::record_in(given);
+    look_replies::judge_answer(verdicts::judge(r, dist, status, list))
 }
 
 // The kept voxels are the bits of one number, from which the block is made.

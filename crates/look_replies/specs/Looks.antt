@@ -3,16 +3,19 @@ use mathlib.Core.Bool.{true, false}
 use mathlib.Core.Option.{Option, none, some}
 use Prim.Native.Nat.{ℕ}
 use lib.Ieee.{ofBits, binary64}
+use lib.IntN.{pos}
 use Rattle.rules.specs.Answer.{Reply, refused, done}
 use Rattle.surface.specs.declared.Point.{Point}
 use Rattle.points.specs.Listing.{Listing}
 use Rattle.format.specs.File.{Header}
 use Rattle.format.specs.declared.LayerSpan.{LayerSpan}
+use Rattle.judging.specs.Judge.{Judgement}
 use Rattle.look_replies.specs.declared.CrossingAnswer.{CrossingAnswer}
 use Rattle.look_replies.specs.declared.PointsAnswer.{PointsAnswer}
 use Rattle.look_replies.specs.declared.ReadReply.{ReadReply}
 use Rattle.look_replies.specs.declared.LayerReply.{LayerReply}
 use Rattle.look_replies.specs.declared.WriteReply.{WriteReply}
+use Rattle.look_replies.specs.declared.JudgeAnswer.{JudgeAnswer}
 
 -- all bits 0
 abbrev pub origin : Point
@@ -38,3 +41,7 @@ layerStruct (done l) = record { refusal = 0; z = l .z; width = l .width; from = 
 abbrev pub writeStruct : Reply ℕ → WriteReply
 writeStruct (refused n) = record { refusal = n; length = 0 }
 writeStruct (done l) = record { refusal = 0; length = l }
+
+abbrev pub judgeStruct : Reply Judgement → JudgeAnswer
+judgeStruct (refused n) = record { refusal = n; removals = 0; openings = 0; euler = pos 0 }
+judgeStruct (done j) = record { refusal = 0; removals = j .removed; openings = j .opened; euler = j .euler }

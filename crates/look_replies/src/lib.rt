@@ -1,12 +1,14 @@
-// What the calls that only look answer to C, as structs: crossing, all points, read, reading a layer, write.
+// What the calls that only look answer to C, as structs: crossing, all points, read, reading a layer, write, judge.
 ghost use mathlib.Core.Path.{_≡_};
 ghost use Rattle.surface.specs.Surface.{crossedAnswer};
 ghost use Rattle.points.specs.Listing.{listedAnswer};
 ghost use Rattle.gridfile.specs.Answer.{readAnswer};
 ghost use Rattle.layers.specs.Part.{layerAnswer};
 ghost use Rattle.writing.specs.Answer.{writeAnswer};
-ghost use Rattle.look_replies.specs.Looks.{origin, crossingStruct, pointsStruct, readStruct, layerStruct, writeStruct};
+ghost use Rattle.judging.specs.Judge.{judgedAnswer};
+ghost use Rattle.look_replies.specs.Looks.{origin, crossingStruct, pointsStruct, readStruct, layerStruct, writeStruct, judgeStruct};
 use gridfile::ReadAnswer;
+use judging::Judged;
 use layers::LayerAnswer;
 use points::Listed;
 use rules::Sides;
@@ -48,6 +50,14 @@ pub struct LayerReply {
 pub struct WriteReply {
     pub refusal: u8,
     pub length: usize,
+}
+
+#[repr(C)]
+pub struct JudgeAnswer {
+    pub refusal: u8,
+    pub removals: u64,
+    pub openings: u32,
+    pub euler: i32,
 }
 
 fn zero() -> Point
@@ -143,5 +153,28 @@ pub fn write_answer(w: WriteAnswer) -> WriteReply
     match w {
         WriteAnswer::Written(length) => WriteReply { refusal: 0, length },
         WriteAnswer::Refused(refusal) => WriteReply { refusal, length: 0 },
+    }
+}
+
+pub fn judge_answer(j: Judged) -> JudgeAnswer
+    ensures { λ r. ⌜ r ≡ judgeStruct (judgedAnswer j) ⌝ }
+{
+    match j {
+        Judged::Accepted {
+            removals,
+            openings,
+            euler,
+        } => JudgeAnswer {
+            refusal: 0,
+            removals,
+            openings,
+            euler,
+        },
+        Judged::Refused(refusal) => JudgeAnswer {
+            refusal,
+            removals: 0,
+            openings: 0,
+            euler: 0,
+        },
     }
 }

@@ -4,7 +4,7 @@ ghost use Rattle.version.specs.Version.{archiveVersion};
 
 const MAJOR: u32 = 0;
 
-const MINOR: u32 = 11;
+const MINOR: u32 = 12;
 
 const PATCH: u32 = 0;
 

@@ -3,7 +3,8 @@
 use crate::words::{hash, Words};
 use wattlerugby::raw::{Record, NO_FACE};
 use wattlerugby::{
-    begin, begin_coarse, carve, crossing, finish, local_test, open, points, read, read_layer, take, write, Face, Grid, Refusal, Sides,
+    begin, begin_coarse, carve, crossing, finish, judge, local_test, open, points, read, read_layer, take, write, Face, Grid, Refusal,
+    Sides,
 };
 
 pub struct State {
@@ -195,6 +196,8 @@ impl State {
                 None => "none".to_string(),
                 Some(p) => format!("point {:016x} {:016x} {:016x}", p.x.to_bits(), p.y.to_bits(), p.z.to_bits()),
             }),
+            "judge" => judge(given, dist, status, &words.bytes()?)
+                .map(|j| format!("removals {} openings {} euler {}", j.removals, j.openings, j.euler)),
             "local" => {
                 let t = local_test(words.hexadecimal()?);
                 let face = number_of(t.face);
