@@ -3,9 +3,10 @@
 use crate::coarse::begin_coarse;
 use crate::file::{layer, program_line, read, write};
 use crate::grid::begin;
+use crate::judge::judge;
 use crate::local::local_test;
 use crate::machine::{carve, crossing, finish, open, points, take};
 use crate::replay::Calls;
 
 pub const REFERENCE: Calls =
-    Calls { begin, begin_coarse, carve, take, open, finish, crossing, points, local_test, layer, read, write, program_line };
+    Calls { begin, begin_coarse, carve, take, open, finish, judge, crossing, points, local_test, layer, read, write, program_line };

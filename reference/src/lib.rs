@@ -1,10 +1,11 @@
-//! Document 01 once more, with CR 1, CR 2 and CR 4 to CR 10 of document 02, written from the papers and not from the product, plain and obvious:
+//! Document 01 once more, with CR 1, CR 2 and CR 4 to CR 11 of document 02, written from the papers and not from the product, plain and obvious:
 //! what the product is matched against.
 
 pub mod calls;
 pub mod coarse;
 pub mod file;
 pub mod grid;
+pub mod judge;
 pub mod local;
 pub mod machine;
 pub mod marks;

@@ -43,7 +43,7 @@ fn unfit(r: &Record, dist: &[i32], marks: Option<&[u8]>, status: &[u8]) -> Optio
 }
 
 /// 1, 2, 7, 29, 8.
-fn ready(r: &Record, dist: &[i32], marks: Option<&[u8]>, status: &[u8]) -> Result<(), Refused> {
+pub fn ready(r: &Record, dist: &[i32], marks: Option<&[u8]>, status: &[u8]) -> Result<(), Refused> {
     if let Some(number) = unfit(r, dist, marks, status) {
         return Err(number);
     }

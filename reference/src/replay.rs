@@ -3,6 +3,7 @@
 use crate::coarse::{CoarseBegun, Lent};
 use crate::file::Layer;
 use crate::grid::{Record, Refused, Sides};
+use crate::judge::Judged;
 use crate::local::Local;
 use crate::machine::{Carving, Opening, Points};
 use crate::words::{Mistake, Words};
@@ -18,6 +19,7 @@ pub struct Calls {
     pub take: fn(&mut Record, &[i32], &[u8], &mut [u8], u64) -> Result<Local, Refused>,
     pub open: fn(&mut Record, &[i32], &[u8], &mut [u8]) -> Result<Opening, Refused>,
     pub finish: fn(&mut Record, &mut [i32], &[u8]) -> Result<(), Refused>,
+    pub judge: fn(&Record, &[i32], &mut [u8], &[u8]) -> Result<Judged, Refused>,
     pub crossing: fn(&Record, &[i32], &[u8], u64, u64) -> Result<Option<[f64; 3]>, Refused>,
     pub points: fn(&Record, &[i32], &[u8], u64, &mut [f64]) -> Result<Points, Refused>,
     pub local_test: fn(&[bool; 27]) -> Local,
@@ -287,6 +289,8 @@ impl Replay {
                 (calls.crossing)(r, dist, status, index, axis.into())
                     .map(|point| point.map_or("none".to_string(), |p| format!("point {}", bits(p))))
             }
+            "judge" => (calls.judge)(r, dist, status, &words.bytes()?)
+                .map(|Judged { removals, openings, euler }| format!("removals {removals} openings {openings} euler {euler}")),
             "local" => {
                 let bits = words.bits()?;
                 let t = (calls.local_test)(&std::array::from_fn(|p| bits >> p & 1 == 1));

@@ -236,6 +236,42 @@ mod tests {
         }
     }
 
+    /// 32 and 37 may go; 31 is inside, and 34 stands apart once it is kept.
+    #[test]
+    fn an_answer_for_another_list_is_told() {
+        let (one, both) = ("565220000000", "565220000000565225000000");
+        let all = [
+            (one.to_string(), "33", "judge refused: 33, after a pending voxel went"),
+            (format!("{one}{one}"), "32", "judge refused: 32, gone by the list alone"),
+            (format!("{both}56521F000000"), "32", "judge refused: 32, inside alone"),
+            (format!("{both}564F22000000564F22000000"), "32", "judge refused: 32, gone by the list alone"),
+            ("564F22000000".to_string(), "32", "judge refused: 32, an opening while another passes alone"),
+            (format!("{both}565222000000"), "32", "judge refused: 32, not passed alone"),
+            (format!("{one}{one}5650"), "32", "judge: 32 before a later record's removal 21"),
+            (format!("{one}{one}565020000000"), "32", "judge: 32 before a later record's removal 22"),
+            (format!("{one}565048000000"), "22", "judge: removal 22 before removal 5"),
+            (format!("{one}565248000000"), "5", "judge: removal 5 before 33"),
+            (format!("{both}56522200"), "21", "judge refused: removal 21, 4 bytes alone"),
+        ];
+        let mut state = Replay::new(REFERENCE);
+        for line in ["sides 6 4 3", "T 1", "values fill 6", "values set 31 -6", "values set 38 -6", "begin", "status set 34 1"] {
+            state.line(line).expect("a line of the language");
+        }
+        for (list, number, met) in all {
+            let entries = |answer: &str| Before::of(&state, &format!("judge {list}")).entries(answer);
+            assert!(entries(&format!("judge refused {number}")).is_ok_and(|all| all.contains(&met.to_string())), "{met}");
+            for other in ["21", "22", "5", "32", "33", "8"].into_iter().filter(|&other| other != number) {
+                assert!(entries(&format!("judge refused {other}")).is_err(), "{met}: {other}");
+            }
+            assert!(entries("judge ok removals 1 openings 0 euler 1").is_err(), "{met}");
+        }
+        let entries = |answer: &str| Before::of(&state, &format!("judge {both}564F22000000")).entries(answer);
+        assert!(entries("judge ok removals 3 openings 1 euler 0").is_ok_and(|all| all.contains(&"judge: an opening of k 0".to_string())));
+        for other in ["removals 2 openings 1 euler 0", "removals 3 openings 0 euler 0", "removals 3 openings 1 euler 1"] {
+            assert!(entries(&format!("judge ok {other}")).is_err(), "{other}");
+        }
+    }
+
     /// 22 is of mark 3 at begin and free in the carve, which passes it by; other buffers make it another record.
     #[test]
     fn a_mark_of_3_that_changed_since_begin_is_told() {

@@ -7,8 +7,8 @@ use reference::replay::Replay;
 use std::collections::BTreeMap;
 
 /// The calls that can be refused.
-const CALLS: [&str; 12] =
-    ["begin", "begincoarse", "carve", "take", "open", "finish", "crossing", "points", "readlayer", "read", "program", "write"];
+const CALLS: [&str; 13] =
+    ["begin", "begincoarse", "carve", "take", "open", "finish", "judge", "crossing", "points", "readlayer", "read", "program", "write"];
 
 /// Pairs of faults that no input has together, and why.
 const IMPOSSIBLE: &[(&str, Check, Check, &str)] = &[
@@ -19,6 +19,9 @@ const IMPOSSIBLE: &[(&str, Check, Check, &str)] = &[
     ("take", "5", "12", "there is no such voxel"),
     ("take", "5", "30", "there is no such voxel"),
     ("take", "10", "11", "a voxel that is negative and gone is unfit"),
+    ("judge", "removal 21", "removal 5", "a record that is cut off has no index"),
+    ("judge", "removal 21", "32", "a record that is cut off has no index"),
+    ("judge", "removal 5", "32", "there is no such voxel"),
     ("read", "header 21", "21", "a file shorter than its header has no records"),
     ("read", "header 21", "22", "a file shorter than its header has no records"),
     ("read", "header 21", "23", "a file shorter than its header has no records"),
@@ -55,8 +58,8 @@ const IMPOSSIBLE: &[(&str, Check, Check, &str)] = &[
     ("program", "3", "4", "a negative border voxel is a negative voxel"),
 ];
 
-/// The checks of a layer record and of a patch record. One that is too short is the last of a file, so it is no earlier one's fault.
-const RECORDS: [&[Check]; 2] = [&["21", "22", "23", "24", "27", "28"], &PATCH];
+/// The checks of a layer record, of a patch record and of a removal record. One that is too short is the last, so it is no earlier one's fault.
+const RECORDS: [&[Check]; 3] = [&["21", "22", "23", "24", "27", "28"], &PATCH, &["removal 21", "removal 22", "removal 5", "32"]];
 
 const SIDES: &[&str] = &["a under 3", "a over 64", "b under 3", "b over 64", "c under 3", "c over 64"];
 const FILE_SIDES: &[&str] = &[
@@ -104,6 +107,18 @@ const COARSE: &[&str] =
 
 const MARKS: &[&str] = &["a mark of 4", "a mark of 5 to 127", "a mark of 128 to 254", "a mark of 255"];
 
+/// What a removal breaks.
+const BROKEN: &[&str] = &[
+    "gone before",
+    "gone by the list",
+    "inside",
+    "not passed",
+    "an opening that passes",
+    "an opening while another passes",
+    "an opening without a face neighbour gone",
+    "more openings than T",
+];
+
 /// Each number's clauses, for those that have more than one: a call must be refused for each of them alone.
 fn causes(call: &str, check: Check) -> &'static [&'static str] {
     match (call, check) {
@@ -132,14 +147,16 @@ fn causes(call: &str, check: Check) -> &'static [&'static str] {
         (_, "3") => BORDER,
         (_, "4") => &["none below 0", "missing ones alone"],
         ("points", "5") => &["one over", "far over"],
-        ("read" | "program", "5") => &["index n", "index over n", "index over n, its low two bytes under n"],
+        (_, "32") => BROKEN,
+        (_, "removal 21") => &["1 byte", "2 bytes", "3 bytes", "4 bytes", "5 bytes"],
+        ("read" | "program", "5") | ("judge", "removal 5") => &["index n", "index over n", "index over n, its low two bytes under n"],
         (_, "6") => &["axis over 2", "beyond along x", "beyond along y", "beyond along z"],
         (_, "7") => UNFIT,
         ("readlayer", "21") => {
             &["start past the end", "start at the end", "cut off", "cut off, wide", "cut off, wide with the bytes of a narrow one"]
         }
         (_, "21") => &["nothing left", "cut off", "cut off, wide", "cut off, wide with the bytes of a narrow one"],
-        (_, "22" | "header 22" | "patch 22") => MARK,
+        (_, "22" | "header 22" | "patch 22" | "removal 22") => MARK,
         (_, "patch 21") => &["1 byte", "2 bytes", "3 bytes", "4 bytes", "5 bytes", "6 bytes", "7 bytes"],
         (_, "23") => Z,
         (_, "24") => &["the record before has it", "an earlier record has it"],
@@ -793,6 +810,55 @@ const ALSO: &[(&str, usize)] = &[
     ("carve: after a coarse start, with other marks", 20),
     ("take: after a coarse start, with other marks", 10),
     ("open: after a coarse start, with other marks", 10),
+    // lists of removals
+    ("judge: an empty list", 10),
+    ("judge: an empty list, something pending", 3),
+    ("judge: ordinary removals alone", 30),
+    ("judge: an opening", 30),
+    ("judge: two openings or more", 20),
+    ("judge: as many openings as T", 10),
+    ("judge: an opening first", 10),
+    ("judge: a removal after an opening", 10),
+    ("judge: an opening of k 0", 3),
+    ("judge: an opening of k 2 or more", 5),
+    ("judge: an opening of m 2 or more", 20),
+    ("judge: another order than that of distances", 30),
+    ("judge: an opening that is not the farthest", 10),
+    ("judge: a pending voxel", 30),
+    ("judge: a voxel that is not pending", 30),
+    ("judge: a voxel of distance 0", 3),
+    ("judge: a pinned voxel", 10),
+    ("judge: a pinned voxel opened", 3),
+    ("judge: something pending at the end", 10),
+    ("judge: the record has openings", 10),
+    ("judge: the record's openings are T, and the list has some", 5),
+    ("judge: the record has removals", 10),
+    ("judge: the record has examinations", 10),
+    ("judge: the record has another Euler number", 10),
+    ("judge: the record has another Euler number, and the list has openings", 5),
+    ("judge: marks of another length", 3),
+    ("judge: a mark over 3", 3),
+    ("judge: after a coarse start", 10),
+    ("judge: T of 0", 10),
+    ("judge on 64 64 64", 1),
+    ("judge on three different sides", 20),
+    ("judge refused: 8, finished 2", 1),
+    ("judge refused: removal 21, after good records", 10),
+    ("judge refused: removal 22, after good records", 10),
+    ("judge refused: removal 5, after good records", 10),
+    ("judge refused: removal 21, after a pending voxel went", 5),
+    ("judge refused: removal 22, after a pending voxel went", 5),
+    ("judge refused: removal 5, after a pending voxel went", 5),
+    ("judge refused: 32, the first record", 30),
+    ("judge refused: 32, after good records", 30),
+    ("judge refused: 32, the last record", 30),
+    ("judge refused: 32, after a pending voxel went", 20),
+    ("judge refused: 32, more records than voxels", 1),
+    ("judge refused: 33, an empty list", 10),
+    ("judge refused: 33, after an opening", 10),
+    ("judge refused: 33, after a pending voxel went", 10),
+    ("judge refused: 33, nothing pending", 10),
+    ("judge refused: 33, nothing but pinned voxels passes", 3),
     // the local test
     ("local", 2400),
     ("local: bits from 27 on", 1),
@@ -838,6 +904,8 @@ pub struct Before {
     faults: Option<Vec<Fault>>,
     /// The face that it must answer, where that is found out.
     face: Option<usize>,
+    /// The whole answer of a list that is judged and keeps the rules.
+    judged: Option<String>,
     seen: Vec<String>,
 }
 
@@ -846,7 +914,7 @@ impl Before {
         let words: Vec<&str> = command.split_ascii_whitespace().collect();
         let call = words.first().unwrap_or(&"").to_string();
         let faults = faults(state, command);
-        let (mut seen, mut face) = (Vec::new(), None);
+        let (mut seen, mut face, mut judged) = (Vec::new(), None, None);
         if order(&call).is_some() || call == "local" {
             seen.extend(sights::of(state, &call, &words));
             seen.extend(extremes::of(state, &call, &words));
@@ -855,8 +923,9 @@ impl Before {
             let faced = faced::of(state, &call, &words);
             face = faced.as_ref().map(|faced| faced.face);
             seen.extend(faced.into_iter().flat_map(|faced| faced.seen));
+            judged = judged::line(state, &words);
         }
-        Before { call, words: words.iter().map(|word| word.to_string()).collect(), faults, face, seen }
+        Before { call, words: words.iter().map(|word| word.to_string()).collect(), faults, face, judged, seen }
     }
 
     /// The entries that the call meets by its answer; an error where the answer is not that of the first fault, or has another face.
@@ -880,6 +949,9 @@ impl Before {
         let Some(first) = faults.first() else {
             if let Some(face) = self.face.filter(other_face) {
                 return Err(format!("the answer {said:?} has not the face of the last removal, {face}"));
+            }
+            if let Some(judged) = self.judged.filter(|judged| judged != said) {
+                return Err(format!("the answer {said:?} is not what the list comes to: {judged}"));
             }
             let seen = self.seen.into_iter().chain(sights::answered(&self.call, said)).chain(answered);
             return Ok(seen.chain([format!("{} done", self.call)]).collect());
@@ -916,6 +988,7 @@ mod coarse;
 pub mod extremes;
 mod faced;
 mod gaps;
+mod judged;
 pub mod marked;
 mod ordered;
 mod patched;

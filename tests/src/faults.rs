@@ -1,18 +1,18 @@
 //! Every fault that a call has, each by itself and whether or not another one is answered first. From document 01's numbers, document 02's for
-//! `write`, for patch records, for the order of layers, for values of 32 bits, for marks and for coarse starts, and docs/RULES.md for `points`, which
-//! is ours, with the order of checks beside them, and not from the reference's code: so the kit can be asked for every pair of faults, and the
-//! reference is held to the order.
+//! `write`, for patch records, for the order of layers, for values of 32 bits, for marks, for coarse starts and for lists of removals, and docs/RULES.md
+//! for `points`, which is ours, with the order of checks beside them, and not from the reference's code: so the kit can be asked for every
+//! pair of faults, and the reference is held to the order.
 
 use crate::faces::ACROSS;
 use crate::marks::{pinned, wrong_mark};
 use crate::records::{contents, is_measured, negative, parts, patch_index, second_byte, written_length, written_width, LayerRecord};
-use crate::records::{GREATEST, LEAST, LONGEST_INPUT, MISSING, NARROW, PATCH_LENGTH, WIDE};
+use crate::records::{GREATEST, LEAST, LONGEST_INPUT, MISSING, NARROW, OPENING, ORDINARY, PATCH_LENGTH, REMOVAL_LENGTH, WIDE};
 use reference::grid::Sides;
 use reference::local::local_test;
 use reference::replay::Replay;
 
 /// A check of a call in its place of the order: a number, or `header N` for a file's header and `patch N` for its patch records where a layer record
-/// has that number too.
+/// has that number too; and `removal N` for the records of a list.
 pub type Check = &'static str;
 
 pub struct Fault {
@@ -21,13 +21,13 @@ pub struct Fault {
     pub check: Check,
     /// Which clause of the number it is.
     pub cause: &'static str,
-    /// The record of a file, patches counted on from the layers.
+    /// The record of a file, patches counted on from the layers, or of a list.
     pub record: Option<usize>,
 }
 
 impl Fault {
     pub fn number(&self) -> &'static str {
-        self.check.trim_start_matches("header ").trim_start_matches("patch ")
+        self.check.trim_start_matches("header ").trim_start_matches("patch ").trim_start_matches("removal ")
     }
 
     /// Whether it is a fault of a patch record.
@@ -40,7 +40,8 @@ impl Fault {
 pub const PATCH: [Check; 3] = ["patch 21", "patch 22", "5"];
 
 /// A call's checks in their order (document 01, the last two sentences of "Numbers that come from the state"; document 02, CR 1 for `write`, CR 2
-/// for what follows the layers of a file and for the program's 25, CR 4 for 27, CR 5 for 28, CR 7 for 29 and 30 and CR 10 for 31).
+/// for what follows the layers of a file and for the program's 25, CR 4 for 27, CR 5 for 28, CR 7 for 29 and 30, CR 10 for 31 and CR 11 for
+/// `judge`).
 pub fn order(call: &str) -> Option<&'static [Check]> {
     Some(match call {
         "begin" => &["1", "2", "28", "29", "3", "4"],
@@ -49,6 +50,7 @@ pub fn order(call: &str) -> Option<&'static [Check]> {
         "take" => &["1", "2", "7", "29", "8", "5", "10", "11", "30", "12"],
         "open" => &["1", "2", "7", "29", "8", "13", "14", "15"],
         "finish" => &["1", "2", "7", "8", "13"],
+        "judge" => &["1", "2", "7", "8", "removal 21", "removal 22", "removal 5", "32", "33"],
         "crossing" => &["1", "2", "7", "9", "5", "6"],
         "points" => &["1", "2", "7", "9", "5"],
         "readlayer" => &["1", "21", "22", "23"],
@@ -97,6 +99,10 @@ pub fn faults(state: &Replay, command: &str) -> Option<Vec<Fault>> {
             found.range(&state.values);
             found.room(&state.sides, written_width(&state.values), argument(1));
         }
+        "judge" => {
+            found.record(state);
+            found.removals(state, &words.get(1).map_or(Vec::new(), |list| bytes_of(list)));
+        }
         "points" => {
             found.record(state);
             found.position(&state.record.sides, argument(1));
@@ -112,6 +118,12 @@ pub fn faults(state: &Replay, command: &str) -> Option<Vec<Fault>> {
     }
     found.list.sort_by_key(|fault| fault.rank);
     Some(found.list)
+}
+
+/// The bytes that hexadecimal digits stand for.
+pub fn bytes_of(digits: &str) -> Vec<u8> {
+    let digit = |byte: u8| char::from(byte).to_digit(16).unwrap_or(0) as u8;
+    digits.as_bytes().chunks_exact(2).map(|pair| 16 * digit(pair[0]) + digit(pair[1])).collect()
 }
 
 /// n, whatever the sides are.
@@ -442,11 +454,41 @@ impl Found {
             self.add_record(number, "patch 21", left);
         }
         self.mark(record, &[0x50], |found, cause| found.add_record(number, "patch 22", cause));
-        let Some(index) = patch_index(record).map(u128::from).filter(|&index| index >= n) else { return };
-        let within = index % (1 << 16) < n;
-        let over = if within { "index over n, its low two bytes under n" } else { "index over n" };
-        self.add_record(number, "5", if index == n { "index n" } else { over });
+        if let Some(cause) = patch_index(record).and_then(|index| over(index, n)) {
+            self.add_record(number, "5", cause);
+        }
     }
+
+    // ---- lists of removals
+
+    /// 21, 22, 5, 32 and 33. A record that is at fault removes nothing, so that those behind it have faults of their own.
+    fn removals(&mut self, state: &Replay, list: &[u8]) {
+        const LEFT: [&str; 6] = ["", "1 byte", "2 bytes", "3 bytes", "4 bytes", "5 bytes"];
+        let n = size(&state.record.sides);
+        let mut judged = Removals { state, status: state.status.clone(), openings: 0 };
+        for (number, record) in list.chunks(REMOVAL_LENGTH).enumerate() {
+            let before = self.list.len();
+            if let Some(left) = LEFT.get(record.len()) {
+                self.add_record(number, "removal 21", left);
+            }
+            self.mark(record, &[ORDINARY, OPENING], |found, cause| found.add_record(number, "removal 22", cause));
+            let Some(index) = patch_index(record) else { continue };
+            if let Some(cause) = over(index, n) {
+                self.add_record(number, "removal 5", cause);
+            } else {
+                let kind = (self.list.len() == before).then_some(record[1]);
+                judged.broken(index as usize, kind).into_iter().for_each(|cause| self.add_record(number, "32", cause));
+            }
+            if self.list.len() == before {
+                judged.remove(index as usize, record[1]);
+            }
+        }
+        if !judged.passing().is_empty() {
+            self.add_last("33", "");
+        }
+    }
+
+    // ---- records of either
 
     fn mark(&mut self, left: &[u8], second: &[u8], mut add: impl FnMut(&mut Self, &'static str)) {
         if left.first().is_some_and(|&b| b != 0x56) {
@@ -472,6 +514,75 @@ impl Found {
         self.if_so(begins == len, "21", "start at the end");
         self.if_so(begins < len && !record.is_whole(), "21", cut_off(&record));
         self.mark_and_z(record.left, sides.c, |found, check, cause| found.add(check, cause));
+    }
+}
+
+/// Which clause of 5 an index of four bytes fails, if any.
+fn over(index: u32, n: u128) -> Option<&'static str> {
+    let index = u128::from(index);
+    let within = index % (1 << 16) < n;
+    Some(match index {
+        _ if index < n => return None,
+        _ if index == n => "index n",
+        _ if within => "index over n, its low two bytes under n",
+        _ => "index over n",
+    })
+}
+
+/// What a list has removed so far.
+struct Removals<'a> {
+    state: &'a Replay,
+    status: Vec<u8>,
+    openings: u64,
+}
+
+impl Removals<'_> {
+    fn outside(&self, i: usize) -> bool {
+        self.state.dist.get(i).is_some_and(|&d| d >= 0)
+    }
+
+    fn passes(&self, i: usize) -> bool {
+        passes(&self.state.record.sides, &self.status, i)
+    }
+
+    /// The kept voxels outside S that pass.
+    fn passing(&self) -> Vec<usize> {
+        let voxels = size(&self.state.record.sides).min(self.status.len() as u128) as usize;
+        (0..voxels).filter(|&i| self.status[i] != 0 && self.outside(i) && self.passes(i)).collect()
+    }
+
+    /// The clauses of 32 that a removal breaks. Of one without a mark it is not known which of the other clauses are for it.
+    fn broken(&self, i: usize, kind: Option<u8>) -> Vec<&'static str> {
+        let Some(&status) = self.status.get(i) else { return Vec::new() };
+        let (sides, t) = (&self.state.record.sides, u64::from(self.state.record.t));
+        if status == 0 {
+            return vec![if self.state.status[i] == 0 { "gone before" } else { "gone by the list" }];
+        }
+        if !self.outside(i) {
+            return vec!["inside"];
+        }
+        let mut causes = Vec::new();
+        if kind == Some(ORDINARY) && !self.passes(i) {
+            causes.push("not passed");
+        }
+        if kind == Some(OPENING) {
+            let passing = self.passing();
+            let all = [
+                (passing.contains(&i), "an opening that passes"),
+                (passing.iter().any(|&j| j != i), "an opening while another passes"),
+                (!bare(sides, &self.status, i), "an opening without a face neighbour gone"),
+                (self.openings >= t, "more openings than T"),
+            ];
+            causes.extend(all.iter().filter(|(is, _)| *is).map(|(_, cause)| *cause));
+        }
+        causes
+    }
+
+    fn remove(&mut self, i: usize, kind: u8) {
+        if let Some(status) = self.status.get_mut(i) {
+            *status = 0;
+        }
+        self.openings += u64::from(kind == OPENING);
     }
 }
 

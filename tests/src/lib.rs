@@ -9,6 +9,7 @@ pub mod faults;
 pub mod files;
 pub mod gaps;
 pub mod grids;
+pub mod judged;
 pub mod marks;
 pub mod mutants;
 pub mod processor;

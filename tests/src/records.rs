@@ -1,4 +1,5 @@
-//! A grid file taken apart into its records, whatever is wrong with it, and what its values are. Written from the papers, not from the reference.
+//! A grid file taken apart into its records, whatever is wrong with it, and what its values are; and removal records. Written from the papers, not from
+//! the reference.
 
 use reference::grid::Sides;
 
@@ -140,7 +141,7 @@ pub fn parts<'a>(file: &'a [u8], sides: &Sides) -> (Vec<LayerRecord<'a>>, &'a [u
     (records, file.get(start..).unwrap_or(&[]))
 }
 
-/// The index of a patch record, as far as it has one.
+/// The index of a patch record, or of a removal record, as far as it has one: four bytes behind the mark.
 pub fn patch_index(record: &[u8]) -> Option<u32> {
     record.get(2..6).map(|bytes| bytes.iter().rev().fold(0, |index, &byte| index << 8 | u32::from(byte)))
 }
@@ -169,4 +170,16 @@ pub fn contents(file: &[u8], sides: &Sides) -> Vec<i32> {
         }
     }
     values
+}
+
+// ---- lists of removals
+
+/// The length of a removal record, and the second byte of its mark.
+pub const REMOVAL_LENGTH: usize = 6;
+pub const ORDINARY: u8 = 0x52;
+pub const OPENING: u8 = 0x4F;
+
+/// A removal record.
+pub fn removal(second: u8, index: u32) -> Vec<u8> {
+    [&[0x56, second][..], &index.to_le_bytes()].concat()
 }

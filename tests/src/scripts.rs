@@ -1,6 +1,6 @@
 //! Call scripts (docs/CALL-SCRIPTS.md). Those from seeds: lists of calls from begin, crafted records, unfit ones, finished grids, files read, patched,
-//! written, out of order and of both widths, walls with gaps, marks that change, coarse starts, blocks; each is made along with a run of the
-//! reference, so that it can choose voxels by what they are at that moment. And those written out, in the modules below: every fault, every worked
+//! written, out of order and of both widths, walls with gaps, marks that change, coarse starts, lists of removals, blocks; each is made along with a
+//! run of the reference, so that it can choose voxels by what they are at that moment. And those written out, in the modules below: every fault, every worked
 //! case, and what chance leaves out.
 
 mod both;
@@ -12,6 +12,7 @@ mod extremes;
 mod faces;
 mod filling;
 mod greatest;
+mod judging;
 pub mod language;
 mod long;
 mod marking;
@@ -32,7 +33,7 @@ use reference::machine::{carve, finish, open, take};
 use std::fmt::{Display, Write};
 
 /// The kinds of scripts from seeds.
-pub const SEEDED: [&str; 15] = [
+pub const SEEDED: [&str; 16] = [
     "lists",
     "takes",
     "openings",
@@ -47,13 +48,14 @@ pub const SEEDED: [&str; 15] = [
     "gaps",
     "marks",
     "starts",
+    "removals",
     "blocks",
 ];
 
 /// The kinds of scripts that are written out. What takes longest stands last.
-pub const WRITTEN: [&str; 17] = [
+pub const WRITTEN: [&str; 18] = [
     "cases", "language", "refusals", "damage", "ordering", "patching", "writing", "widening", "filling", "marking", "faces", "coarse",
-    "extremes", "long", "points", "shapes", "greatest",
+    "judging", "extremes", "long", "points", "shapes", "greatest",
 ];
 
 /// How many scripts of each seeded kind a second supplier is given.
@@ -63,7 +65,7 @@ const GIVEN: u64 = 40;
 pub fn conformance(kind: &str) -> Vec<String> {
     if SEEDED.contains(&kind) {
         // What carves needs room for ties and tunnels; the rest stays small.
-        let greatest = if ["lists", "takes", "openings", "crafted", "gaps", "marks", "starts"].contains(&kind) { 9 } else { 5 };
+        let greatest = if ["lists", "takes", "openings", "crafted", "gaps", "marks", "starts", "removals"].contains(&kind) { 9 } else { 5 };
         return (1..=GIVEN).map(|seed| script(kind, seed, greatest)).collect();
     }
     let written = match kind {
@@ -78,6 +80,7 @@ pub fn conformance(kind: &str) -> Vec<String> {
         "marking" => marking::scripts(),
         "faces" => faces::scripts(),
         "coarse" => coarse::scripts(),
+        "judging" => judging::scripts(),
         "patching" => patching::scripts(),
         "long" => long::scripts(),
         "points" => points::scripts(),
@@ -109,6 +112,7 @@ pub fn script(kind: &str, seed: u64, greatest: i64) -> String {
         "gaps" => m.gaps(greatest),
         "marks" => m.marked(greatest),
         "starts" => m.starts(greatest),
+        "removals" => m.removals(greatest),
         "large" => m.large(),
         _ => m.blocks(),
     }

@@ -3,13 +3,13 @@
 //! that brings a number adds it here. Left out is what no input reaches, or none quickly (tests/mutants/README.md).
 
 use super::sights::chosen;
-use crate::faults::order;
-use crate::records::{parts, patch_index, PATCH_LENGTH};
+use crate::faults::{bytes_of, order};
+use crate::records::{parts, patch_index, PATCH_LENGTH, REMOVAL_LENGTH};
 use reference::grid::{Record, Sides};
 use reference::replay::Replay;
 
 /// The calls on a record.
-const ON_RECORDS: [&str; 6] = ["carve", "take", "open", "finish", "crossing", "points"];
+const ON_RECORDS: [&str; 7] = ["carve", "take", "open", "finish", "judge", "crossing", "points"];
 
 /// The buffers that a call is lent, each of n but for the two further ones of a coarse start.
 pub fn buffers(call: &str) -> &'static [&'static str] {
@@ -17,7 +17,7 @@ pub fn buffers(call: &str) -> &'static [&'static str] {
         "begincoarse" => &["values", "marks", "dist", "status", "cdist", "cstatus"],
         "begin" => &["values", "marks", "dist", "status"],
         "carve" | "take" | "open" => &["marks", "dist", "status"],
-        "finish" | "crossing" | "points" => &["dist", "status"],
+        "finish" | "judge" | "crossing" | "points" => &["dist", "status"],
         "read" | "write" => &["values"],
         _ => &[],
     }
@@ -53,6 +53,9 @@ const OUT: &[(&str, &str, &[i64])] = &[
     ("open", "k", &[7]),
     ("open", "m", &[5]),
     ("open", "face", &[4]),
+    ("judge", "removals", &[255]),
+    ("judge", "openings", &[255]),
+    ("judge", "euler", &[127, -128]),
     ("points", "count", &[255, 65_535]),
     ("points", "next", &[255, 65_535, 524_287]),
     ("readlayer", "z", &[62]),
@@ -146,6 +149,8 @@ fn arguments() -> Vec<String> {
     for (call, nothing) in [("carve", "limit 0"), ("points", "capacity 0"), ("points", "capacity 1 or 2")] {
         all.extend(order(call).unwrap_or(&[]).iter().map(|number| format!("{call} refused: {number}, {nothing}")));
     }
+    all.extend(["1", "2", "7", "8"].map(|number| format!("judge refused: {number}, an empty list")));
+    all.extend([255, 65_535, 131_071].map(|bound| format!("judge: an index over {bound}")));
     let checks = order("write").unwrap_or(&[]).iter();
     all.extend(checks.flat_map(|number| ["lent 0", "lent 1 to 6"].map(|lent| format!("write refused: {number}, {lent}"))));
     all.extend(["take", "crossing"].into_iter().flat_map(|call| [255, 65_535, 131_071].map(|i| format!("{call}: an index over {i}"))));
@@ -172,6 +177,7 @@ const ARGUMENTS: &[(&str, &str, &str, &[u32])] = &[
     ("take", "an index", "5", &OF_64),
     ("crossing", "an index", "5", &OF_64),
     ("crossing", "an axis", "6", &OF_32),
+    ("judge", "a removal's index", "removal 5", &OF_INDICES),
     ("points", "a position", "5", &OF_64),
     ("readlayer", "a start", "21", &OF_64),
     ("read", "a side", "1", &[7]),
@@ -230,6 +236,7 @@ pub fn of(state: &Replay, call: &str, words: &[&str]) -> Vec<String> {
         "carve" => carve(state, number(1)),
         "open" => open(state),
         "take" => within(call, "an index", number(1), state.record.sides),
+        "judge" => judge(&bytes_of(words.get(1).unwrap_or(&"")), sides),
         "crossing" => crossing(state, number(1), number(2)),
         "points" => points(state, number(1), number(2)),
         "write" => write(number(1)),
@@ -390,6 +397,19 @@ fn within(call: &str, what: &str, index: u64, sides: Sides) -> Vec<String> {
     let cut = OF_64.into_iter().filter(|&bits| index >= n && low(index, bits) < n);
     let mut seen: Vec<String> = cut.map(|bits| format!("if refused 5: {call} refused: 5, {what} fit in its low {bits} bits")).collect();
     seen.extend([255, 65_535, 131_071].iter().filter(|&&bound| index > bound).map(|bound| format!("{call}: {what} over {bound}")));
+    seen
+}
+
+fn judge(list: &[u8], sides: Sides) -> Vec<String> {
+    let numbers = ["1", "2", "7", "8"].into_iter().filter(|_| list.is_empty());
+    let mut seen: Vec<String> = numbers.map(|number| format!("if refused {number}: judge refused: {number}, an empty list")).collect();
+    let n = if sides.fit() { sides.n() as u64 } else { return seen };
+    let indices: Vec<u64> = list.chunks(REMOVAL_LENGTH).filter_map(patch_index).map(u64::from).collect();
+    let index = indices.iter().copied().find(|&index| index >= n).unwrap_or(0);
+    let cut = OF_INDICES.into_iter().filter(|&bits| index >= n && low(index, bits) < n);
+    seen.extend(cut.map(|bits| format!("if refused removal 5: judge refused: removal 5, a removal's index fit in its low {bits} bits")));
+    let over = |bound: &u64| indices.iter().any(|index| index > bound);
+    seen.extend([255, 65_535, 131_071].into_iter().filter(over).map(|bound| format!("judge: an index over {bound}")));
     seen
 }
 

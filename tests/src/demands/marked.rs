@@ -17,7 +17,7 @@ pub fn of(state: &Replay, call: &str, index: u64) -> Vec<String> {
     }
     let seen = match call {
         "begin" | "begincoarse" | "carve" | "take" | "open" => lent(state, sides, call, index),
-        "finish" | "crossing" | "points" => chosen(&[
+        "finish" | "judge" | "crossing" | "points" => chosen(&[
             (state.marks.len() != sides.n(), "marks of another length"),
             (state.marks.iter().any(|&mark| wrong_mark(mark).is_some()), "a mark over 3"),
             (untouched(state) && held_by_both(state), "both, and nothing examined yet"),
@@ -241,7 +241,7 @@ impl Begun {
     pub fn seen(&self, state: &Replay, command: &str) -> Vec<String> {
         let call = command.split_ascii_whitespace().next().unwrap_or("");
         let Some((start, marks)) = &self.0 else { return Vec::new() };
-        let later = ["carve", "take", "open", "finish"].contains(&call);
+        let later = ["carve", "take", "open", "finish", "judge"].contains(&call);
         let mut seen = chosen(&[
             (later && start == "begincoarse", format!("{call}: after a coarse start")),
             (STARTS.contains(&call), format!("{call}: over what {start} left")),

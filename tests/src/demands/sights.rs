@@ -1,6 +1,6 @@
 //! What a call is about, besides its faults: the entries of `ALSO` that it meets if it is done.
 
-use super::{coarse, gaps, marked, ordered, patched, wide};
+use super::{coarse, gaps, judged, marked, ordered, patched, wide};
 use crate::gaps::filled;
 use crate::records::{negative, written_length, written_width, GREATEST, LONGEST_INPUT, MISSING};
 use reference::file::read;
@@ -16,6 +16,7 @@ pub fn of(state: &Replay, call: &str, words: &[&str]) -> Vec<String> {
         "carve" => carve(state, number(1)),
         "take" => take(state, number(1)),
         "finish" => finish(state),
+        "judge" => judged::of(state, words),
         "crossing" => crossing(state, number(1), number(2)),
         "points" => points(state, number(1), number(2)),
         "read" | "program" => file(call, &state.file),
@@ -27,12 +28,12 @@ pub fn of(state: &Replay, call: &str, words: &[&str]) -> Vec<String> {
     let byte = state.record.finished;
     match call {
         // the entries of calls that are refused for it
-        "carve" | "take" | "open" | "finish" => seen.push(format!("if refused 8: {call} refused: 8, finished {byte}")),
+        "carve" | "take" | "open" | "finish" | "judge" => seen.push(format!("if refused 8: {call} refused: 8, finished {byte}")),
         "crossing" | "points" => seen.push(format!("{call}: finished {byte}")),
         _ => {}
     }
     seen.extend(marked::of(state, call, number(1)));
-    if ["begin", "begincoarse", "carve", "take", "open", "finish", "crossing", "points", "write"].contains(&call) {
+    if !["read", "program", "readlayer", "local"].contains(&call) {
         let sides = if ["begin", "begincoarse", "write"].contains(&call) { state.sides } else { state.record.sides };
         seen.extend(chosen(&[
             (sides == Sides { a: 64, b: 64, c: 64 }, format!("{call} on 64 64 64")),

@@ -666,7 +666,7 @@ pub(super) fn greatest() -> String {
 // ---- from seeds
 
 impl Maker {
-    fn begin_coarse(&mut self, values: &[i32]) -> bool {
+    pub(super) fn begin_coarse(&mut self, values: &[i32]) -> bool {
         self.say("begincoarse");
         let (sides, n) = (self.record.sides, self.record.sides.n());
         let (mut dist, mut status) = (vec![0; n / 8], vec![0; n / 8]);

@@ -152,7 +152,7 @@ impl Maker {
     fn each_call(&mut self) {
         let (limit, index) = (self.limit(), self.any_voxel());
         let axis = self.r.below(4);
-        self.say(format!("carve {limit}\ntake {index}\nopen\nfinish\ncrossing {index} {axis}"));
+        self.say(format!("carve {limit}\ntake {index}\nopen\nfinish\njudge\ncrossing {index} {axis}"));
         self.points();
     }
 }

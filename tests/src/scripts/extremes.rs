@@ -296,6 +296,23 @@ fn coarse() -> Subject {
     Subject { line: "begincoarse", state: state.to_string(), sides: [6, 6, 6], within: (87, 3) }
 }
 
+/// The pair's two voxels, in the order of distances.
+fn judge() -> Subject {
+    Subject { line: "judge 565220000000565225000000", state: format!("{PAIR}begin\n"), sides: [6, 4, 3], within: (37, 3) }
+}
+
+/// A list of no removals, behind every number of the record.
+fn empty_list() -> String {
+    let unfit = [
+        ("rec a 65", "rec a 5"),
+        ("dist len 74", "dist len 75"),
+        ("rec removals 76", "rec removals 0"),
+        ("rec finished 1", "rec finished 0"),
+    ];
+    let each = unfit.map(|(wrong, right)| format!("{wrong}\njudge\n{right}\n")).concat();
+    format!("# judge: an empty list is refused as any other\n{RING}begin\n{each}judge\n")
+}
+
 /// T is handed on as it is.
 fn coarse_t() -> String {
     let each = [255, 256, 32_767, 32_768, 65_535].map(|t| format!("T {t}\nbegincoarse\n")).concat();
@@ -311,5 +328,7 @@ pub fn scripts() -> Vec<String> {
     scripts.extend([files(), blocks(), greatest_openings(), noise(1, 40), noise(2, 15)]);
     scripts.extend(coarse().scripts());
     scripts.push(coarse_t());
+    scripts.extend(judge().scripts());
+    scripts.push(empty_list());
     scripts
 }

@@ -60,5 +60,5 @@ fn points() -> String {
 }
 
 pub fn scripts() -> Vec<String> {
-    vec![points(), pinned(), records(), peeled(), super::coarse::greatest()]
+    vec![points(), pinned(), records(), peeled(), super::coarse::greatest(), super::judging::greatest()]
 }

@@ -34,6 +34,12 @@ const SCRIPTS: &[&str] = &[
      dump cdist\ndump cstatus\nrawsides 6 6 6\nhash\nsides 4 3 5\ndump cdist\ndump cstatus\nbegincoarse\nsides 6 6 6\nvalues set 86 -5\n\
      begincoarse\ndump cdist\ndump cstatus\nautohash 0\nbegincoarse\nautohash 1\ncdist len 2097152\nhash\nbegincoarse\nbegin\nsides 65 6 6\n\
      dump cdist\nhash\nbegincoarse\nrec show 0\nsides 3 3 3\n",
+    "# judge: no list, any number of bytes, digits of either case, without a hash too; the record stays, and marks, file, sides and T are not looked at\n\
+     sides 6 4 3\nT 0\nvalues fill 6\nvalues set 31 -6\nvalues set 38 -6\nbegin\njudge\njudge 56\njudge 5652200000\n\
+     judge 565220000000565225000000\njudge   565225000000565220000000   \njudge 564f20000000\njudge 564F20000000\njudge 564d\n\
+     judge 56522000000056524a00ffFF\nfile 5648\nmarks len 3\nrawsides 9 9 9\nT 65535\nvalues len 0\ncdist len 1\n\
+     judge 565220000000565225000000\nrec show 0\nautohash 0\njudge 565220000000565225000000\njudge 565220000000\njudge\nautohash 1\n\
+     rec T 65535\nrec openings 65535\njudge\nrec a 18446744073709551615\njudge 00\nrec a 6\nrec euler -2147483648\njudge\nsides 3 3 3\n",
 ];
 
 /// Lines that a tool must refuse, each a script by itself: it prints nothing, and its status is 2.
@@ -85,6 +91,17 @@ pub const MISTAKES: &[&str] = &[
     "write 70 70",
     "write all",
     "write 70.0",
+    "judge 5",
+    "judge 565",
+    "judge 5g",
+    "judge +5",
+    "judge 0x56",
+    "judge 56 52",
+    "judge 565220000000 565225000000",
+    "judge é0",
+    "judge -",
+    "judges",
+    "Judge",
     "showfile 0",
     "showfile 5648",
     "local",

@@ -40,7 +40,7 @@ pub(super) const RING: &str = "sides 5 5 3\nT 1\nvalues fill 4\nvalues set 31 -4
 pub(super) const PAIR: &str = "sides 6 4 3\nT 1\nvalues fill 6\nvalues set 31 -6\nvalues set 38 -6\n";
 
 /// The 26 voxels about 62 are inside, so that 62 is kept and has no face neighbour that is not.
-const SHELL: &str = "sides 5 5 5\nT 1\nvalues fill 4\nvalues set 31 -4\nvalues set 32 -4\nvalues set 33 -4\nvalues set 36 -4\n\
+pub(super) const SHELL: &str = "sides 5 5 5\nT 1\nvalues fill 4\nvalues set 31 -4\nvalues set 32 -4\nvalues set 33 -4\nvalues set 36 -4\n\
                      values set 37 -4\nvalues set 38 -4\nvalues set 41 -4\nvalues set 42 -4\nvalues set 43 -4\nvalues set 56 -4\n\
                      values set 57 -4\nvalues set 58 -4\nvalues set 61 -4\nvalues set 63 -4\nvalues set 66 -4\nvalues set 67 -4\n\
                      values set 68 -4\nvalues set 81 -4\nvalues set 82 -4\nvalues set 83 -4\nvalues set 86 -4\nvalues set 87 -4\n\
