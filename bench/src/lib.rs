@@ -7,6 +7,7 @@ pub mod coarse;
 pub mod contest;
 pub mod file;
 pub mod grids;
+pub mod lists;
 pub mod local;
 pub mod neighbourhood;
 pub mod plain;

@@ -4,6 +4,7 @@
 
 mod files;
 mod gaps;
+mod judging;
 mod locals;
 mod marks;
 mod patches;
@@ -31,8 +32,10 @@ const GRIDS: [Sides; 5] = [
 const LARGEST: Sides = GRIDS[3];
 
 /// The words that choose parts.
-const WORDS: [&str; 14] =
-    ["begin", "gaps", "marks", "coarse", "carve", "turns", "whole", "single", "read", "write", "patches", "crafted", "local", "stack"];
+const WORDS: [&str; 15] = [
+    "begin", "gaps", "marks", "coarse", "carve", "turns", "whole", "judge", "single", "read", "write", "patches", "crafted", "local",
+    "stack",
+];
 
 /// T of every grid, so that a noise grid's turns come to an end.
 const ALLOWED: u16 = 64;
@@ -291,6 +294,9 @@ fn once(word: &str, shape: &str, side: &str, before: bool) {
     if word == "coarse" {
         return starts::once(shape, sides, before);
     }
+    if word == "judge" {
+        return judging::once(shape, sides, before);
+    }
     let calls = &ALL[if before { BEFORE } else { 0 }];
     if let Some(distances) = Distances::ALL.into_iter().find(|d| word == "crafted" && d.name() == shape) {
         let (mut state, mut log) = (crafted(sides, distances), Log::default());
@@ -368,6 +374,9 @@ fn main() {
     }
     if wanted("turns") {
         demands.extend(against_before(&found, &took, "turns", &[Shape::Noise], NOT_SLOWER));
+    }
+    if wanted("judge") {
+        demands.extend(judging::measure());
     }
     if wanted("single") {
         for word in ["check", "open", "finish", "points", "read", "write"] {

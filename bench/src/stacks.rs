@@ -1,5 +1,6 @@
 //! The stack of each of our calls.
 
+use crate::judging::begun as begun_plainly;
 use crate::singles::{archives, Scene};
 use crate::{case, named, GRIDS};
 use bench::archive::now::local_test;
@@ -7,11 +8,25 @@ use bench::archive::read_layer;
 use bench::coarse::{ours as begin_coarse, Blocks};
 use bench::contest::{Case, State};
 use bench::grids::{bordered, Marks, Shape};
+use bench::lists::{ours as judge, own};
 use bench::stack::{used, LEAST};
 use std::hint::black_box;
 
-const CALLS: [&str; 12] =
-    ["begin", "begin coarse", "carve", "take", "open", "finish", "crossing", "points", "read", "read_layer", "write", "local test"];
+const CALLS: [&str; 13] = [
+    "begin",
+    "begin coarse",
+    "carve",
+    "take",
+    "open",
+    "judge",
+    "finish",
+    "crossing",
+    "points",
+    "read",
+    "read_layer",
+    "write",
+    "local test",
+];
 
 /// Prints the table; the answer is the most that any call takes, in bytes.
 pub fn measure() -> f64 {
@@ -20,7 +35,7 @@ pub fn measure() -> f64 {
     for sides in GRIDS {
         // each is the most of the torus with no voxel marked, with every voxel hurried and with some pinned
         let marked = Marks::ALL.map(|marks| on(&Scene::of(Case { marks: marks.of(sides), ..case(sides, Shape::Torus) })));
-        let mut found: [usize; 12] = std::array::from_fn(|call| marked.iter().map(|found| found[call]).max().unwrap_or(0));
+        let mut found: [usize; 13] = std::array::from_fn(|call| marked.iter().map(|found| found[call]).max().unwrap_or(0));
         // begin's is the most of the torus and of what is full of gaps
         found[0] = Shape::GAPS.into_iter().map(|shape| of_begin(&case(sides, shape))).fold(found[0], usize::max);
         let cells = found.map(|bytes| if bytes == LEAST { format!("under {bytes}") } else { bytes.to_string() });
@@ -43,7 +58,7 @@ fn of_begin_coarse(case: &Case) -> usize {
 }
 
 /// In the order of `CALLS`.
-fn on(scene: &Scene) -> [usize; 12] {
+fn on(scene: &Scene) -> [usize; 13] {
     let ours = &archives()[0];
     let (calls, others, case) = (&ours.calls, &ours.others, &scene.case);
     let done = &scene.finished;
@@ -54,12 +69,17 @@ fn on(scene: &Scene) -> [usize; 12] {
     let (index, axis) = (scene.crossing / 3, (scene.crossing % 3) as u32);
     let (points, write) = (others.points.expect("ours has it"), others.write.expect("ours has it"));
     let mut file = scene.file.clone();
+    // the list that carve and open leave with no voxel marked
+    let unmarked = Case::unmarked(case.sides, case.allowed, case.values.clone());
+    let mut to_judge = begun_plainly(&unmarked);
+    let list = own(&unmarked, &to_judge);
     [
         of_begin(case),
         of_begin_coarse(case),
         used(|| _ = (calls.carve)(begun.record, &begun.dist, &case.marks, &mut begun.status, u32::MAX).expect("carve")),
         used(|| _ = (calls.take)(to_take.record, &to_take.dist, &case.marks, &mut to_take.status, pending)),
         used(|| _ = (calls.open)(to_open.record, &to_open.dist, &case.marks, &mut to_open.status).expect("open")),
+        used(|| assert!(judge(to_judge.record, &to_judge.dist, &mut to_judge.status, &list).is_ok())),
         used(|| _ = (calls.finish)(to_finish.record, &mut to_finish.dist, &to_finish.status).expect("finish")),
         used(|| assert!((others.crossing)(done.record, &done.dist, &done.status, index, axis).crosses)),
         used(|| assert_eq!(points(done.record, &done.dist, &done.status, 0, &mut out).count, scene.crossings)),

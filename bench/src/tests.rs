@@ -2,10 +2,11 @@
 
 use crate::archive::now::Ours;
 use crate::coarse::{by_parts, ours, Blocks};
-use crate::contest::{begin, carve, contest, Apart, Calls, Case, Log, State};
+use crate::contest::{begin, carve, contest, turns, Apart, Calls, Case, Log, State};
 use crate::file::{read, write, Chunked, Indexed, Way};
 use crate::grids;
 use crate::grids::{blocks, bordered, inner, lengthened, patches, statuses, values, Marks, Random, Shape};
+use crate::lists;
 use crate::local::searched::{both, by_cells, by_frontiers, touched};
 use crate::local::{bare_face, joined, passes, ranked, Whole};
 use crate::neighbourhood::{gather, kept_bits};
@@ -598,6 +599,42 @@ fn measured_coarse_grids() {
     let noise = bordered(sides, values(sides, Shape::Noise));
     let near = |p: usize| !(2..30).contains(&p);
     assert!((0..noise.len()).all(|i| noise[i] >= 0 || noise[i] == MISSING || ![i % 32, i / 32 % 32, i / 1024].into_iter().any(near)));
+}
+
+/// The lists that are measured are those of the calls, and both judges in Rust say what ours says, of lists that are spoiled too.
+#[test]
+fn lists_and_their_judges() {
+    let mut met = BTreeSet::new();
+    let mut random = Random(11);
+    for (shape, allowed) in Shape::ALL.into_iter().flat_map(|shape| [0, 2, 1000].map(|allowed| (shape, allowed))) {
+        let case = Case::unmarked(Sides { a: 16, b: 14, c: 12 }, allowed, values(Sides { a: 16, b: 14, c: 12 }, shape).into());
+        let (mut start, calls) = (State::blank(&case), Calls::of::<Ours>());
+        begin(&calls, &case, &mut start, &mut Log::default());
+        let (list, mut end) = (lists::own(&case, &start), start.clone());
+        carve(&calls, &case, &mut end, &mut Log::default());
+        turns(&calls, &case, &mut end, &mut Log::default());
+        let mut say = |list: &[u8]| {
+            let mut status = start.status.clone();
+            let said = [lists::ours, lists::plain, lists::tuned].map(|judge| judge(start.record, &start.dist, &mut status, list));
+            assert!(said[0] == said[1] && said[0] == said[2] && status == start.status, "{} {said:?}", shape.name());
+            met.insert(said[0].err().map(|refused| refused.0));
+            said[0]
+        };
+        let judged = say(&list).expect("our own list is accepted");
+        assert_eq!((judged.removals, judged.openings, judged.euler), (end.record.removals, end.record.openings, end.record.euler));
+        let entries = list.len() / 6;
+        for _ in 0..20 {
+            let (at, other) = (6 * random.below(entries as u64) as usize, 6 * random.below(entries as u64) as usize);
+            let (mut swapped, mut opened, mut far) = (list.clone(), list.clone(), list.clone());
+            (0..6).for_each(|byte| swapped.swap(at + byte, other + byte));
+            opened[at + 1] = 0x4F;
+            far[at + 4] = 1;
+            for spoiled in [&list[..at], &list[..at + 1], &[&list[..], &list[at..at + 6]].concat(), &swapped, &opened, &far] {
+                _ = say(spoiled);
+            }
+        }
+    }
+    assert_eq!(met, BTreeSet::from([None, Some(5), Some(21), Some(32), Some(33)]));
 }
 
 /// Values of which none, some or all need more than 16 bits; in some grids one is at the edge of a range, or out of it.

@@ -254,6 +254,47 @@ still where the reader wants no motion, has letters in the squares for grey prin
         ),
     },
     Command {
+        name: "removals",
+        files: Files::One,
+        options: &["--openings=", "--pin=", "--hurry=", "--coarse"],
+        help: concat!(
+            "wattle removals FILE [--openings N] [--pin VOXEL ..] [--hurry VOXEL ..] [--coarse] [-o LIST]
+
+The removals that carving makes, in their order, as a list that another firm can judge (docs/SECOND-SUPPLIER.md): for each voxel 6 bytes,
+hex 56 52, or 56 4F for an opening, and its index in four bytes, low byte first. Where voxels are pinned that pass, `wattle judge` refuses
+the list, since it knows no pins, and a note says so.
+
+",
+            openings!(),
+            marks!(),
+            coarse!(),
+            "
+    wattle removals scan.grid -o scan.list
+    wattle judge scan.grid scan.list
+"
+        ),
+    },
+    Command {
+        name: "judge",
+        files: Files::Two,
+        options: &["--openings=", "--pin=", "--coarse"],
+        help: concat!(
+            "wattle judge FILE LIST [--openings N] [--coarse [--pin VOXEL ..]] [-o OUT]
+
+Says whether a list of removals, another firm's or your own, keeps the rules on a grid: each voxel is kept and not inside at its turn; an
+ordinary removal passes the local test; an opening lies bare, and comes when no voxel passes; there are at most T openings; and at the end
+no voxel passes. The order of distances is free. Where the list is accepted, says its removals, openings and Euler number, how many voxels
+it leaves, and whether our own removals leave the same. Where it is refused, says the number, the entry, the voxel, and which rule is
+broken. The exit status is 0 where it is accepted, 1 where it or the grid is refused.
+
+",
+            openings!(),
+            coarse!(),
+            "  --pin VOXEL     of a coarse start, hold the block that the voxel lies in: X,Y,Z, an index, or @LIST. Judge itself knows no pins
+"
+        ),
+    },
+    Command {
         name: "make",
         files: Files::OneOrNone,
         options: &["--shape=", "--sides=", "--noise=", "--missing=", "--seed=", "--sparse", "--openings="],
@@ -364,6 +405,8 @@ pub fn overview() -> String {
   wattle volume FILE     values, distances, status: VTK, NRRD
   wattle compare A B     which voxels differ
   wattle page FILE       a page to look at it in a browser, offline
+  wattle removals FILE   the removals that carving makes, as a list
+  wattle judge FILE LIST whether a list of removals keeps the rules, and which entry breaks which
   wattle make FILE       a grid file from NRRD or CSV, or of a shape (--shape)
   wattle patch FILE      the file with single voxels corrected (--set)
   wattle rewrite FILE    the same grid in its written form: layers in rising z, no patches
@@ -376,9 +419,10 @@ What takes long shows its progress on a terminal. Several files are shared out a
 
 All but compare and patch take --openings N in place of the file's T, the number of openings allowed. All but compare, make, patch and
 rewrite take --pin VOXEL, which holds a voxel, --hurry VOXEL, which has it examined before all others unless it is pinned, and --coarse,
-which carves blocks of 2 x 2 x 2 voxels first. VOXEL is X,Y,Z, an index, or @LIST, a file with one voxel a line.
+which carves blocks of 2 x 2 x 2 voxels first; judge, which examines nothing, takes no --hurry. VOXEL is X,Y,Z, an index, or @LIST, a file
+with one voxel a line.
 
-Exit status: 0 done; 1 the grid is refused (compare: the two differ); 2 usage, or a file cannot be read or written.
+Exit status: 0 done; 1 the grid, or judge's list, is refused (compare: the two differ); 2 usage, or a file cannot be read or written.
 ",
         env!("CARGO_PKG_VERSION")
     )

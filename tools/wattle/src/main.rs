@@ -1,5 +1,5 @@
 //! wattle: looks at grid files and at the bodies that carving leaves of them, and makes, patches and rewrites grid files, for surveyors and
-//! for support.
+//! for support; and makes and judges lists of removals, for two firms that carve the same grids.
 //!
 //! Everything about carving comes from the proved library, by way of the wrapper; what is here reads files, words and draws.
 
@@ -17,6 +17,8 @@ mod gaps;
 mod groups;
 mod help;
 mod json;
+mod judge;
+mod kept;
 mod list;
 mod look;
 mod make;
@@ -43,7 +45,7 @@ use std::process::ExitCode;
 #[derive(Clone, Copy, Debug, PartialEq, Eq, PartialOrd, Ord)]
 pub enum Status {
     Done = 0,
-    /// The grid is refused; for `compare`, the two differ.
+    /// The grid is refused; for `judge` the list, too; for `compare`, the two differ.
     Refused = 1,
     Unusable = 2,
 }
@@ -103,6 +105,8 @@ fn run(words: &[std::ffi::OsString]) -> Result<Status, Failure> {
         "volume" => volume::volume(&args),
         "compare" => compare::compare(&args),
         "list" => list::list(&args),
+        "removals" => removals::list(&args),
+        "judge" => judge::judge(&args),
         "make" => make::make(&args),
         "page" => page::page(&args),
         "patch" => patch::patch(&args),

@@ -40,6 +40,9 @@ pub fn page(args: &Args) -> Result<Answer, Failure> {
     Ok(Answer { bytes: filled(&parts).into_bytes(), binary: true, status: view.status })
 }
 
+/// The largest grid that can be watched being carved. Beyond it the page would be long to load, and its slider too fine for a hand.
+const MOST_WATCHED: usize = 32 * 32 * 32;
+
 // ---- what is shown: the body with T as given, and the one with openings allowed freely
 
 struct Shown<'a> {
@@ -60,7 +63,8 @@ fn carved<'a>(body: &Body<'a>, frame: &Frame) -> Vec<Shown<'a>> {
 impl<'a> Shown<'a> {
     fn of(body: &Body<'a>, free: &Body, frame: &Frame) -> Shown<'a> {
         let (view, sentences) = (View::of(body), meaning(body, free, frame));
-        Shown { view, sentences, points: surface(body), openings: body.openings.clone(), removals: removals(body) }
+        let removals = if body.kinds.len() > MOST_WATCHED { Vec::new() } else { removals(body) };
+        Shown { view, sentences, points: surface(body), openings: body.openings.clone(), removals }
     }
 
     fn refused(scan: &'a Scan, records: &Records, refused: Refusal) -> Shown<'a> {

@@ -6,6 +6,7 @@ mod common;
 mod course;
 mod formats;
 mod gaps;
+mod judge;
 mod list;
 mod make;
 mod many;
