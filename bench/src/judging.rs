@@ -102,7 +102,7 @@ pub fn measure() -> Vec<Demand> {
             }
             match (shape, allowed) {
                 (Shape::Noise, 0) => unopened = each,
-                (Shape::Noise, _) => asked.push(Demand(format!("judge, {told}, a removal to one with T = 0"), each / unopened, 3.0)),
+                (Shape::Noise, _) => asked.push(Demand(format!("judge, {told}, a removal to one with T = 0"), each / unopened, 2.0)),
                 _ => {}
             }
         }
