@@ -1,0 +1,2 @@
+pub mod Practice
+pub mod Work
