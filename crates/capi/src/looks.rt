@@ -1,5 +1,5 @@
-// crossing, all points, read, reading a layer, write, judge and the local test for C: none of them changes a grid. Judge works in the lent status
-// bytes and gives them back as they were.
+// crossing, all points, read, reading a layer, write, judge, practice and the local test for C: none of them changes a grid. Judge works in the lent
+// status bytes and gives them back as they were.
 ghost use mathlib.Core.Path.{_≡_};
 ghost use mathlib.Core.Option.{Option};
 ghost use Rattle.cells.specs.Cells.{test};
@@ -13,15 +13,17 @@ ghost use Rattle.format.specs.File.{read};
 ghost use Rattle.format.specs.Layer.{readLayer};
 ghost use Rattle.format.specs.Written.{write};
 ghost use Rattle.judging.specs.Judge.{judge};
+ghost use Rattle.practice.specs.Practice.{practice};
 ghost use Rattle.replies.specs.Reply.{returned, writtenOut};
 ghost use Rattle.replies.specs.Structs.{recordIn};
 ghost use Rattle.local_test.specs.Answers.{asTest};
-ghost use Rattle.look_replies.specs.Looks.{crossingStruct, pointsStruct, readStruct, layerStruct, writeStruct, judgeStruct};
+ghost use Rattle.look_replies.specs.Looks.{crossingStruct, pointsStruct, readStruct, layerStruct, writeStruct, judgeStruct, practiceStruct};
 use local_test::Local;
 use look_replies::CrossingAnswer;
 use look_replies::JudgeAnswer;
 use look_replies::LayerReply;
 use look_replies::PointsAnswer;
+use look_replies::PracticeAnswer;
 use look_replies::ReadReply;
 use look_replies::WriteReply;
 use replies::CRecord;
@@ -97,6 +99,17 @@ pub extern "C" fn wattlerugby_judge(
 {
     let r = replies::record_in(given);
     look_replies::judge_answer(verdicts::judge(r, dist, status, list))
+}
+
+#[no_mangle]
+pub extern "C" fn wattlerugby_practice(
+    sides: Sides,
+    seed: u32,
+    values: &mut [i32],
+) -> PracticeAnswer
+    ensures { λ r. ⌜ returned r (now (values .exit)) ≡ writtenOut practiceStruct (practice sides seed (now (values .entry))) ⌝ }
+{
+    look_replies::practice_answer(practice::practice(sides, seed, values))
 }
 
 // The kept voxels are the bits of one number, from which the block is made.

@@ -1,4 +1,4 @@
--- What each struct holds for each reply of a call that only looks. After a refusal all else is 0.
+-- What each struct holds for each reply of a call that changes no grid. After a refusal all else is 0.
 use mathlib.Core.Bool.{true, false}
 use mathlib.Core.Option.{Option, none, some}
 use Prim.Native.Nat.{ℕ}
@@ -16,6 +16,7 @@ use Rattle.look_replies.specs.declared.ReadReply.{ReadReply}
 use Rattle.look_replies.specs.declared.LayerReply.{LayerReply}
 use Rattle.look_replies.specs.declared.WriteReply.{WriteReply}
 use Rattle.look_replies.specs.declared.JudgeAnswer.{JudgeAnswer}
+use Rattle.look_replies.specs.declared.PracticeAnswer.{PracticeAnswer}
 
 -- all bits 0
 abbrev pub origin : Point
@@ -45,3 +46,7 @@ writeStruct (done l) = record { refusal = 0; length = l }
 abbrev pub judgeStruct : Reply Judgement → JudgeAnswer
 judgeStruct (refused n) = record { refusal = n; removals = 0; openings = 0; euler = pos 0 }
 judgeStruct (done j) = record { refusal = 0; removals = j .removed; openings = j .opened; euler = j .euler }
+
+abbrev pub practiceStruct : Reply (Unit {0}) → PracticeAnswer
+practiceStruct (refused n) = record { refusal = n }
+practiceStruct (done u) = record { refusal = 0 }

@@ -1,4 +1,4 @@
-// What the calls that only look answer to C, as structs: crossing, all points, read, reading a layer, write, judge.
+// What the calls that change no grid answer to C, as structs: crossing, all points, read, reading a layer, write, judge, practice.
 ghost use mathlib.Core.Path.{_≡_};
 ghost use Rattle.surface.specs.Surface.{crossedAnswer};
 ghost use Rattle.points.specs.Listing.{listedAnswer};
@@ -6,11 +6,13 @@ ghost use Rattle.gridfile.specs.Answer.{readAnswer};
 ghost use Rattle.layers.specs.Part.{layerAnswer};
 ghost use Rattle.writing.specs.Answer.{writeAnswer};
 ghost use Rattle.judging.specs.Judge.{judgedAnswer};
-ghost use Rattle.look_replies.specs.Looks.{origin, crossingStruct, pointsStruct, readStruct, layerStruct, writeStruct, judgeStruct};
+ghost use Rattle.practice.specs.Practice.{practisedAnswer};
+ghost use Rattle.look_replies.specs.Looks.{origin, crossingStruct, pointsStruct, readStruct, layerStruct, writeStruct, judgeStruct, practiceStruct};
 use gridfile::ReadAnswer;
 use judging::Judged;
 use layers::LayerAnswer;
 use points::Listed;
+use practice::Practised;
 use rules::Sides;
 use surface::Crossed;
 use surface::Point;
@@ -58,6 +60,11 @@ pub struct JudgeAnswer {
     pub removals: u64,
     pub openings: u32,
     pub euler: i32,
+}
+
+#[repr(C)]
+pub struct PracticeAnswer {
+    pub refusal: u8,
 }
 
 fn zero() -> Point
@@ -176,5 +183,14 @@ pub fn judge_answer(j: Judged) -> JudgeAnswer
             openings: 0,
             euler: 0,
         },
+    }
+}
+
+pub fn practice_answer(p: Practised) -> PracticeAnswer
+    ensures { λ r. ⌜ r ≡ practiceStruct (practisedAnswer p) ⌝ }
+{
+    match p {
+        Practised::Filled => PracticeAnswer { refusal: 0 },
+        Practised::Refused(refusal) => PracticeAnswer { refusal },
     }
 }
