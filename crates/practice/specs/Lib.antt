@@ -1,2 +1,4 @@
 pub mod Practice
 pub mod Work
+pub mod Course
+pub mod Wrong
