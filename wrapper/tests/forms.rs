@@ -175,11 +175,9 @@ const FORMS: [Form; 9] = [
         source.comes_to("crossing", "surface::crossing")
     }),
     ("add hex 9E3779B9 to s with wrapping at 32 bits", |source| {
-        // not due before CR 12, which brings the practice grids: until then nothing adds so
-        let calls = source.functions.keys().filter(|name| name.starts_with("capi::"));
-        let bodies = calls.flat_map(|call| source.reached(call)).map(|name| &source.functions[name].body);
-        let adds = bodies.filter(|body| body.contains("wrapping_add_u32(") && body.contains("0x9E3779B9")).count() > 0;
-        holds(adds == landed(12), "a call for C adds by wrapping_add_u32 from CR 12 on, and not before its note is in docs/changes")
+        let adds = source.function("practice::advanced")?.body.contains("wrapping_add_u32(s,0x9E3779B9)");
+        holds(adds, "the generator is not advanced by wrapping_add_u32")?;
+        source.comes_to("practice", "practice::advanced")
     }),
     ("It reads the 27 voxels of a three by three by three block", |source| {
         // C gives bits, which `block_of` makes a block of
@@ -249,11 +247,6 @@ const FORMS: [Form; 9] = [
     }),
 ];
 
-/// A request of document 02 has landed when its note stands in docs/changes.
-fn landed(request: u32) -> bool {
-    root().join(format!("docs/changes/CR-{request:02}.md")).exists()
-}
-
 /// The masks of `count_ones(t & MASK)`, octal or hexadecimal.
 fn masks(bodies: &str) -> impl Iterator<Item = u64> + '_ {
     let counted = bodies.split("::count_ones(").skip(1).filter_map(|rest| rest.split(')').next());
@@ -276,15 +269,11 @@ fn each_form_stands_at_its_place() {
 /// A form that is taken away is missed, at its place or where it is called: the sentence begins so, and in that crate one text stands for another.
 #[test]
 fn a_form_that_goes_is_missed() {
-    let taken: [(&str, &str, &str, &str); 16] = [
+    let taken: [(&str, &str, &str, &str); 17] = [
         ("It answers either", "surface", "At(Point)", "At(f64, f64, f64)"),
         ("It answers either", "capi", "surface::crossing(", "surface::crossing_of("),
-        (
-            "add hex 9E3779B9",
-            "capi",
-            "fn wattlerugby_version_number",
-            "fn wattlerugby_practice(s: u32) { let s = wrapping_add_u32(s, 0x9E3779B9); }\npub fn version",
-        ),
+        ("add hex 9E3779B9", "practice", "wrapping_add_u32(", "plain_add_u32("),
+        ("add hex 9E3779B9", "practice", "draw(values, seed);", ""),
         ("It reads the 27", "local_test", "[[u8; 3]; 3]", "u32"),
         ("It reads the 27", "local_test", "ghost use mathlib.Core.Path", "pub fn of_bits() {}\nghost use mathlib.Core.Path"),
         ("It reads the 27", "capi", "local_test::local_test", "local_test::of_bits"),
