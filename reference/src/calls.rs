@@ -6,7 +6,23 @@ use crate::grid::begin;
 use crate::judge::judge;
 use crate::local::local_test;
 use crate::machine::{carve, crossing, finish, open, points, take};
+use crate::practice::practice;
 use crate::replay::Calls;
 
-pub const REFERENCE: Calls =
-    Calls { begin, begin_coarse, carve, take, open, finish, judge, crossing, points, local_test, layer, read, write, program_line };
+pub const REFERENCE: Calls = Calls {
+    begin,
+    begin_coarse,
+    carve,
+    take,
+    open,
+    finish,
+    judge,
+    crossing,
+    points,
+    local_test,
+    layer,
+    read,
+    write,
+    practice,
+    program_line,
+};

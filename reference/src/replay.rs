@@ -26,6 +26,7 @@ pub struct Calls {
     pub layer: fn(&Sides, &[u8], u64) -> Result<Layer, Refused>,
     pub read: fn(&[u8], &mut [i32], u64) -> Result<(Sides, u16), Refused>,
     pub write: fn(&Sides, u16, &[i32], &mut [u8]) -> Result<usize, Refused>,
+    pub practice: fn(&Sides, u32, &mut [i32]) -> Result<(), Refused>,
     pub program_line: fn(&[u8]) -> String,
 }
 
@@ -206,6 +207,7 @@ impl Replay {
                 let answer = match command {
                     "points" => self.points(words)?,
                     "write" => self.write(words)?,
+                    "practice" => self.practice(words)?,
                     _ => match self.call(command, words)? {
                         Ok(values) => format!("{command} ok {values}"),
                         Err(number) => format!("{command} refused {number}"),
@@ -258,6 +260,14 @@ impl Replay {
             Err(number) => format!("refused {number}"),
         };
         Ok(format!("write {answer} buffer {}", fnv(lent.into_iter())))
+    }
+
+    /// The answer has no values of its own.
+    fn practice(&mut self, words: &mut Words) -> Result<String, Mistake> {
+        Ok(match (self.calls.practice)(&self.sides, words.number()?, &mut self.values) {
+            Ok(()) => "practice ok".to_string(),
+            Err(number) => format!("practice refused {number}"),
+        })
     }
 
     fn call(&mut self, name: &str, words: &mut Words) -> Result<Result<String, Refused>, Mistake> {

@@ -35,7 +35,7 @@ pub fn prints(command: &str) -> bool {
 /// Whether a command can change the file, or what `write` makes it from.
 pub fn bears_on_the_file(command: &str) -> bool {
     let word = command.split_ascii_whitespace().next();
-    matches!(word, Some("sides" | "rawsides" | "T" | "values" | "file" | "append" | "read" | "write"))
+    matches!(word, Some("sides" | "rawsides" | "T" | "values" | "file" | "append" | "read" | "write" | "practice"))
 }
 
 /// The reference's lines for a script, or what it does not take.

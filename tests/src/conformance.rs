@@ -54,6 +54,7 @@ impl Made {
     fn line(&mut self, state: &mut Replay, begun: &mut Begun, command: &str, case: Option<&str>) -> Result<Option<String>, String> {
         let (before, mut changed) = (Before::of(state, command), begun.seen(state, command));
         let answer = state.line(command)?;
+        before.left(&state.values)?;
         if answer.is_some() != prints(command) {
             return Err("compare::prints is wrong about it".to_string());
         }
@@ -269,6 +270,35 @@ mod tests {
         assert!(entries("judge ok removals 3 openings 1 euler 0").is_ok_and(|all| all.contains(&"judge: an opening of k 0".to_string())));
         for other in ["removals 2 openings 1 euler 0", "removals 3 openings 0 euler 0", "removals 3 openings 1 euler 1"] {
             assert!(entries(&format!("judge ok {other}")).is_err(), "{other}");
+        }
+    }
+
+    /// A value, the border or a refusal that writes.
+    #[test]
+    fn another_practice_grid_is_told() {
+        let all = [
+            ("values len 27", "ok", "practice: a seed of 9"),
+            ("values len 26", "refused 2", "practice refused: 2, values short alone"),
+            ("values len 28", "refused 2", "practice refused: 2, values long alone"),
+            ("rawsides 3 3 65", "refused 1", "practice: 1 before 2"),
+        ];
+        for (line, said, met) in all {
+            let mut state = Replay::new(REFERENCE);
+            state.line(line).expect("a line of the language");
+            let of = |state: &Replay| Before::of(state, "practice 9");
+            let entries = |answer: &str| of(&state).entries(&format!("practice {answer}"));
+            assert!(entries(said).is_ok_and(|all| all.contains(&met.to_string())), "{met}");
+            for other in ["ok", "refused 1", "refused 2", "refused 28"].into_iter().filter(|&other| other != said) {
+                assert!(entries(other).is_err(), "{met}: {other}");
+            }
+            let before = of(&state);
+            state.line("practice 9").expect("a line of the language");
+            assert!(before.left(&state.values).is_ok(), "{met}");
+            for i in [0, 13, state.values.len() - 1] {
+                state.values[i] += 1;
+                assert!(before.left(&state.values).is_err(), "{met}: {i}");
+                state.values[i] -= 1;
+            }
         }
     }
 

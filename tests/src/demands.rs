@@ -7,8 +7,22 @@ use reference::replay::Replay;
 use std::collections::BTreeMap;
 
 /// The calls that can be refused.
-const CALLS: [&str; 13] =
-    ["begin", "begincoarse", "carve", "take", "open", "finish", "judge", "crossing", "points", "readlayer", "read", "program", "write"];
+const CALLS: [&str; 14] = [
+    "begin",
+    "begincoarse",
+    "carve",
+    "take",
+    "open",
+    "finish",
+    "judge",
+    "crossing",
+    "points",
+    "readlayer",
+    "read",
+    "program",
+    "write",
+    "practice",
+];
 
 /// Pairs of faults that no input has together, and why.
 const IMPOSSIBLE: &[(&str, Check, Check, &str)] = &[
@@ -141,7 +155,7 @@ fn causes(call: &str, check: Check) -> &'static [&'static str] {
             "cstatus short",
             "cstatus long",
         ],
-        ("read" | "write", "2") => &["values short", "values long"],
+        ("read" | "write" | "practice", "2") => &["values short", "values long"],
         ("carve" | "take" | "open", "2") => WITH_MARKS,
         (_, "2") => LENGTHS,
         (_, "3") => BORDER,
@@ -859,6 +873,42 @@ const ALSO: &[(&str, usize)] = &[
     ("judge refused: 33, after a pending voxel went", 10),
     ("judge refused: 33, nothing pending", 10),
     ("judge refused: 33, nothing but pinned voxels passes", 3),
+    // practice grids
+    ("practice: a seed of 0", 5),
+    ("practice: a seed of 1", 5),
+    ("practice: a seed of 255", 1),
+    ("practice: a seed of 256", 1),
+    ("practice: a seed of 65535", 1),
+    ("practice: a seed of 65536", 1),
+    ("practice: a seed of 2147483647", 2),
+    ("practice: a seed of 2147483648", 2),
+    ("practice: a seed of 4294967294", 1),
+    ("practice: a seed of 4294967295", 5),
+    ("practice: the first s is 0", 1),
+    ("practice: s of 0 within", 2),
+    ("practice: s of 4294967295 within", 2),
+    ("practice: s of 2147483648 within", 2),
+    ("practice: s without upper bits within", 5),
+    ("practice: s without lower bits within", 5),
+    ("practice: s of equal halves within", 2),
+    ("practice: u of 2000 within", 1),
+    ("practice: u of 2001 within", 1),
+    ("practice: u of 4294967295 within", 1),
+    ("practice: a value of -1000 within", 5),
+    ("practice: a value of 1000 within", 5),
+    ("practice: a value of 0 within", 5),
+    ("practice: no negative voxel", 5),
+    ("practice: over the same grid", 5),
+    ("practice: over missing points", 2),
+    ("practice: over values out of range", 2),
+    ("practice: the record has other sides", 10),
+    ("practice: the record is finished", 2),
+    ("practice: dist and status of other lengths", 2),
+    ("practice: marks of another length", 2),
+    ("practice on 64 64 64", 1),
+    ("practice on three different sides", 20),
+    ("begin: a practice grid", 50),
+    ("write: a practice grid", 20),
     // the local test
     ("local", 2400),
     ("local: bits from 27 on", 1),
@@ -906,6 +956,8 @@ pub struct Before {
     face: Option<usize>,
     /// The whole answer of a list that is judged and keeps the rules.
     judged: Option<String>,
+    /// The values that a practice call must leave.
+    practised: Option<Vec<i32>>,
     seen: Vec<String>,
 }
 
@@ -925,7 +977,17 @@ impl Before {
             seen.extend(faced.into_iter().flat_map(|faced| faced.seen));
             judged = judged::line(state, &words);
         }
-        Before { call, words: words.iter().map(|word| word.to_string()).collect(), faults, face, judged, seen }
+        let made = faults.as_ref().is_some_and(Vec::is_empty).then(|| practised::left(state, &words)).flatten();
+        let practised = (call == "practice").then(|| made.unwrap_or_else(|| state.values.clone()));
+        Before { call, words: words.iter().map(|word| word.to_string()).collect(), faults, face, judged, practised, seen }
+    }
+
+    /// An error where a practice call left other values: those of its rule, or, refused, those that it was lent.
+    pub fn left(&self, values: &[i32]) -> Result<(), String> {
+        match &self.practised {
+            Some(wanted) if wanted != values => Err("the values after it are not those of a practice grid, or of a refusal".to_string()),
+            _ => Ok(()),
+        }
     }
 
     /// The entries that the call meets by its answer; an error where the answer is not that of the first fault, or has another face.
@@ -992,5 +1054,6 @@ mod judged;
 pub mod marked;
 mod ordered;
 mod patched;
+mod practised;
 mod sights;
 mod wide;

@@ -1,7 +1,7 @@
 //! Every fault that a call has, each by itself and whether or not another one is answered first. From document 01's numbers, document 02's for
-//! `write`, for patch records, for the order of layers, for values of 32 bits, for marks, for coarse starts and for lists of removals, and docs/RULES.md
-//! for `points`, which is ours, with the order of checks beside them, and not from the reference's code: so the kit can be asked for every
-//! pair of faults, and the reference is held to the order.
+//! `write`, for patch records, for the order of layers, for values of 32 bits, for marks, for coarse starts, for lists of removals and for practice grids,
+//! and docs/RULES.md for `points`, which is ours, with the order of checks beside them, and not from the reference's code: so the kit can be asked for
+//! every pair of faults, and the reference is held to the order.
 
 use crate::faces::ACROSS;
 use crate::marks::{pinned, wrong_mark};
@@ -40,8 +40,8 @@ impl Fault {
 pub const PATCH: [Check; 3] = ["patch 21", "patch 22", "5"];
 
 /// A call's checks in their order (document 01, the last two sentences of "Numbers that come from the state"; document 02, CR 1 for `write`, CR 2
-/// for what follows the layers of a file and for the program's 25, CR 4 for 27, CR 5 for 28, CR 7 for 29 and 30, CR 10 for 31 and CR 11 for
-/// `judge`).
+/// for what follows the layers of a file and for the program's 25, CR 4 for 27, CR 5 for 28, CR 7 for 29 and 30, CR 10 for 31, CR 11 for `judge`
+/// and CR 12 for `practice`).
 pub fn order(call: &str) -> Option<&'static [Check]> {
     Some(match call {
         "begin" => &["1", "2", "28", "29", "3", "4"],
@@ -57,6 +57,7 @@ pub fn order(call: &str) -> Option<&'static [Check]> {
         "read" => &["header 21", "header 22", "1", "2", "21", "22", "23", "24", "27", "28", "patch 21", "patch 22", "5"],
         "program" => &["25", "header 21", "header 22", "1", "21", "22", "23", "24", "27", "28", "patch 21", "patch 22", "5", "3", "4"],
         "write" => &["1", "2", "28", "26"],
+        "practice" => &["1", "2"],
         _ => return None,
     })
 }
@@ -98,6 +99,10 @@ pub fn faults(state: &Replay, command: &str) -> Option<Vec<Fault>> {
             found.lengths(&state.sides, &[("values", state.values.len())]);
             found.range(&state.values);
             found.room(&state.sides, written_width(&state.values), argument(1));
+        }
+        "practice" => {
+            found.sides(&state.sides, 64);
+            found.lengths(&state.sides, &[("values", state.values.len())]);
         }
         "judge" => {
             found.record(state);

@@ -12,6 +12,7 @@ pub mod grids;
 pub mod judged;
 pub mod marks;
 pub mod mutants;
+pub mod practised;
 pub mod processor;
 pub mod progress;
 pub mod random;

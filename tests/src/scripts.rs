@@ -1,7 +1,7 @@
 //! Call scripts (docs/CALL-SCRIPTS.md). Those from seeds: lists of calls from begin, crafted records, unfit ones, finished grids, files read, patched,
-//! written, out of order and of both widths, walls with gaps, marks that change, coarse starts, lists of removals, blocks; each is made along with a
-//! run of the reference, so that it can choose voxels by what they are at that moment. And those written out, in the modules below: every fault, every worked
-//! case, and what chance leaves out.
+//! written, out of order and of both widths, walls with gaps, marks that change, coarse starts, lists of removals, practice grids, blocks; each is
+//! made along with a run of the reference, so that it can choose voxels by what they are at that moment. And those written out, in the modules below:
+//! every fault, every worked case, and what chance leaves out.
 
 mod both;
 pub mod cases;
@@ -19,6 +19,7 @@ mod marking;
 mod ordering;
 mod patching;
 mod points;
+mod practice;
 mod refusals;
 mod shapes;
 mod widening;
@@ -33,7 +34,7 @@ use reference::machine::{carve, finish, open, take};
 use std::fmt::{Display, Write};
 
 /// The kinds of scripts from seeds.
-pub const SEEDED: [&str; 16] = [
+pub const SEEDED: [&str; 17] = [
     "lists",
     "takes",
     "openings",
@@ -49,13 +50,14 @@ pub const SEEDED: [&str; 16] = [
     "marks",
     "starts",
     "removals",
+    "courses",
     "blocks",
 ];
 
 /// The kinds of scripts that are written out. What takes longest stands last.
-pub const WRITTEN: [&str; 18] = [
+pub const WRITTEN: [&str; 19] = [
     "cases", "language", "refusals", "damage", "ordering", "patching", "writing", "widening", "filling", "marking", "faces", "coarse",
-    "judging", "extremes", "long", "points", "shapes", "greatest",
+    "judging", "practice", "extremes", "long", "points", "shapes", "greatest",
 ];
 
 /// How many scripts of each seeded kind a second supplier is given.
@@ -65,7 +67,8 @@ const GIVEN: u64 = 40;
 pub fn conformance(kind: &str) -> Vec<String> {
     if SEEDED.contains(&kind) {
         // What carves needs room for ties and tunnels; the rest stays small.
-        let greatest = if ["lists", "takes", "openings", "crafted", "gaps", "marks", "starts", "removals"].contains(&kind) { 9 } else { 5 };
+        let greatest =
+            if ["lists", "takes", "openings", "crafted", "gaps", "marks", "starts", "removals", "courses"].contains(&kind) { 9 } else { 5 };
         return (1..=GIVEN).map(|seed| script(kind, seed, greatest)).collect();
     }
     let written = match kind {
@@ -81,6 +84,7 @@ pub fn conformance(kind: &str) -> Vec<String> {
         "faces" => faces::scripts(),
         "coarse" => coarse::scripts(),
         "judging" => judging::scripts(),
+        "practice" => practice::scripts(),
         "patching" => patching::scripts(),
         "long" => long::scripts(),
         "points" => points::scripts(),
@@ -113,6 +117,7 @@ pub fn script(kind: &str, seed: u64, greatest: i64) -> String {
         "marks" => m.marked(greatest),
         "starts" => m.starts(greatest),
         "removals" => m.removals(greatest),
+        "courses" => m.courses(greatest),
         "large" => m.large(),
         _ => m.blocks(),
     }
@@ -362,6 +367,7 @@ impl Maker {
         self.calls(count, [50, 20, 28, 0]);
         self.and_finish();
         self.write(&sides, NARROW);
+        self.practice(&sides);
     }
 
     // ---- files

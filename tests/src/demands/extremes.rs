@@ -18,7 +18,7 @@ pub fn buffers(call: &str) -> &'static [&'static str] {
         "begin" => &["values", "marks", "dist", "status"],
         "carve" | "take" | "open" => &["marks", "dist", "status"],
         "finish" | "judge" | "crossing" | "points" => &["dist", "status"],
-        "read" | "write" => &["values"],
+        "read" | "write" | "practice" => &["values"],
         _ => &[],
     }
 }
@@ -106,11 +106,11 @@ fn side_of(bound: i64) -> &'static str {
 /// Every entry, each of which one call must meet.
 pub fn entries() -> Vec<String> {
     let mut all = Vec::new();
-    for call in ["begin", "begincoarse", "write", "readlayer"].into_iter().chain(ON_RECORDS) {
+    for call in ["begin", "begincoarse", "write", "practice", "readlayer"].into_iter().chain(ON_RECORDS) {
         let sides = ["a", "b", "c"].into_iter().flat_map(|side| OF_64.map(|bits| (side, bits)));
         all.extend(sides.map(|(side, bits)| format!("{call} refused: 1, {side} fit in its low {bits} bits")));
     }
-    for call in ["begin", "begincoarse", "read", "write"].into_iter().chain(ON_RECORDS) {
+    for call in ["begin", "begincoarse", "read", "write", "practice"].into_iter().chain(ON_RECORDS) {
         for buffer in buffers(call) {
             all.extend(["1", "2"].map(|number| format!("{call} refused: {number}, {buffer} empty")));
             all.extend(OF_LENGTHS.map(|bits| format!("{call} refused: 2, {buffer} of the right length in its low {bits} bits")));

@@ -220,9 +220,13 @@ fn open(state: &Replay) -> Vec<String> {
     ])
 }
 
-/// The start that the record comes from, where nothing but calls and other marks came after it: which call it was, and its marks.
 #[derive(Default)]
-pub struct Begun(Option<(String, Vec<u8>)>);
+pub struct Begun {
+    /// The start that the record comes from, where nothing but calls and other marks came after it: which call it was, and its marks.
+    start: Option<(String, Vec<u8>)>,
+    /// The values of the last practice grid.
+    practised: Option<Vec<i32>>,
+}
 
 impl Begun {
     /// After a line was done.
@@ -230,9 +234,10 @@ impl Begun {
         let word = command.split_ascii_whitespace().next().unwrap_or("");
         match word {
             "begin" | "begincoarse" if answer.is_some_and(|said| said.starts_with(&format!("{word} ok"))) => {
-                self.0 = Some((word.to_string(), state.marks.clone()));
+                self.start = Some((word.to_string(), state.marks.clone()));
             }
-            "sides" | "rawsides" | "rec" | "dist" | "status" => self.0 = None,
+            "sides" | "rawsides" | "rec" | "dist" | "status" => self.start = None,
+            "practice" if answer.is_some_and(|said| said.starts_with("practice ok")) => self.practised = Some(state.values.clone()),
             _ => {}
         }
     }
@@ -240,12 +245,15 @@ impl Begun {
     /// What is seen of the start, if the call is done.
     pub fn seen(&self, state: &Replay, command: &str) -> Vec<String> {
         let call = command.split_ascii_whitespace().next().unwrap_or("");
-        let Some((start, marks)) = &self.0 else { return Vec::new() };
+        let practised = self.practised.as_ref() == Some(&state.values);
+        let of_values = chosen(&[(practised && ["begin", "write"].contains(&call), format!("{call}: a practice grid"))]);
+        let Some((start, marks)) = &self.start else { return of_values };
         let later = ["carve", "take", "open", "finish", "judge"].contains(&call);
-        let mut seen = chosen(&[
+        let mut seen = of_values;
+        seen.extend(chosen(&[
             (later && start == "begincoarse", format!("{call}: after a coarse start")),
             (STARTS.contains(&call), format!("{call}: over what {start} left")),
-        ]);
+        ]));
         if ["carve", "take", "open"].contains(&call) && marks.len() == state.marks.len() {
             seen.extend(changed(state, call, marks));
             let hurry = |i: usize| marks[i] != state.marks[i] && state.status[i] != 0;

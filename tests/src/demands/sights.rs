@@ -1,6 +1,6 @@
 //! What a call is about, besides its faults: the entries of `ALSO` that it meets if it is done.
 
-use super::{coarse, gaps, judged, marked, ordered, patched, wide};
+use super::{coarse, gaps, judged, marked, ordered, patched, practised, wide};
 use crate::gaps::filled;
 use crate::records::{negative, written_length, written_width, GREATEST, LONGEST_INPUT, MISSING};
 use reference::file::read;
@@ -22,6 +22,7 @@ pub fn of(state: &Replay, call: &str, words: &[&str]) -> Vec<String> {
         "read" | "program" => file(call, &state.file),
         "readlayer" => readlayer(state, number(1)),
         "write" => write(state, number(1)),
+        "practice" => practised::of(state, words),
         "local" => local(words),
         _ => Vec::new(),
     };
@@ -34,7 +35,7 @@ pub fn of(state: &Replay, call: &str, words: &[&str]) -> Vec<String> {
     }
     seen.extend(marked::of(state, call, number(1)));
     if !["read", "program", "readlayer", "local"].contains(&call) {
-        let sides = if ["begin", "begincoarse", "write"].contains(&call) { state.sides } else { state.record.sides };
+        let sides = if ["begin", "begincoarse", "write", "practice"].contains(&call) { state.sides } else { state.record.sides };
         seen.extend(chosen(&[
             (sides == Sides { a: 64, b: 64, c: 64 }, format!("{call} on 64 64 64")),
             (different(&sides), format!("{call} on three different sides")),

@@ -24,7 +24,7 @@ impl Subject {
     }
 
     fn on_record(&self) -> bool {
-        !["begin", "begincoarse", "write", "readlayer"].contains(&self.call())
+        !["begin", "begincoarse", "write", "practice", "readlayer"].contains(&self.call())
     }
 
     fn n(&self) -> u64 {
@@ -301,6 +301,10 @@ fn judge() -> Subject {
     Subject { line: "judge 565220000000565225000000", state: format!("{PAIR}begin\n"), sides: [6, 4, 3], within: (37, 3) }
 }
 
+fn practice() -> Subject {
+    Subject { line: "practice 4294967295", state: given([5, 4, 3], 258, &varied(60)), sides: [5, 4, 3], within: (26, 0) }
+}
+
 /// A list of no removals, behind every number of the record.
 fn empty_list() -> String {
     let unfit = [
@@ -330,5 +334,6 @@ pub fn scripts() -> Vec<String> {
     scripts.push(coarse_t());
     scripts.extend(judge().scripts());
     scripts.push(empty_list());
+    scripts.extend(practice().scripts());
     scripts
 }

@@ -738,7 +738,7 @@ impl Maker {
         }
     }
 
-    fn begin(&mut self, values: &[i32]) -> bool {
+    pub(super) fn begin(&mut self, values: &[i32]) -> bool {
         self.say("begin");
         let (sides, t) = (self.record.sides, self.record.t);
         let begun = begin(sides, t, values, &self.marks, &mut self.dist, &mut self.status);

@@ -40,6 +40,10 @@ const SCRIPTS: &[&str] = &[
      judge 56522000000056524a00ffFF\nfile 5648\nmarks len 3\nrawsides 9 9 9\nT 65535\nvalues len 0\ncdist len 1\n\
      judge 565220000000565225000000\nrec show 0\nautohash 0\njudge 565220000000565225000000\njudge 565220000000\njudge\nautohash 1\n\
      rec T 65535\nrec openings 65535\njudge\nrec a 18446744073709551615\njudge 00\nrec a 6\nrec euler -2147483648\njudge\nsides 3 3 3\n",
+    "# practice: the ends of its range, leading zeros, and that an answer without values ends there; with sides and values as they are\npractice 0\n\
+     practice 4294967295\npractice 0000000000000000000001\npractice -0\n  practice   65536  \nautohash 0\npractice 2\nvalues len 26\npractice 2\n\
+     rawsides 3 3 2\npractice 2\nrawsides 3 3 3\nvalues len 27\npractice 2\nautohash 1\nhash\ndump values\nsides 65 3 3\npractice 2\nsides 0 3 3\n\
+     practice 2\nrawsides 18446744073709551615 3 3\npractice 2\nrec show 0\nsides 3 3 3\n",
 ];
 
 /// Lines that a tool must refuse, each a script by itself: it prints nothing, and its status is 2.
@@ -102,6 +106,20 @@ pub const MISTAKES: &[&str] = &[
     "judge -",
     "judges",
     "Judge",
+    "practice",
+    "practice -1",
+    "practice 4294967296",
+    "practice 18446744073709551616",
+    "practice +1",
+    "practice 1.0",
+    "practice 0x1",
+    "practice 9E3779B9",
+    "practice seed",
+    "practice -",
+    "practice 1 1",
+    "practices",
+    "Practice 1",
+    "practise 1",
     "showfile 0",
     "showfile 5648",
     "local",
