@@ -22,6 +22,7 @@
  *     wattlerugby_read_header, wattlerugby_voxels   the sides that a file has, and how many voxels these are: so much to lend
  *     wattlerugby_write     values out as a grid file; wattlerugby_written_width and wattlerugby_written_length say how long it is
  *     wattlerugby_patch     a single corrected voxel, as bytes to append to a grid file
+ *     wattlerugby_practice  values for a training course, the same from a seed on every instrument
  *     wattlerugby_local_test   the test by which a voxel may go, on its own
  *     wattlerugby_reason    a refusal number as text
  *     wattlerugby_version_number   the version of the archive that is linked; WATTLERUGBY_VERSION_NUMBER is the header's
@@ -68,7 +69,7 @@
  *
  *     bytes a voxel        64 x 64 x 64   needed
  *     the file             1,048,775      by read; so long without patches, each of which is 8 bytes more
- *     values   4           1,048,576      by read, write and begin
+ *     values   4           1,048,576      by read, write, practice and begin
  *     dist     4           1,048,576      from begin to the last point
  *     status   1             262,144      from begin to the last point
  *     marks    1             262,144      by begin, carve, take and open
@@ -141,6 +142,21 @@
  * Our own list is accepted, with the counts of our own record, where nothing was pinned and nothing is pending at its end; so are lists with takes
  * and with hurries. Marks are not lent to judge, which knows no pins: a list that spares a pinned voxel which passes is refused with 33.
  *
+ * PRACTICE GRIDS
+ *
+ * A training course wants the same grids on every instrument, without a file. wattlerugby_practice fills n values from a seed of 32 bits, by rule
+ * alone: the same sides and seed give the same values everywhere, and every instrument that carves them by the rules comes to the same record, body
+ * and points. So a trainer names sides, T and a seed, and tells by the line of the result whether an instrument is right. docs/COURSE.md has three
+ * such grids, with their lines, pictures and removal lists.
+ *
+ * The rule, for who makes the values without this library. Keep s, a number of 32 bits, which starts as the seed. For each index from 0 to n - 1 add
+ * hex 9E3779B9 to s, without what goes over 32 bits; border voxels are no exception. The value of a border voxel is 1000. Of any other it is
+ * (s ^ (s >> 16)) % 2001 - 1000, all of it without a sign up to the subtraction.
+ *
+ * So a value is never missing, lies in -1000 to 1000, and is 1000 on the border. Begin answers a record or, where no value is negative, 4; that is
+ * proved. About half of the voxels within the border are negative. So a small grid may have no body, and a larger one is a sponge with many tunnels:
+ * with `allowed` 0 it is filled until none is left, and openings let them be seen one by one.
+ *
  * FACES
  *
  * A display may draw each removed voxel sliding away. So take and open answer which side their voxel came out by, and carve of the last voxel
@@ -190,11 +206,11 @@
 /* ---- version */
 
 #define WATTLERUGBY_VERSION_MAJOR 0
-#define WATTLERUGBY_VERSION_MINOR 12
+#define WATTLERUGBY_VERSION_MINOR 13
 #define WATTLERUGBY_VERSION_PATCH 0
-#define WATTLERUGBY_VERSION "0.12.0"
+#define WATTLERUGBY_VERSION "0.13.0"
 
-/* The version as one number, 12000 for 0.12.0: the later of two versions has the greater one. It may stand in an #if, where it is 0 with
+/* The version as one number, 13000 for 0.13.0: the later of two versions has the greater one. It may stand in an #if, where it is 0 with
  * a header that does not have it yet. */
 #define WATTLERUGBY_VERSION_NUMBER \
     (WATTLERUGBY_VERSION_MAJOR * 1000000u + WATTLERUGBY_VERSION_MINOR * 1000u + WATTLERUGBY_VERSION_PATCH)
@@ -838,6 +854,20 @@ wattlerugby_write_answer wattlerugby_write(
     wattlerugby_sides sides, uint16_t allowed,
     const int32_t *values, size_t values_len,
     uint8_t *file, size_t file_len);
+
+/* ---- practice */
+
+typedef struct wattlerugby_practice_answer {
+    uint8_t refusal;
+} wattlerugby_practice_answer;
+
+/* Fills n values with the practice grid of a seed, whatever they held: see PRACTICE GRIDS above. Any seed is taken. The values are for begin, and for
+ * write, which makes the same file of them on every instrument. Writes `values` alone.
+ *
+ * Checks: 1, 2 (`values`). */
+wattlerugby_practice_answer wattlerugby_practice(
+    wattlerugby_sides sides, uint32_t seed,
+    int32_t *values, size_t values_len);
 
 /* ---- the local test */
 

@@ -106,6 +106,22 @@
 //! # Ok::<(), Refusal>(())
 //! ```
 //!
+//! # Practice grids
+//!
+//! A training course wants the same grids on every instrument, without a file: [`practice`] fills values from a seed, by rule alone.
+//!
+//! ```
+//! use wattlerugby::{practice_values, Grid, Sides};
+//!
+//! let sides = Sides { a: 8, b: 8, c: 8 };
+//! let values = practice_values(sides, 1)?;
+//! assert!(values.iter().all(|value| (-1_000..=1_000).contains(value)));
+//! let mut grid = Grid::begin(sides, 0, &values)?;
+//! grid.carve_to_the_end()?;
+//! assert_eq!(grid.record().euler, 1); // what a trainer reads off, as on every other instrument
+//! # Ok::<(), wattlerugby::Refusal>(())
+//! ```
+//!
 //! # The archive
 //!
 //! The library is the archive that `rt staticlib capi` writes: build.rs looks for it in the folder that the variable `WATTLERUGBY_ARCHIVE`
@@ -889,6 +905,46 @@ pub fn written(sides: Sides, allowed: u16, values: &[i32]) -> Result<Vec<u8>, Re
     let mut file = vec![0; written_length(sides, written_width(values)).unwrap_or(0)];
     write(sides, allowed, values, &mut file)?;
     Ok(file)
+}
+
+/// Fills n values with the practice grid of a seed, whatever they held: the same on every instrument. s, of 32 bits, starts as the seed, and for each
+/// index in rising order hex 9E3779B9 is added to it, with wrapping. A border voxel gets 1,000; any other the remainder of s ^ (s >> 16) by 2,001,
+/// less 1,000. So no value is missing, each is -1,000 to 1,000, and [`begin`] answers a record, or 4 where none is negative, which is proved.
+///
+/// Checks: 1, 2 (`values`).
+///
+/// ```
+/// use wattlerugby::{practice, Refusal, Sides};
+///
+/// let (sides, mut values) = (Sides { a: 3, b: 3, c: 3 }, [7; 27]);
+/// practice(sides, 0, &mut values)?;
+/// assert_eq!((values[12], values[13], values[14]), (1_000, -239, 1_000)); // the centre alone is not on the border
+/// assert_eq!(practice(sides, 0, &mut values[1..]), Err(Refusal::LENGTH));
+/// assert_eq!(practice(Sides { a: 2, ..sides }, 0, &mut values), Err(Refusal::SIDE));
+/// # Ok::<(), Refusal>(())
+/// ```
+pub fn practice(sides: Sides, seed: u32, values: &mut [i32]) -> Result<(), Refusal> {
+    // SAFETY: as in `begin`.
+    let r = unsafe { raw::wattlerugby_practice(sides, seed, values.as_mut_ptr(), values.len()) };
+    done(r.refusal, ())
+}
+
+/// The values that [`practice`] fills, in a vector of as many as there are voxels, as [`Grid::begin`] and [`written`] take them.
+///
+/// Checks: 1.
+///
+/// ```
+/// use wattlerugby::{practice_values, Refusal, Sides};
+///
+/// let values = practice_values(Sides { a: 4, b: 3, c: 3 }, u32::MAX)?;
+/// assert_eq!((values.len(), values[16], values[19]), (36, 1_000, 1_000));
+/// assert_eq!(practice_values(Sides { a: 4, b: 3, c: 65 }, 0), Err(Refusal::SIDE));
+/// # Ok::<(), Refusal>(())
+/// ```
+pub fn practice_values(sides: Sides, seed: u32) -> Result<Vec<i32>, Refusal> {
+    let mut values = vec![0; sides.voxels().unwrap_or(0)];
+    practice(sides, seed, &mut values)?;
+    Ok(values)
 }
 
 /// The test of a block: bit (dx + 1) + 3 (dy + 1) + 9 (dz + 1) of `kept` says whether the voxel at (dx, dy, dz) from the middle is kept.

@@ -125,6 +125,11 @@ pub struct WriteAnswer {
 }
 
 #[repr(C)]
+pub struct PracticeAnswer {
+    pub refusal: u8,
+}
+
+#[repr(C)]
 #[derive(Clone, Copy, Debug, PartialEq, Eq)]
 pub struct LocalAnswer {
     pub k: u32,
@@ -257,6 +262,8 @@ extern "C" {
         file: *mut u8,
         file_len: usize,
     ) -> WriteAnswer;
+
+    pub fn wattlerugby_practice(sides: Sides, seed: u32, values: *mut i32, values_len: usize) -> PracticeAnswer;
 
     #[link_name = "wattlerugby_local_test_9"]
     pub fn wattlerugby_local_test(kept: u32) -> LocalAnswer;

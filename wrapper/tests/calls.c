@@ -1,6 +1,6 @@
 /* Every call on a state from C, on document 01's case C, with each answer printed: a ring of eight voxels around an empty one, and one
- * opening allowed. Then marks, a coarse start, removal lists, faces, a file out and in, patches to it, layers of both widths, and what the header
- * says of null pointers, padding and numbers. The status is 0 where all of that holds. */
+ * opening allowed. Then marks, a coarse start, removal lists, faces, a file out and in, patches to it, layers of both widths, practice grids, and what
+ * the header says of null pointers, padding and numbers. The status is 0 where all of that holds. */
 #include <stdio.h>
 #include <string.h>
 
@@ -733,6 +733,50 @@ static int widths(void)
     return wrong;
 }
 
+/* ---- practice grids: 5 x 4 x 3 voxels, beside the header's rule in C, with one element behind them */
+
+enum { OF_P = 60 };
+
+static int practice_one(wattlerugby_sides sides, uint32_t seed, size_t lent)
+{
+    int32_t values[OF_P + 1];
+    uint32_t s = seed;
+    size_t i;
+    int wrong = 0;
+    wattlerugby_practice_answer r;
+    for (i = 0; i <= OF_P; i++)
+        values[i] = 7;
+    r = wattlerugby_practice(sides, seed, values, lent);
+    printf("practice %u: refused %u, voxels 25 to 29 are", (unsigned)seed, r.refusal);
+    for (i = 25; i < 30; i++)
+        printf(" %d", (int)values[i]);
+    printf("\n");
+    for (i = 0; i < OF_P && r.refusal == 0; i++) {
+        const size_t x = i % 5, y = i / 5 % 4, z = i / 20;
+        s += 0x9E3779B9u;
+        if (x == 0 || x == 4 || y == 0 || y == 3 || z == 0 || z == 2)
+            wrong += values[i] != 1000;
+        else
+            wrong += values[i] != (int32_t)((s ^ (s >> 16)) % 2001) - 1000;
+    }
+    for (i = r.refusal == 0 ? OF_P : 0; i <= OF_P; i++)
+        wrong += values[i] != 7;
+    return wrong;
+}
+
+static int practice(void)
+{
+    static const uint32_t seeds[] = {0, 1, 2026, 0x7FFFFFFF, 0x80000000, UINT32_MAX};
+    const wattlerugby_sides sides = {5, 4, 3}, unfit = {5, 4, 2};
+    size_t i;
+    int wrong = 0;
+    for (i = 0; i < sizeof seeds / sizeof seeds[0]; i++)
+        wrong += practice_one(sides, seeds[i], OF_P);
+    wrong += practice_one(unfit, 1, OF_P) + practice_one(sides, 1, OF_P - 1) + practice_one(sides, 1, OF_P + 1);
+    printf("practice: %s\n", wrong ? "WRONG" : "as the header says, and a refusal writes nothing");
+    return wrong;
+}
+
 /* ---- null pointers with length 0 */
 
 static int nulls(void)
@@ -774,6 +818,8 @@ static int nulls(void)
     wrong += wattlerugby_write(unfit, 0, NULL, 0, NULL, 0).refusal != WATTLERUGBY_SIDE;
     wrong += wattlerugby_write(fit, 0, NULL, 0, NULL, 0).refusal != WATTLERUGBY_LENGTH;
     wrong += wattlerugby_write(fit, 0, values, 27, NULL, 0).refusal != WATTLERUGBY_ROOM;
+    wrong += wattlerugby_practice(unfit, 1, NULL, 0).refusal != WATTLERUGBY_SIDE;
+    wrong += wattlerugby_practice(fit, 1, NULL, 0).refusal != WATTLERUGBY_LENGTH;
     r.finished = 1;
     filled = wattlerugby_points(r, dist, 27, status, 27, 5, NULL, 0);
     wrong += filled.refusal != 0 || filled.count != 0 || filled.next != 5;
@@ -1065,6 +1111,6 @@ int main(int argc, char **argv)
         lengths();
         return 0;
     }
-    return ring() + marks() + coarse() + lists() + faces() + files() + patches() + order() + widths() + nulls() + padding() +
-           finished_bytes();
+    return ring() + marks() + coarse() + lists() + faces() + files() + patches() + order() + widths() + practice() + nulls() +
+           padding() + finished_bytes();
 }

@@ -148,6 +148,17 @@ fn judge_and_its_counts() {
     assert_eq!((status, status[44]), (before, 3));
 }
 
+/// The struct has its number alone.
+#[test]
+fn practice_and_its_number() {
+    let mut values = [7i32; N];
+    // SAFETY: the pointer is that of a live array, of which no more is lent than there is.
+    let mut practice = |sides: Sides, lent: usize| unsafe { wattlerugby_practice(sides, 0x8000_0001, values.as_mut_ptr(), lent) }.refusal;
+    assert_eq!([practice(Sides { c: 2, ..SIDES }, N), practice(SIDES, N - 1), practice(SIDES, 0), practice(SIDES, N)], [1, 2, 2, 0]);
+    let border = |i: usize| [i % 3, i / 3 % 4, i / 12].iter().zip([2, 3, 4]).any(|(&at, last)| at == 0 || at == last);
+    assert!((0..N).all(|i| border(i) == (values[i] == 1_000)));
+}
+
 #[test]
 fn a_point_has_three_coordinates() {
     let (mut values, mut dist, mut status) = ([7i32; N], [0i32; N], [0u8; N]);

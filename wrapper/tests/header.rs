@@ -77,14 +77,15 @@ fn sizes_and_offsets() {
     lay_out!(ours, "read_answer", ReadAnswer, refusal sides allowed);
     lay_out!(ours, "read_layer_answer", ReadLayerAnswer, refusal z width from to);
     lay_out!(ours, "write_answer", WriteAnswer, refusal length);
+    lay_out!(ours, "practice_answer", PracticeAnswer, refusal);
     lay_out!(ours, "local_answer", LocalAnswer, k m corners edges faces face);
     for header in printed_by_each(&root().join("wrapper/tests/layout.c"), "layout", &[]) {
         assert_eq!(header.lines().collect::<Vec<_>>(), ours);
     }
 }
 
-/// Each call's answers, marks, a coarse start, removal lists, faces, a file out and in, patches, layers out of order, both widths, null pointers,
-/// padding.
+/// Each call's answers, marks, a coarse start, removal lists, faces, a file out and in, patches, layers out of order, both widths, practice grids, null
+/// pointers, padding.
 #[test]
 fn calls() {
     let source = root().join("wrapper/tests/calls.c");

@@ -80,6 +80,8 @@ int main(void)
     STRUCT(write_answer);
     FIELD(write_answer, refusal);
     FIELD(write_answer, length);
+    STRUCT(practice_answer);
+    FIELD(practice_answer, refusal);
     STRUCT(local_answer);
     FIELD(local_answer, k);
     FIELD(local_answer, m);

@@ -3,8 +3,8 @@
 use crate::words::{hash, Words};
 use wattlerugby::raw::{Record, NO_FACE};
 use wattlerugby::{
-    begin, begin_coarse, carve, crossing, finish, judge, local_test, open, points, read, read_layer, take, write, Face, Grid, Refusal,
-    Sides,
+    begin, begin_coarse, carve, crossing, finish, judge, local_test, open, points, practice, read, read_layer, take, write, Face, Grid,
+    Refusal, Sides,
 };
 
 pub struct State {
@@ -74,6 +74,7 @@ impl State {
                 let said = match command {
                     "points" => self.points(words)?,
                     "write" => self.write(words)?,
+                    "practice" => self.practice(words)?,
                     _ => match self.call(command, words)? {
                         Ok(text) => format!("{command} ok {text}"),
                         Err(Refusal(number)) => format!("{command} refused {number}"),
@@ -166,6 +167,14 @@ impl State {
                 format!("write ok length {length} buffer {told}")
             }
             Err(Refusal(number)) => format!("write refused {number} buffer {told}"),
+        })
+    }
+
+    /// Nothing is answered but that it is done.
+    fn practice(&mut self, words: &mut Words) -> Result<String, String> {
+        Ok(match practice(self.sides, words.number()?, &mut self.values) {
+            Ok(()) => "practice ok".to_string(),
+            Err(Refusal(number)) => format!("practice refused {number}"),
         })
     }
 
