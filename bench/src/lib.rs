@@ -11,6 +11,7 @@ pub mod lists;
 pub mod local;
 pub mod neighbourhood;
 pub mod plain;
+pub mod practice;
 pub mod race;
 pub mod stack;
 pub mod tuned;

@@ -8,6 +8,7 @@ mod judging;
 mod locals;
 mod marks;
 mod patches;
+mod practising;
 mod singles;
 mod stacks;
 mod starts;
@@ -32,9 +33,9 @@ const GRIDS: [Sides; 5] = [
 const LARGEST: Sides = GRIDS[3];
 
 /// The words that choose parts.
-const WORDS: [&str; 15] = [
-    "begin", "gaps", "marks", "coarse", "carve", "turns", "whole", "judge", "single", "read", "write", "patches", "crafted", "local",
-    "stack",
+const WORDS: [&str; 16] = [
+    "begin", "gaps", "marks", "coarse", "carve", "turns", "whole", "judge", "practice", "single", "read", "write", "patches", "crafted",
+    "local", "stack",
 ];
 
 /// T of every grid, so that a noise grid's turns come to an end.
@@ -297,6 +298,9 @@ fn once(word: &str, shape: &str, side: &str, before: bool) {
     if word == "judge" {
         return judging::once(shape, sides, before);
     }
+    if word == "practice" {
+        return practising::once(sides, before);
+    }
     let calls = &ALL[if before { BEFORE } else { 0 }];
     if let Some(distances) = Distances::ALL.into_iter().find(|d| word == "crafted" && d.name() == shape) {
         let (mut state, mut log) = (crafted(sides, distances), Log::default());
@@ -377,6 +381,9 @@ fn main() {
     }
     if wanted("judge") {
         demands.extend(judging::measure());
+    }
+    if wanted("practice") {
+        demands.extend(practising::measure());
     }
     if wanted("single") {
         for word in ["check", "open", "finish", "points", "read", "write"] {

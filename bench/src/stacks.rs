@@ -9,10 +9,11 @@ use bench::coarse::{ours as begin_coarse, Blocks};
 use bench::contest::{Case, State};
 use bench::grids::{bordered, Marks, Shape};
 use bench::lists::{ours as judge, own};
+use bench::practice::ours as practice;
 use bench::stack::{used, LEAST};
 use std::hint::black_box;
 
-const CALLS: [&str; 13] = [
+const CALLS: [&str; 14] = [
     "begin",
     "begin coarse",
     "carve",
@@ -25,6 +26,7 @@ const CALLS: [&str; 13] = [
     "read",
     "read_layer",
     "write",
+    "practice",
     "local test",
 ];
 
@@ -35,7 +37,7 @@ pub fn measure() -> f64 {
     for sides in GRIDS {
         // each is the most of the torus with no voxel marked, with every voxel hurried and with some pinned
         let marked = Marks::ALL.map(|marks| on(&Scene::of(Case { marks: marks.of(sides), ..case(sides, Shape::Torus) })));
-        let mut found: [usize; 13] = std::array::from_fn(|call| marked.iter().map(|found| found[call]).max().unwrap_or(0));
+        let mut found: [usize; 14] = std::array::from_fn(|call| marked.iter().map(|found| found[call]).max().unwrap_or(0));
         // begin's is the most of the torus and of what is full of gaps
         found[0] = Shape::GAPS.into_iter().map(|shape| of_begin(&case(sides, shape))).fold(found[0], usize::max);
         let cells = found.map(|bytes| if bytes == LEAST { format!("under {bytes}") } else { bytes.to_string() });
@@ -58,7 +60,7 @@ fn of_begin_coarse(case: &Case) -> usize {
 }
 
 /// In the order of `CALLS`.
-fn on(scene: &Scene) -> [usize; 13] {
+fn on(scene: &Scene) -> [usize; 14] {
     let ours = &archives()[0];
     let (calls, others, case) = (&ours.calls, &ours.others, &scene.case);
     let done = &scene.finished;
@@ -86,6 +88,7 @@ fn on(scene: &Scene) -> [usize; 13] {
         used(|| assert_eq!((others.read)(&scene.patched, &mut values).refusal, 0)),
         used(|| assert_eq!(read_layer(case.sides, &scene.file, 7).refusal, 0)),
         used(|| assert_eq!(write(case.sides, case.allowed, &case.values, &mut file).length, scene.file.len())),
+        used(|| assert_eq!(practice(case.sides, 1, &mut values.wide), Ok(()))),
         used(|| _ = black_box(local_test(black_box(0x07BE_8BEF)))),
     ]
 }

@@ -11,6 +11,7 @@ use crate::local::searched::{both, by_cells, by_frontiers, touched};
 use crate::local::{bare_face, joined, passes, ranked, Whole};
 use crate::neighbourhood::{gather, kept_bits};
 use crate::plain::{filled, Plain};
+use crate::practice;
 use crate::race::{median, race, Contestant};
 use crate::tuned::Tuned;
 use crate::types::{
@@ -635,6 +636,27 @@ fn lists_and_their_judges() {
         }
     }
     assert_eq!(met, BTreeSet::from([None, Some(5), Some(21), Some(32), Some(33)]));
+}
+
+/// Ours, both in Rust and the reference's, on sides that are fit or not, and lengths that are right or not.
+#[test]
+fn practice_grids() {
+    let (mut random, mut met) = (Random(12), BTreeSet::new());
+    for _ in 0..500 {
+        let mut side = || if random.below(12) == 0 { 2 + 63 * random.below(2) as usize } else { 3 + random.below(10) as usize };
+        let sides = Sides { a: side(), b: side(), c: side() };
+        let (seed, more) = (random.word() as u32, [0, 0, 0, 0, 1, -1][random.below(6) as usize]);
+        let lent = vec![7; size(sides).strict_add_signed(more)];
+        let mut theirs = lent.clone();
+        let [a, b, c] = [sides.a, sides.b, sides.c].map(|side| side as u64);
+        let wanted = reference::practice::practice(&grid::Sides { a, b, c }, seed, &mut theirs);
+        for practice in [practice::ours, practice::plain, practice::tuned] {
+            let mut values = lent.clone();
+            assert!(practice(sides, seed, &mut values) == wanted && values == theirs, "{sides:?} {seed}");
+        }
+        met.insert(wanted.err());
+    }
+    assert_eq!(met, BTreeSet::from([None, Some(1), Some(2)]));
 }
 
 /// Values of which none, some or all need more than 16 bits; in some grids one is at the edge of a range, or out of it.

@@ -4,6 +4,7 @@ use crate::help::{overview, Command, COMMANDS};
 use crate::Failure;
 use std::ffi::{OsStr, OsString};
 use std::path::{Path, PathBuf};
+use wattlerugby::Sides;
 
 pub enum Request {
     Help(String),
@@ -95,6 +96,22 @@ impl Args {
     /// T as `--openings` says.
     pub fn openings(&self) -> Result<Option<u16>, Failure> {
         Ok(self.number("--openings", 0, usize::from(u16::MAX))?.map(|openings| openings as u16))
+    }
+
+    /// The sides that `--sides` names.
+    pub fn sides(&self) -> Result<Option<Sides>, Failure> {
+        let Some(word) = self.value("--sides") else { return Ok(None) };
+        let numbers: Result<Vec<usize>, _> = word.split(',').map(str::parse).collect();
+        let fit = match numbers.as_deref() {
+            Ok(&[a, b, c]) => Some(Sides { a, b, c }).filter(|sides| sides.voxels().is_some()),
+            _ => None,
+        };
+        fit.map(Some).ok_or_else(|| Failure::unusable(format!("--sides takes A,B,C, three numbers from 3 to 64, not {word}")))
+    }
+
+    /// The seed that `--seed` names.
+    pub fn seed(&self) -> Result<Option<u32>, Failure> {
+        Ok(self.number("--seed", 0, u32::MAX as usize)?.map(|seed| seed as u32))
     }
 
     /// Which of two formats is wanted: by an option, otherwise by the output's ending, otherwise the first. An ending that is neither is

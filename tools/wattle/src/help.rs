@@ -3,6 +3,7 @@
 /// How many files a command takes.
 #[derive(Clone, Copy, PartialEq, Eq)]
 pub enum Files {
+    None,
     One,
     OneOrNone,
     Two,
@@ -12,6 +13,7 @@ pub enum Files {
 impl Files {
     pub fn fits(self, given: usize) -> bool {
         match self {
+            Files::None => given == 0,
             Files::One => given == 1,
             Files::OneOrNone => given <= 1,
             Files::Two => given == 2,
@@ -23,6 +25,7 @@ impl Files {
 impl std::fmt::Display for Files {
     fn fmt(&self, f: &mut std::fmt::Formatter<'_>) -> std::fmt::Result {
         f.write_str(match self {
+            Files::None => "no file",
             Files::One => "one file",
             Files::OneOrNone => "one file or none",
             Files::Two => "two files",
@@ -329,6 +332,27 @@ is wrong gets one line, and nothing is written. What carving makes of the grid i
         ),
     },
     Command {
+        name: "practice",
+        files: Files::None,
+        options: &["--sides=", "--seed=", "--openings="],
+        help: concat!(
+            "wattle practice --sides A,B,C --seed N [--openings N] [-o OUT]
+
+The grid file of a practice grid, for a training course (docs/COURSE.md): values by rule alone, so that the same words give the same file on
+every instrument. A voxel on the grid's edge has 1000, any other a number from -1000 to 1000. Where none is negative, the grid is refused 4:
+take another seed.
+
+  --sides A,B,C   the grid's sides, 3 to 64 voxels each
+  --seed N        0 to 4294967295
+",
+            openings!(),
+            "                  Without it T is 0
+
+    wattle practice --sides 9,9,9 --seed 1 | wattle carve -
+"
+        ),
+    },
+    Command {
         name: "rewrite",
         files: Files::One,
         options: &["--sort", "--set=", "--openings="],
@@ -408,6 +432,7 @@ pub fn overview() -> String {
   wattle removals FILE   the removals that carving makes, as a list
   wattle judge FILE LIST whether a list of removals keeps the rules, and which entry breaks which
   wattle make FILE       a grid file from NRRD or CSV, or of a shape (--shape)
+  wattle practice        a grid file for training, the same from a seed on every instrument (--sides, --seed)
   wattle patch FILE      the file with single voxels corrected (--set)
   wattle rewrite FILE    the same grid in its written form: layers in rising z, no patches
   wattle carve FILE ..   the program's line, with an exit status
@@ -417,10 +442,10 @@ FILE may be -, the standard input; after --, every word is a file. With -o OUT t
 --force is given, and is never left half written; otherwise, or with -o -, it goes to the standard output. Sides may be 3 to 64 voxels.
 What takes long shows its progress on a terminal. Several files are shared out among the processor's cores.
 
-All but compare and patch take --openings N in place of the file's T, the number of openings allowed. All but compare, make, patch and
-rewrite take --pin VOXEL, which holds a voxel, --hurry VOXEL, which has it examined before all others unless it is pinned, and --coarse,
-which carves blocks of 2 x 2 x 2 voxels first; judge, which examines nothing, takes no --hurry. VOXEL is X,Y,Z, an index, or @LIST, a file
-with one voxel a line.
+All but compare and patch take --openings N in place of the file's T, the number of openings allowed. All but compare, make, practice,
+patch and rewrite take --pin VOXEL, which holds a voxel, --hurry VOXEL, which has it examined before all others unless it is pinned, and
+--coarse, which carves blocks of 2 x 2 x 2 voxels first; judge, which examines nothing, takes no --hurry. VOXEL is X,Y,Z, an index, or
+@LIST, a file with one voxel a line.
 
 Exit status: 0 done; 1 the grid, or judge's list, is refused (compare: the two differ); 2 usage, or a file cannot be read or written.
 ",

@@ -1,5 +1,5 @@
 //! wattle: looks at grid files and at the bodies that carving leaves of them, and makes, patches and rewrites grid files, for surveyors and
-//! for support; and makes and judges lists of removals, for two firms that carve the same grids.
+//! for support; makes and judges lists of removals, for two firms that carve the same grids; and makes practice grids, for those who train.
 //!
 //! Everything about carving comes from the proved library, by way of the wrapper; what is here reads files, words and draws.
 
@@ -31,6 +31,7 @@ mod patch;
 mod picture;
 mod png;
 mod points;
+mod practice;
 mod progress;
 mod removals;
 mod rewrite;
@@ -108,6 +109,7 @@ fn run(words: &[std::ffi::OsString]) -> Result<Status, Failure> {
         "removals" => removals::list(&args),
         "judge" => judge::judge(&args),
         "make" => make::make(&args),
+        "practice" => practice::practice(&args),
         "page" => page::page(&args),
         "patch" => patch::patch(&args),
         "rewrite" => rewrite::rewrite(&args),

@@ -32,7 +32,7 @@ pub fn make(args: &Args) -> Result<Answer, Failure> {
         (None, None) => return Err(Failure::unusable("make needs a file or --shape SHAPE; see `wattle help make`")),
         (Some(shape), None) => {
             only(args, OF_SHAPE, "a shape")?;
-            shapes::shape(args, shape, sides(args)?)?
+            shapes::shape(args, shape, args.sides()?)?
         }
         (None, Some(file)) => of_file(args, file)?,
     };
@@ -52,7 +52,7 @@ fn of_file(args: &Args, file: &Path) -> Result<Made, Failure> {
         return Err(told("this is a grid file already; `wattle rewrite` gives it its written form".to_string()));
     }
     only(args, OF_CSV, "CSV")?;
-    let sides = sides(args)?;
+    let sides = args.sides()?;
     csv::read(&source.bytes, sides, args.has("--sparse")).map_err(told)
 }
 
@@ -84,20 +84,9 @@ fn only(args: &Args, taken: &[&str], what: &str) -> Result<(), Failure> {
     all.map_or(Ok(()), |option| Err(Failure::unusable(format!("{option} is not for {what}; see `wattle help make`"))))
 }
 
-/// The sides that `--sides` names.
-fn sides(args: &Args) -> Result<Option<Sides>, Failure> {
-    let Some(word) = args.value("--sides") else { return Ok(None) };
-    let numbers: Result<Vec<usize>, _> = word.split(',').map(str::parse).collect();
-    let fit = match numbers.as_deref() {
-        Ok(&[a, b, c]) => fit(Sides { a, b, c }),
-        _ => None,
-    };
-    fit.map(Some).ok_or_else(|| Failure::unusable(format!("--sides takes A,B,C, three numbers from 3 to 64, not {word}")))
-}
-
 /// Sides that a grid can have.
 fn fit(sides: Sides) -> Option<Sides> {
-    [sides.a, sides.b, sides.c].iter().all(|side| (3..=64).contains(side)).then_some(sides)
+    Some(sides).filter(|sides| sides.voxels().is_some())
 }
 
 /// A value that a grid can have, the mark of a missing point among them.

@@ -13,6 +13,7 @@ mod many;
 mod marks;
 mod page;
 mod patch;
+mod practice;
 mod refusals;
 mod rewrite;
 mod samples;

@@ -82,13 +82,14 @@ fn pictures_are_what_their_titles_draw() {
         let picture = picture.split(')').next().expect("a split has a first part");
         let (file, title) = picture.split_once(" \"").unwrap_or_else(|| panic!("{picture} has no title"));
         let command = title.trim_end_matches('"');
-        assert!(command.starts_with("wattle look --png samples/"), "{command}");
+        let practised = command.starts_with("wattle practice --sides ") && command.ends_with(" | wattle look --png -");
+        assert!(practised || command.starts_with("wattle look --png samples/"), "{command}");
         let stored = std::fs::read(root().join(file)).unwrap_or_else(|e| panic!("{file} cannot be read: {e}"));
         assert!(stored == printed(command), "to be drawn anew: {command} -o {file} --force");
         seen += 1;
     }
     assert_eq!(seen, page.matches("![").count(), "every picture was looked at");
-    assert!(seen >= 11, "two sentences, six cases, and the torus three times");
+    assert!(seen >= 14, "two sentences, six cases, the torus three times, and three practice grids");
 }
 
 /// Ten questions, and to each an answer with a command that checks it.

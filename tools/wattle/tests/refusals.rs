@@ -495,7 +495,7 @@ fn the_standard_output_may_end_early() {
 #[test]
 fn help_names_every_command_and_option() {
     let overview = text(&wattle(&["help"]).stdout);
-    for command in ["look", "explain", "list", "points", "volume", "compare", "page", "make", "patch", "rewrite", "carve"] {
+    for command in ["look", "explain", "list", "points", "volume", "compare", "page", "make", "practice", "patch", "rewrite", "carve"] {
         assert!(overview.contains(&format!("  wattle {command} ")), "{overview}");
         let help = text(&wattle(&["help", command]).stdout);
         assert!(help.starts_with(&format!("wattle {command} ")), "{help}");
@@ -514,7 +514,7 @@ fn help_names_every_command_and_option() {
         let help = text(&wattle(&["help", command]).stdout);
         assert!(help.contains(&format!("\n  {option} ")), "{option} is not in {help}");
     }
-    for command in ["look", "explain", "list", "points", "volume", "page", "make", "rewrite", "carve"] {
+    for command in ["look", "explain", "list", "points", "volume", "page", "make", "practice", "rewrite", "carve"] {
         let help = text(&wattle(&["help", command]).stdout);
         assert!(help.contains(" [--openings N] ") && help.contains("\n  --openings N    allow N openings"), "{help}");
         assert!(help.lines().all(|line| line.chars().count() <= 140), "{help}");

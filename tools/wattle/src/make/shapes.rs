@@ -24,7 +24,7 @@ pub fn shape(args: &Args, shape: &str, sides: Option<Sides>) -> Result<Made, Fai
     }
     let noise = args.number("--noise", 0, 1000)?.unwrap_or(0) as i64;
     let missing = args.number("--missing", 0, 100)?.unwrap_or(0) as u64;
-    let mut random = Random(args.number("--seed", 0, u32::MAX as usize)?.unwrap_or(1) as u64);
+    let mut random = Random(args.seed()?.unwrap_or(1).into());
     let voxels = (0..sides.a * sides.b * sides.c).map(|i| [i % sides.a, i / sides.a % sides.b, i / (sides.a * sides.b)]);
     let values = voxels.map(|place| {
         // both are drawn for every voxel, so that one option does not change what the other does
