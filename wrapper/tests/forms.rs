@@ -175,8 +175,8 @@ const FORMS: [Form; 9] = [
         source.comes_to("crossing", "surface::crossing")
     }),
     ("add hex 9E3779B9 to s with wrapping at 32 bits", |source| {
-        let adds = source.function("practice::advanced")?.body.contains("wrapping_add_u32(s,0x9E3779B9)");
-        holds(adds, "the generator is not advanced by wrapping_add_u32")?;
+        let add = &source.function("practice::advanced")?.body;
+        holds(add.contains("wrapping_add_u32(s,0x9E3779B9)"), "advanced does not add by wrapping_add_u32")?;
         source.comes_to("practice", "practice::advanced")
     }),
     ("It reads the 27 voxels of a three by three by three block", |source| {
@@ -272,8 +272,8 @@ fn a_form_that_goes_is_missed() {
     let taken: [(&str, &str, &str, &str); 17] = [
         ("It answers either", "surface", "At(Point)", "At(f64, f64, f64)"),
         ("It answers either", "capi", "surface::crossing(", "surface::crossing_of("),
-        ("add hex 9E3779B9", "practice", "wrapping_add_u32(", "plain_add_u32("),
-        ("add hex 9E3779B9", "practice", "draw(values, seed);", ""),
+        ("add hex 9E3779B9", "practice", "wrapping_add_u32(s, 0x9E3779B9)", "(s as u64 + 0x9E3779B9) as u32"),
+        ("add hex 9E3779B9", "capi", "practice::practice(", "practice::filled("),
         ("It reads the 27", "local_test", "[[u8; 3]; 3]", "u32"),
         ("It reads the 27", "local_test", "ghost use mathlib.Core.Path", "pub fn of_bits() {}\nghost use mathlib.Core.Path"),
         ("It reads the 27", "capi", "local_test::local_test", "local_test::of_bits"),
