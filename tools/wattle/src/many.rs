@@ -4,7 +4,7 @@ use crate::args::Args;
 use crate::file::Source;
 use crate::json::{object, string};
 use crate::{Answer, Failure, Status};
-use std::path::{Path, PathBuf};
+use std::path::Path;
 use std::sync::atomic::{AtomicUsize, Ordering};
 
 /// What is said of a file, with notes for the standard error.
@@ -30,7 +30,9 @@ pub fn each(args: &Args, good: &str, say: impl Fn(Source) -> Result<Said, Failur
         return Ok(Answer::text(said.text, said.status));
     }
     let (mut text, mut counts, mut status) = (String::new(), [0; 3], Status::Done);
-    for (file, said) in args.files.iter().zip(shared_out(&args.files, say)) {
+    let named = |file: &Path| Source::open(file).map(|source| Source { name: full_name(file), ..source });
+    let all = shared_out(args.files.len(), |i| named(&args.files[i]).and_then(&say));
+    for (file, said) in args.files.iter().zip(all) {
         let name = full_name(file);
         let said = said.unwrap_or_else(|failure| failed(args, &name, failure));
         said.notes.iter().for_each(|note| eprintln!("wattle: note: {name}: {note}"));
@@ -61,19 +63,18 @@ fn failed(args: &Args, name: &str, failure: Failure) -> Said {
     Said::new(text, failure.status)
 }
 
-/// What is said of each file, in their order. A core takes the next file when it is done with one.
-fn shared_out(files: &[PathBuf], say: impl Fn(Source) -> Result<Said, Failure> + Sync) -> Vec<Result<Said, Failure>> {
+/// What is made of each number below a count, in their order, by all cores. A core takes the next number when it is done with one.
+pub fn shared_out<T: Send>(count: usize, make: impl Fn(usize) -> T + Sync) -> Vec<T> {
     let next = AtomicUsize::new(0);
     let work = || {
-        let take = || Some(next.fetch_add(1, Ordering::Relaxed)).filter(|&i| i < files.len());
-        let named = |file: &Path| Source::open(file).map(|source| Source { name: full_name(file), ..source });
-        std::iter::from_fn(take).map(|i| (i, named(&files[i]).and_then(&say))).collect::<Vec<_>>()
+        let take = || Some(next.fetch_add(1, Ordering::Relaxed)).filter(|&i| i < count);
+        std::iter::from_fn(take).map(|i| (i, make(i))).collect::<Vec<_>>()
     };
-    let cores = std::thread::available_parallelism().map_or(1, usize::from).min(files.len());
-    let mut said: Vec<_> = std::thread::scope(|scope| {
+    let cores = std::thread::available_parallelism().map_or(1, usize::from).min(count);
+    let mut made: Vec<_> = std::thread::scope(|scope| {
         let workers: Vec<_> = (0..cores).map(|_| scope.spawn(work)).collect();
-        workers.into_iter().flat_map(|worker| worker.join().expect("no file makes a worker panic")).collect()
+        workers.into_iter().flat_map(|worker| worker.join().expect("no grid makes a worker panic")).collect()
     });
-    said.sort_by_key(|(i, _)| *i);
-    said.into_iter().map(|(_, said)| said).collect()
+    made.sort_by_key(|(i, _)| *i);
+    made.into_iter().map(|(_, made)| made).collect()
 }
