@@ -1,6 +1,6 @@
 //! The command line, taken apart by the table in help.rs.
 
-use crate::help::{overview, Command, COMMANDS};
+use crate::help::{overview, Command, Files, COMMANDS};
 use crate::Failure;
 use std::ffi::{OsStr, OsString};
 use std::path::{Path, PathBuf};
@@ -14,6 +14,8 @@ pub enum Request {
 pub struct Args {
     pub command: &'static str,
     pub files: Vec<PathBuf>,
+    /// What stands behind the file, where the command takes more than files.
+    pub words: Vec<String>,
     pub output: Option<PathBuf>,
     /// Options with their words, empty where the option takes none.
     options: Vec<(&'static str, String)>,
@@ -35,7 +37,7 @@ impl Args {
     }
 
     fn of_command(command: &'static Command, words: &[OsString]) -> Result<Request, Failure> {
-        let mut args = Args { command: command.name, files: Vec::new(), output: None, options: Vec::new() };
+        let mut args = Args { command: command.name, files: Vec::new(), words: Vec::new(), output: None, options: Vec::new() };
         let mut words = words.iter();
         while let Some(word) = words.next() {
             let text = word.to_string_lossy();
@@ -52,6 +54,9 @@ impl Args {
         let (due, given) = (command.files, args.files.len());
         if !due.fits(given) {
             return Err(Failure::unusable(format!("{0} takes {due}, not {given}; see `wattle help {0}`", command.name)));
+        }
+        if due == Files::OneAndWords {
+            args.words = args.files.drain(1..).map(|word| word.to_string_lossy().into_owned()).collect();
         }
         Ok(Request::Run(args))
     }
@@ -86,11 +91,7 @@ impl Args {
 
     /// A number given with an option, within bounds.
     pub fn number(&self, option: &str, least: usize, most: usize) -> Result<Option<usize>, Failure> {
-        let Some(word) = self.value(option) else { return Ok(None) };
-        match word.parse() {
-            Ok(number) if (least..=most).contains(&number) => Ok(Some(number)),
-            _ => Err(Failure::unusable(format!("{option} takes a number from {least} to {most}, not {word}"))),
-        }
+        self.value(option).map(|word| number(option, word, least, most)).transpose()
     }
 
     /// T as `--openings` says.
@@ -146,6 +147,12 @@ impl Args {
         }
         Ok(())
     }
+}
+
+/// A number within bounds, by what it is given for.
+pub fn number(what: &str, word: &str, least: usize, most: usize) -> Result<usize, Failure> {
+    let wrong = || Failure::unusable(format!("{what} takes a number from {least} to {most}, not {word}"));
+    word.parse().ok().filter(|number| (least..=most).contains(number)).ok_or_else(wrong)
 }
 
 fn command(name: &OsStr) -> Result<&'static Command, Failure> {

@@ -8,6 +8,8 @@ pub enum Files {
     OneOrNone,
     Two,
     Several,
+    /// Words that name no file may stand behind it.
+    OneAndWords,
 }
 
 impl Files {
@@ -17,7 +19,7 @@ impl Files {
             Files::One => given == 1,
             Files::OneOrNone => given <= 1,
             Files::Two => given == 2,
-            Files::Several => given >= 1,
+            Files::Several | Files::OneAndWords => given >= 1,
         }
     }
 }
@@ -26,7 +28,7 @@ impl std::fmt::Display for Files {
     fn fmt(&self, f: &mut std::fmt::Formatter<'_>) -> std::fmt::Result {
         f.write_str(match self {
             Files::None => "no file",
-            Files::One => "one file",
+            Files::One | Files::OneAndWords => "one file",
             Files::OneOrNone => "one file or none",
             Files::Two => "two files",
             Files::Several => "one file or more",
@@ -237,6 +239,37 @@ the same, 1 where they differ, 2 where a file cannot be read as a grid.
 ",
     },
     Command {
+        name: "shaky",
+        files: Files::OneAndWords,
+        options: &["--all=", "--json", "--openings=", "--pin=", "--hurry=", "--coarse"],
+        help: concat!(
+            "wattle shaky FILE VOXEL E [--json] [--openings N] [--pin VOXEL ..] [--hurry VOXEL ..] [--coarse] [-o OUT]
+wattle shaky FILE --all E [--json] [--openings N] [--pin VOXEL ..] [--hurry VOXEL ..] [--coarse] [-o OUT]
+
+What one uncertain range point can do. The grid is carved with the value at VOXEL as it is, E lower and E higher. For each of the two it
+says how many voxels of the body differ, and which: those kept before are gone, the others new, and ten at most are named; and whether
+Euler number or openings differ. VOXEL is X,Y,Z or an index, measured and not negative. E is 1 to 1000000000, in the unit of the values. No
+value goes below 0, where it would be inside, nor above 1000000000, the greatest that a grid holds.
+
+It is proved that S, the inside, stays the same, and that no worked distance moves by more than E (theorem OneShakyShot). The body may
+change all the same, and by more than that voxel: its turn comes earlier or later, and what closes a hole may be left elsewhere. Where
+nothing is pinned, and nothing is left to open before and after, the body is the same, since it depends on S alone (ShakenSameBody).
+
+  --all E         try each voxel beside the inside, the others as they are: all that are measured, not negative, and share a face with a
+                  voxel measured negative. Says how many were tried, how many of them changed nothing of the body, and the ten worst, by
+                  how many voxels differ with the worse of their two values; of equals the smallest index comes first
+  --json          a line of JSON: what `wattle carve --json` gives, and the voxel, or the ten worst, with all voxels that differ
+",
+            openings!(),
+            marks!(),
+            coarse!(),
+            "
+    wattle shaky scan.grid 5,6,7 2
+    wattle shaky scan.grid --all 2
+"
+        ),
+    },
+    Command {
         name: "page",
         files: Files::One,
         options: &["--voxel=", "--origin=", "--openings=", "--pin=", "--hurry=", "--coarse"],
@@ -422,25 +455,26 @@ pub fn overview() -> String {
     format!(
         "wattle {}: looks at grid files and at the bodies carved from them
 
-  wattle look FILE       layers as text, or as a picture (--png)
-  wattle explain FILE .. why a file is refused, or what its result means
-  wattle list FILE       the voxels to go back to: filled, missing, opened, discarded
-  wattle points FILE     the surface's points: PLY, XYZ
-  wattle volume FILE     values, distances, status: VTK, NRRD
-  wattle compare A B     which voxels differ
-  wattle page FILE       a page to look at it in a browser, offline
-  wattle removals FILE   the removals that carving makes, as a list
-  wattle judge FILE LIST whether a list of removals keeps the rules, and which entry breaks which
-  wattle make FILE       a grid file from NRRD or CSV, or of a shape (--shape)
-  wattle practice        a grid file for training, the same from a seed on every instrument (--sides, --seed)
-  wattle patch FILE      the file with single voxels corrected (--set)
-  wattle rewrite FILE    the same grid in its written form: layers in rising z, no patches
-  wattle carve FILE ..   the program's line, with an exit status
-  wattle help COMMAND    more about a command
+  wattle look FILE          layers as text, or as a picture (--png)
+  wattle explain FILE ..    why a file is refused, or what its result means
+  wattle list FILE          the voxels to go back to: filled, missing, opened, discarded
+  wattle points FILE        the surface's points: PLY, XYZ
+  wattle volume FILE        values, distances, status: VTK, NRRD
+  wattle compare A B        which voxels differ
+  wattle shaky FILE VOXEL E what one uncertain range point can do to the body (--all E)
+  wattle page FILE          a page to look at it in a browser, offline
+  wattle removals FILE      the removals that carving makes, as a list
+  wattle judge FILE LIST    whether a list of removals keeps the rules, and which entry breaks which
+  wattle make FILE          a grid file from NRRD or CSV, or of a shape (--shape)
+  wattle practice           a grid file for training, the same from a seed on every instrument (--sides, --seed)
+  wattle patch FILE         the file with single voxels corrected (--set)
+  wattle rewrite FILE       the same grid in its written form: layers in rising z, no patches
+  wattle carve FILE ..      the program's line, with an exit status
+  wattle help COMMAND       more about a command
 
 FILE may be -, the standard input; after --, every word is a file. With -o OUT the answer goes to a file, which is not overwritten unless
 --force is given, and is never left half written; otherwise, or with -o -, it goes to the standard output. Sides may be 3 to 64 voxels.
-What takes long shows its progress on a terminal. Several files are shared out among the processor's cores.
+What takes long shows its progress on a terminal. Several files are shared out among the processor's cores, and so is what shaky tries.
 
 All but compare and patch take --openings N in place of the file's T, the number of openings allowed. All but compare, make, practice,
 patch and rewrite take --pin VOXEL, which holds a voxel, --hurry VOXEL, which has it examined before all others unless it is pinned, and

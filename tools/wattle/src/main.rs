@@ -35,6 +35,7 @@ mod practice;
 mod progress;
 mod removals;
 mod rewrite;
+mod shaky;
 mod start;
 mod volume;
 mod words;
@@ -105,6 +106,7 @@ fn run(words: &[std::ffi::OsString]) -> Result<Status, Failure> {
         "points" => points::points(&args),
         "volume" => volume::volume(&args),
         "compare" => compare::compare(&args),
+        "shaky" => shaky::shaky(&args),
         "list" => list::list(&args),
         "removals" => removals::list(&args),
         "judge" => judge::judge(&args),

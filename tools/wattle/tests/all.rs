@@ -17,6 +17,7 @@ mod practice;
 mod refusals;
 mod rewrite;
 mod samples;
+mod shaky;
 mod tunnels;
 
 /// A file that is no module would be compiled by nothing, and its tests would not be missed.

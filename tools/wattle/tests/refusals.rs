@@ -429,7 +429,7 @@ fn nothing_is_overwritten_unasked() {
     let folder = common::folder("overwrite");
     let (grid, out) = (folder.join("sphere.grid"), folder.join("out"));
     std::fs::copy(sample("sphere.grid"), &grid).unwrap();
-    for command in ["look", "explain", "points", "volume", "page", "patch --set 0=9", "rewrite", "carve", "list"] {
+    for command in ["look", "explain", "points", "volume", "page", "patch --set 0=9", "rewrite", "carve", "list", "shaky --all 1"] {
         let words: Vec<&str> = command.split(' ').chain([path(&grid)]).collect();
         std::fs::write(&out, "mine").unwrap();
         one_line(&[&words[..], &["-o", path(&out)]].concat(), 2, "--force overwrites it");
@@ -495,7 +495,9 @@ fn the_standard_output_may_end_early() {
 #[test]
 fn help_names_every_command_and_option() {
     let overview = text(&wattle(&["help"]).stdout);
-    for command in ["look", "explain", "list", "points", "volume", "compare", "page", "make", "practice", "patch", "rewrite", "carve"] {
+    for command in
+        ["look", "explain", "list", "points", "volume", "compare", "shaky", "page", "make", "practice", "patch", "rewrite", "carve"]
+    {
         assert!(overview.contains(&format!("  wattle {command} ")), "{overview}");
         let help = text(&wattle(&["help", command]).stdout);
         assert!(help.starts_with(&format!("wattle {command} ")), "{help}");
@@ -509,12 +511,13 @@ fn help_names_every_command_and_option() {
         ("rewrite", "--sort"),
         ("rewrite", "--set"),
         ("make", "--shape"),
+        ("shaky", "--all"),
         ("carve", "--large"),
     ] {
         let help = text(&wattle(&["help", command]).stdout);
         assert!(help.contains(&format!("\n  {option} ")), "{option} is not in {help}");
     }
-    for command in ["look", "explain", "list", "points", "volume", "page", "make", "practice", "rewrite", "carve"] {
+    for command in ["look", "explain", "list", "points", "volume", "shaky", "page", "make", "practice", "rewrite", "carve"] {
         let help = text(&wattle(&["help", command]).stdout);
         assert!(help.contains(" [--openings N] ") && help.contains("\n  --openings N    allow N openings"), "{help}");
         assert!(help.lines().all(|line| line.chars().count() <= 140), "{help}");
