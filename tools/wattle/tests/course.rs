@@ -39,7 +39,7 @@ fn commands(page: &str) -> Vec<(&str, Vec<&str>)> {
     found
 }
 
-/// Whether the lines are the answer's, where any number of them may be left out at a mark.
+/// Whether the lines are the answer's, where any number of them may be left out at a mark. How far a line is indented does not count.
 fn is_answer(due: &[&str], answer: &[&str]) -> bool {
     match due.split_first() {
         None => answer.is_empty(),
@@ -55,7 +55,11 @@ fn commands_print_what_stands_below_them() {
     assert!(commands.len() >= 20, "the page's commands are found");
     for (command, due) in commands {
         let answer = text(&printed(command));
-        assert!(is_answer(&due, &answer.lines().collect::<Vec<_>>()), "`{command}` prints\n{answer}and the page says\n{}", due.join("\n"));
+        assert!(
+            is_answer(&due, &answer.lines().map(str::trim_start).collect::<Vec<_>>()),
+            "`{command}` prints\n{answer}and the page says\n{}",
+            due.join("\n")
+        );
         assert!(due.iter().any(|line| *line != LEFT_OUT), "nothing stands below `{command}`");
     }
     assert!(is_answer(&["a", LEFT_OUT, "c"], &["a", "b", "c"]) && !is_answer(&["a", "c"], &["a", "b", "c"]), "the comparison tells");
@@ -89,7 +93,7 @@ fn pictures_are_what_their_titles_draw() {
         seen += 1;
     }
     assert_eq!(seen, page.matches("![").count(), "every picture was looked at");
-    assert!(seen >= 14, "two sentences, six cases, the torus three times, and three practice grids");
+    assert!(seen >= 15, "two sentences, seven cases, the torus three times, and three practice grids");
 }
 
 /// Ten questions, and to each an answer with a command that checks it.
