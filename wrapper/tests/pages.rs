@@ -63,6 +63,19 @@ fn below(folder: &Path) -> Vec<PathBuf> {
     listed(folder).into_iter().flat_map(|path| if path.is_dir() { below(&path) } else { vec![path] }).collect()
 }
 
+/// The tool names theorems to those who use it: each is on the page of proofs.
+#[test]
+fn every_theorem_that_the_tool_names_is_listed() {
+    let page = text(&root().join("docs/PROOFS.md"));
+    let sources: Vec<String> = below(&root().join("tools/wattle/src")).iter().map(|path| text(path)).collect();
+    let named: Vec<&str> = sources.iter().flat_map(|source| source.split("(theorem ").skip(1)).collect();
+    assert!(!named.is_empty(), "the tool names a theorem");
+    for rest in named {
+        let name = rest.split(|c: char| !c.is_alphanumeric()).next().expect("a first part");
+        assert!(page.contains(&format!("| `{name}` |")), "docs/PROOFS.md has no theorem {name}");
+    }
+}
+
 /// What the rules, the proofs, the code and the wrapper declare by a capital, and the names of the rules' files.
 fn capitals() -> HashSet<String> {
     const WORDS: [&str; 7] = ["abbrev", "unfoldable", "pub", "record", "data", "struct", "enum"];
