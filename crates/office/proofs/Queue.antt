@@ -4,7 +4,7 @@ use mathlib.Core.Logic.{_⊎_, inl, inr, _≢_}
 use mathlib.Core.Bool.{Bool, true, false, not, cond, _&&_, _||_}
 use mathlib.Core.List.{List, [], _∷_, _++_, append-assoc}
 use mathlib.Core.Option.{none, some}
-use Prim.Native.Nat.{ℕ, zero, suc, _≤_, _<_}
+use Prim.Native.Nat.{ℕ, suc, _≤_, _<_}
 use native.Mathlib.Omega.{arith}
 use lib.Dec.{leb, ltb, eqb}
 use lib.ListN.{length, length-append}
@@ -18,7 +18,8 @@ use Rattle.cells.proofs.Groups.{mem-none}
 use Rattle.cells.proofs.GroupsAre.{among-filter}
 use Rattle.cells.proofs.GroupsSize.{Distinct, distinct-append, append-distinct, distinct-filter, distinct-le}
 use Rattle.rules.specs.Grid.{range, isIn}
-use Rattle.rules.proofs.Inside.{isIn-mem, mem-isIn}
+use Rattle.rules.proofs.Foremost.{range-rising, filter-rising}
+use Rattle.rules.proofs.Inside.{rising-distinct, isIn-mem, mem-isIn}
 use Rattle.office.specs.Order.{namesTwice, unfitOrder, queue, firstWaiting, others, servedLast}
 
 -- ---- an order record that is fit: no place twice, and none past the last grid
@@ -107,11 +108,6 @@ module _ (n p : ℕ) (order : List ℕ) (fit : FitOrder n order) (h : p < n) whe
 
 -- ---- the queue holds every place once
 
-range-once : (k n : ℕ) → Distinct (range k n)
-unfolding range
-range-once k zero = tt
-range-once k (suc n) = (λ m. let h = range-mem (suc k) n k m in omega arith, range-once (suc k) n)
-
 module _ (n : ℕ) (order : List ℕ) where
   abbrev never : List ℕ
   never = filter (λ p. not (isIn order p)) (range 0 n)
@@ -129,7 +125,7 @@ module _ (n : ℕ) (order : List ℕ) where
   queue-fit fit =
       record {
         once =
-            distinct-append never order (distinct-filter (λ q. not (isIn order q)) (range 0 n) (range-once 0 n)) (fit .once)
+            distinct-append never order (rising-distinct never (filter-rising (λ q. not (isIn order q)) (range 0 n) (range-rising 0 n))) (fit .once)
             (λ p m. not-in order p (not-true (isIn order p) (filter-mem (λ q. not (isIn order q)) (range 0 n) p m .1)));
         below = λ p m. elim (mem-split p never order m) [
           | inl a ↦ omega (arith, range-mem 0 n p (filter-mem (λ q. not (isIn order q)) (range 0 n) p a .0) .1)
