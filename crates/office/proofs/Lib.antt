@@ -1,3 +1,5 @@
 pub mod Parts
 pub mod Queue
 pub mod Step
+pub mod Lists
+pub mod Starts

@@ -1,3 +1,4 @@
 pub mod Parts
 pub mod Order
 pub mod Serve
+pub mod Lists
