@@ -2,3 +2,5 @@ pub mod Parts
 pub mod Order
 pub mod Serve
 pub mod Lists
+pub mod Examples
+pub mod Wrong
