@@ -20,7 +20,7 @@ use Rattle.rules.specs.Marks.{markOf, marked, strayMark}
 use Rattle.rules.proofs.Places.{fit}
 use Rattle.rules.proofs.Rows.{size-high}
 use Rattle.rules.proofs.Unmarked.{marked-none}
-use Rattle.loops.specs.Joined.{BitTest}
+use Rattle.loops.specs.Joined.{BitTest, Joined}
 use Rattle.loops.proofs.Joining.{nonzero-test}
 use Rattle.marks.specs.Lent.{All, usedOf}
 
@@ -61,13 +61,17 @@ used-either all n = elim (two (eqb all 0)) [ inl e ↦ inr (eqb-true all 0 e, si
 pub few-sized : (marks : List ℕ) (s : Sides) → fitSides s ≡ true → length marks ≡ size s → length marks ≤ 262144
 few-sized marks s f e = omega (arith, size-high s (fit s f))
 
-module _ (marks : List ℕ) (all : ℕ) (h : All marks all) (few : length marks ≤ 262144) where
+module _ (marks : List ℕ) (all : ℕ) (j : Joined marks 0 (length marks) all) where
   joined-each : (p : ℕ → Bool) → BitTest p → p all ≡ any (λ i. p (getD marks i 0)) (range 0 (length marks))
-  joined-each p t = let e : length marks - 0 ≡ length marks = omega arith in h few .each p t ∙ ap (λ (n : ℕ). any (λ i. p (getD marks i 0)) (range 0 n)) e
+  joined-each p t = let e : length marks - 0 ≡ length marks = omega arith in j .each p t ∙ ap (λ (n : ℕ). any (λ i. p (getD marks i 0)) (range 0 n)) e
 
-  pub stray-is : ltb 3 all ≡ strayMark marks
+  pub joined-stray : ltb 3 all ≡ strayMark marks
   unfolding strayMark
-  stray-is = joined-each (ltb 3) over-test ∙ any-read (ltb 3) marks
+  joined-stray = joined-each (ltb 3) over-test ∙ any-read (ltb 3) marks
+
+module _ (marks : List ℕ) (all : ℕ) (h : All marks all) (few : length marks ≤ 262144) where
+  pub stray-is : ltb 3 all ≡ strayMark marks
+  stray-is = joined-stray marks all (h few)
 
   -- all are 0
   each-zero : all ≡ 0 → (i : ℕ) → markOf marks i ≡ 0
@@ -75,7 +79,7 @@ module _ (marks : List ℕ) (all : ℕ) (h : All marks all) (few : length marks 
       elim (two (ltb i (length marks))) [
         | inl l ↦
             eqb-true _ _ (not-false _ (none-below (λ i. not (eqb (getD marks i 0) 0)) (length marks)
-            (sym (joined-each (λ x. not (eqb x 0)) nonzero-test) ∙ ap (λ (x : ℕ). not (eqb x 0)) e) i (ltb-true i _ l)))
+            (sym (joined-each marks all (h few) (λ x. not (eqb x 0)) nonzero-test) ∙ ap (λ (x : ℕ). not (eqb x 0)) e) i (ltb-true i _ l)))
         | inr l ↦ List·getD-eq-default marks 0 (ltb-false i (length marks) l)
       ]
 

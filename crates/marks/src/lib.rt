@@ -2,7 +2,7 @@
 // all 0 hands on none of them, and then nothing is read.
 ghost use mathlib.Core.Path.{_≡_};
 ghost use Prim.Native.Nat.{_≤_};
-ghost use Rattle.rules.specs.Marks.{pinnedMark, hurriedMark, markOf, marked};
+ghost use Rattle.rules.specs.Marks.{pinnedMark, hurriedMark, markOf, marked, strayMark};
 ghost use Rattle.marks.specs.Lent.{All, usedOf};
 
 // The greatest number of voxels, 2^18.
@@ -52,6 +52,13 @@ pub fn all(marks: &[u8]) -> u8
         return 0;
     }
     loops::joined(marks, 0, marks.len())
+}
+
+// Number 29: whether a mark is over 3, of as many as there are.
+pub fn stray(marks: &[u8]) -> bool
+    ensures { λ r. ⌜ r ≡ strayMark (now (marks .entry)) ⌝ }
+{
+    3 < loops::joined(marks, 0, marks.len())
 }
 
 // How many of n marks a call hands on: none where all are 0.
