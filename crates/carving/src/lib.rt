@@ -4,7 +4,8 @@ ghost use Rattle.rules.specs.Answer.{outcome, buffers, carvedAnswer};
 ghost use Rattle.rules.specs.Machine as machine;
 ghost use Rattle.rules.specs.Machine.{state, mayGo, sooner, carved};
 ghost use Rattle.rules.specs.Marks.{marked};
-ghost use Rattle.rules.specs.Fit.{FitVoxels, Working};
+ghost use Rattle.rules.specs.Fit.{FitVoxels, Working, Marking};
+ghost use Rattle.marks.specs.Lent.{All};
 ghost use Rattle.examining.specs.Examining.{Tallied};
 use examining::Tally;
 use rules::Carved;
@@ -39,6 +40,24 @@ fn carve_fit(given: Record, dist: &[i32], marks: &[u8], status: &mut [u8], limit
     }
 }
 
+// Carve, of a grid that no check refuses: marks that are all 0 are not handed on.
+pub fn carve_checked(
+    given: Record,
+    dist: &[i32],
+    marks: &[u8],
+    status: &mut [u8],
+    all: u8,
+    limit: u32,
+) -> Carved
+    requires { ⌜ Marking (now marks) (state given (now dist) (now status)) × All (now marks) all ⌝ }
+    ensures { λ r. ⌜
+        outcome (carvedAnswer r) (buffers (now (dist .entry)) (now (status .exit)))
+        ≡ machine.carve (now (marks .entry)) limit (state given (now (dist .entry)) (now (status .entry))) ⌝ }
+{
+    let n = marks::used(all, marks.len());
+    carve_fit(given, dist, &marks[..n], status, limit)
+}
+
 // Examines pending voxels up to limit times, hurried ones first: one that passes and is not pinned is removed, and wakes those around it.
 pub fn carve(given: Record, dist: &[i32], marks: &[u8], status: &mut [u8], limit: u32) -> Carved
     ensures { λ r. ⌜
@@ -50,6 +69,5 @@ pub fn carve(given: Record, dist: &[i32], marks: &[u8], status: &mut [u8], limit
     if refusal != 0 {
         return Carved::Refused(refusal);
     }
-    let n = marks::used(all, marks.len());
-    carve_fit(given, dist, &marks[..n], status, limit)
+    carve_checked(given, dist, marks, status, all, limit)
 }
