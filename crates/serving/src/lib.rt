@@ -1,0 +1,118 @@
+// Serve, document 02's CR 14: the grid chosen is carved, in the parts of the lent buffers that are its own.
+ghost use mathlib.Core.Path.{_≡_};
+ghost use mathlib.Core.Option.{some};
+ghost use Rattle.rules.specs.Checks.{AllHold};
+ghost use Rattle.rules.specs.Answer.{outcome, carvedAnswer};
+ghost use Rattle.rules.specs.Machine.{state, carve};
+ghost use Rattle.rules.specs.Fit.{Marking};
+ghost use Rattle.office.specs.Serve as rule;
+ghost use Rattle.office.specs.Serve.{toServe, serveChecks, servedAnswer};
+ghost use Rattle.serving_checks.specs.Given.{officeOf};
+ghost use Rattle.serving.specs.Call.{kept, asStruct};
+ghost use Rattle.serving.specs.Part.{part, spliced, Within};
+use office::Grids;
+use office::Order;
+use office::Served;
+use rules::Carved;
+use rules::Record;
+
+// What serve hands back: its answer, and the order record after it.
+pub struct Turn {
+    pub answer: Served,
+    pub order: Order,
+}
+
+// Carves a grid whose parts of the buffers are those from .. to. Every other status byte stays.
+fn carve_part(
+    given: Record,
+    dist: &[i32],
+    status: &mut [u8],
+    marks: &[u8],
+    from: usize,
+    to: usize,
+    limit: u32,
+) -> Carved
+    requires { ⌜
+        Within from to (now dist) (now status) (now marks)
+        × Marking (part (now marks) from to) (state given (part (now dist) from to) (part (now status) from to)) ⌝ }
+    ensures { λ r. ⌜
+        outcome (carvedAnswer r) (now (status .exit))
+        ≡ spliced (now (status .entry)) from to (carve (part (now (marks .entry)) from to) limit
+        (state given (part (now (dist .entry)) from to) (part (now (status .entry)) from to))) ⌝ }
+{
+    let all = marks::all(&marks[from..to]);
+    carving::carve_checked(
+        given,
+        &dist[from..to],
+        &marks[from..to],
+        &mut status[from..to],
+        all,
+        limit,
+    )
+}
+
+// Carve's answer, with the place.
+fn placed(place: u8, c: Carved) -> Served
+    ensures { λ r. ⌜ servedAnswer r ≡ rule.placed place (carvedAnswer c) ⌝ }
+{
+    match c {
+        Carved::Done {
+            examined,
+            removed,
+            pending,
+            face,
+            next,
+        } => Served::Done {
+            place,
+            examined,
+            removed,
+            pending,
+            face,
+            next,
+        },
+        Carved::Refused(n) => Served::Refused(n),
+    }
+}
+
+// Serves the grid at p, that is chosen: it goes to the end of the order record.
+fn serve_at(
+    g: Grids,
+    o: Order,
+    limit: u32,
+    dist: &[i32],
+    status: &mut [u8],
+    marks: &[u8],
+    p: usize,
+) -> Turn
+    requires { ⌜
+        AllHold (serveChecks (now marks) limit (officeOf g o (now dist) (now status))) × (toServe (officeOf g o (now dist) (now status)) ≡ some p) ⌝ }
+    ensures { λ r. ⌜
+        outcome (servedAnswer (r .answer)) (kept (r .order) (now (dist .entry)) (now (status .exit)))
+        ≡ asStruct o (rule.serve (now (marks .entry)) limit (officeOf g o (now (dist .entry)) (now (status .entry)))) ⌝ }
+{
+    let from = serving_checks::start_of(g, p);
+    let to = serving_checks::start_of(g, p + 1);
+    let given = serving_checks::record_at(g, p);
+    let place = p as u8;
+    let order = order_record::served_last(o, place);
+    let answer = placed(
+        place,
+        carve_part(given, dist, status, marks, from, to, limit),
+    );
+    Turn { answer, order }
+}
+
+// Serves one grid with something pending: the lowest place never served, or else the one served longest ago. A refusal writes nothing.
+pub fn serve(g: Grids, o: Order, limit: u32, dist: &[i32], status: &mut [u8], marks: &[u8]) -> Turn
+    ensures { λ r. ⌜
+        outcome (servedAnswer (r .answer)) (kept (r .order) (now (dist .entry)) (now (status .exit)))
+        ≡ asStruct o (rule.serve (now (marks .entry)) limit (officeOf g o (now (dist .entry)) (now (status .entry)))) ⌝ }
+{
+    let found = choosing::look(g, o, limit, dist, status, marks);
+    let number = found.number;
+    if number != 0 {
+        let answer = Served::Refused(number);
+        return Turn { answer, order: o };
+    }
+    serve_at(g, o, limit, dist, status, marks, found.place)
+}
