@@ -5,5 +5,6 @@ pub mod Run
 pub mod Fitness
 pub mod Body
 pub mod Promises
+pub mod Starts
 pub mod Examples
 pub mod Wrong

@@ -8,6 +8,7 @@ use mathlib.Core.Option.{some}
 use Prim.Native.Nat.{ℕ, zero, suc, _<_}
 use native.Mathlib.Omega.{arith}
 use lib.Dec.{leb}
+use lib.IntN.{ℤ}
 use lib.ListN.{length, getD, getElem?, take, length-map}
 use borrow.Author.Tests.{eq-eqb, le-leb}
 use Rattle.cells.specs.Groups.{any, filter}
@@ -16,23 +17,25 @@ use Rattle.prelude.proofs.Lists.{false-any}
 use Rattle.prelude.proofs.Ranges.{none-below, below-none}
 use Rattle.cells.proofs.Groups.{mem-none}
 use Rattle.cells.proofs.GroupsAre.{mem-getD}
+use Rattle.rules.specs.declared.Sides.{Sides}
 use Rattle.rules.specs.declared.Record.{Record}
 use Rattle.rules.specs.Grid.{range, fitSides, size}
 use Rattle.rules.specs.Checks.{Check, _when_, unless, AllHold}
 use Rattle.rules.specs.Answer.{refused, Outcome, untouched}
 use Rattle.rules.specs.Marks.{marked}
 use Rattle.rules.specs.Machine.{State, after, lentTo, mayGo, sooner, unfit, stateChecks, markedChecks, theVoxel, carved, carve}
-use Rattle.rules.specs.Demand.{Call, carveUpTo, call, run, Promise, Demand, DemandAfter}
+use Rattle.rules.specs.Demand.{Call, carveUpTo, call, run, Demand, DemandAfter}
 use Rattle.rules.proofs.Checks.{by-checks, append-hold, unless-after}
 use Rattle.rules.proofs.Fit.{fit-state}
-use Rattle.rules.proofs.Demand.{FromStart, from-begin, demand-after}
+use Rattle.rules.proofs.Demand.{FromStart, demand-after}
 use Rattle.rules.proofs.NeverUnfit.{fit-after}
-use Rattle.coarse.proofs.Promises.{from-coarse}
+use Rattle.coarse.specs.Starts.{AcceptedGrid, plain, coarse, handedBy, Promised}
+use Rattle.coarse.proofs.Starts.{promised, of-handed}
 use Rattle.office.specs.Parts.{total, laid, partAt}
 use Rattle.office.specs.Order.{unfitOrder}
 use Rattle.office.specs.Serve.{Office, grids, sizes, noRecord, gridAt, waits, toServe, wrongLengths, serveChecks, Serving, Left, left}
 use Rattle.office.specs.Serve.{servedAt, serve, afterServe}
-use Rattle.office.specs.Lists.{Request, Service, afterAll, services, ofPlace, Start, plain, coarse, begun, Promised, officeOf, fresh}
+use Rattle.office.specs.Lists.{Request, Service, afterAll, services, ofPlace, Start, begun, officeOf, fresh}
 use Rattle.office.specs.Lists.{carvesOf, AsAlone, EachAsAlone, DemandOfEach, InRange, RefusedOnlyWhenQuiet}
 use Rattle.office.proofs.Parts.{cut-laid, length-laid}
 use Rattle.office.proofs.Queue.{FitOrder, order-fit, fit-served}
@@ -41,14 +44,9 @@ use Rattle.office.proofs.Lists.{done-refused, alone, sums-alone}
 
 -- ---- what every start promises, each of these does
 
-promised : (P : Promise) → FromStart P → (a : Start) → Promised P a
-unfolding begun
-promised P holds (plain s T values marks dist status r e) = from-begin P holds s T values marks dist status r e
-promised P holds (coarse s T values marks lent c e) = from-coarse P holds s T values marks lent c e
-
 of-begun : (P : State → Type 0) → FromStart (λ s T values marks start g. P g) → (a : Start) → P (begun a)
-of-begun P holds (plain s T values marks dist status r e) = promised (λ s T values marks start g. P g) holds (plain s T values marks dist status r e)
-of-begun P holds (coarse s T values marks lent c e) = promised (λ s T values marks start g. P g) holds (coarse s T values marks lent c e)
+unfolding begun
+of-begun P holds a = of-handed P holds (a .by)
 
 begun-holds : (a : Start) (calls : List Call) → AllHold (stateChecks (run calls (begun a) .end))
 begun-holds = of-begun (λ g. (calls : List Call) → AllHold (stateChecks (run calls g .end))) fit-after
@@ -102,17 +100,18 @@ each-as-alone starts calls x a e =
 
 -- ---- demand 3
 
-demand-begun : (calls : List Call) (a : Start)
-    → let after = run calls (begun a) in Promised (λ s T values marks start g. Demand s values marks start g calls (after .end) (after .answers)) a
-demand-begun calls (plain s T values marks dist status r e) = promised DemandAfter demand-after (plain s T values marks dist status r e) calls
-demand-begun calls (coarse s T values marks lent c e) = promised DemandAfter demand-after (coarse s T values marks lent c e) calls
+demand-handed : (calls : List Call) {s : Sides} {values : List ℤ} (a : AcceptedGrid s values)
+    → let after = run calls (handedBy a) in Promised (λ s T values marks start g. Demand s values marks start g calls (after .end) (after .answers)) a
+demand-handed calls (plain T marks dist status r e) = promised DemandAfter demand-after (plain T marks dist status r e) calls
+demand-handed calls (coarse T marks lent c e) = promised DemandAfter demand-after (coarse T marks lent c e) calls
 
 pub demand-of-each : DemandOfEach
+unfolding begun
 demand-of-each starts calls x a e =
     let o = fresh starts in
     let own = filter (ofPlace x) (services calls o) in
     let r = each-as-alone starts calls x a e in
-    rw (r .end, sums-alone own (begun a) (r .answers)) (demand-begun (carvesOf own) a)
+    rw (r .end, sums-alone own (begun a) (r .answers)) (demand-handed (carvesOf own) (a .by))
 
 -- ---- what a list of calls keeps
 

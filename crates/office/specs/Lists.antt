@@ -11,16 +11,11 @@ use lib.ListN.{length, getElem?, take}
 use lib.IntN.{ℤ}
 use Rattle.cells.specs.Groups.{any, filter}
 use Rattle.rules.specs.declared.Sides.{Sides}
-use Rattle.rules.specs.declared.Record.{Record}
 use Rattle.rules.specs.Answer.{Reply, refused, done, Carving}
-use Rattle.rules.specs.Fill.{filled}
-use Rattle.rules.specs.Begin.{inside, inBox, begin}
 use Rattle.rules.specs.Marks.{strayMark}
-use Rattle.rules.specs.Machine.{State, state, after, carve}
-use Rattle.rules.specs.Demand.{Call, carveUpTo, run, Sums, nothing, both, ofCarve, Promise, Demand}
-use Rattle.coarse.specs.Blocks.{splitBody}
-use Rattle.coarse.specs.Coarse.{FourBuffers, CoarseStart, beginCoarse}
-use Rattle.coarse.specs.Promises.{coarseState}
+use Rattle.rules.specs.Machine.{State, after, carve}
+use Rattle.rules.specs.Demand.{Call, carveUpTo, run, Sums, nothing, both, ofCarve, Demand}
+use Rattle.coarse.specs.Starts.{AcceptedGrid, handedBy, Promised}
 use Rattle.office.specs.Parts.{total, laid, partAt}
 use Rattle.office.specs.Serve.{Office, office, grids, sizes, gridAt, waits, Serving, left, serve, afterServe}
 
@@ -77,24 +72,15 @@ ServedInTime = (o : Office) (next : List Request) (x : ℕ) → x < grids o → 
 
 -- ---- freshly begun grids, by plain or coarse starts
 
--- a start that was not refused
-pub data Start : Type 0 where
-  plain : (s : Sides) (T : ℕ) (values : List ℤ) (marks : List ℕ) (dist : List ℤ) (status : List ℕ) (r : Record)
-      → begin s T values marks dist status .answer ≡ done r → Start
-  coarse : (s : Sides) (T : ℕ) (values : List ℤ) (marks : List ℕ) (lent : FourBuffers) (c : CoarseStart)
-      → beginCoarse s T values marks lent .answer ≡ done c → Start
+-- a grid that was accepted, with its sides and values
+pub record Start : Type 0 where
+  pub sides : Sides
+  pub values : List ℤ
+  pub by : AcceptedGrid sides values
 
 -- the grid as the start left it
 unfoldable pub begun : Start → State
-begun (plain s T values marks dist status r e) = let b = begin s T values marks dist status in state r (b .lent .dist) (b .lent .status)
-begun (coarse s T values marks lent c e) = coarseState (beginCoarse s T values marks lent .lent) c
-
--- what is promised of it: a plain start starts with the box, a coarse one with the kept blocks that it leaves, split again
-abbrev pub Promised : Promise → Start → Type 0
-Promised P (plain s T values marks dist status r e) =
-    let used = filled s values in P s T used marks (inBox s (inside s used)) (begun (plain s T values marks dist status r e))
-Promised P (coarse s T values marks lent c e) =
-    P s T (filled s values) marks (splitBody s (beginCoarse s T values marks lent .lent .blocks .status)) (begun (coarse s T values marks lent c e))
+begun a = handedBy (a .by)
 
 -- grids laid end to end, with an order record
 unfoldable pub officeOf : List ℕ → List State → Office
@@ -133,7 +119,7 @@ DemandOfEach =
     (starts : List Start) (calls : List Request) (x : ℕ) (a : Start) → getElem? starts x ≡ some a
     → let o = fresh starts in
     let own = filter (ofPlace x) (services calls o) in
-    Promised (λ s T values marks start begun. Demand s values marks start begun (carvesOf own) (gridAt (afterAll calls o) x) (sumsOf own)) a
+    Promised (λ s T values marks start begun. Demand s values marks start begun (carvesOf own) (gridAt (afterAll calls o) x) (sumsOf own)) (a .by)
 
 -- ---- who is refused
 

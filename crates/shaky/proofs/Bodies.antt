@@ -25,7 +25,8 @@ use Rattle.coarse.proofs.Examples.{coarse-rules}
 use Rattle.coarse.proofs.Promises.{coarse-fifteen-tells}
 use Rattle.judging.specs.Own.{PinNothing}
 use Rattle.judging.proofs.Closed.{fifteen-of-lists, coarse-fifteen-of-lists}
-use Rattle.shaky.specs.Shaky.{AcceptedGrid, plain, coarse, handedBy, away, DifferAt}
+use Rattle.coarse.specs.Starts.{AcceptedGrid, plain, coarse, handedBy}
+use Rattle.shaky.specs.Shaky.{away, DifferAt}
 use Rattle.shaky.specs.Bodies.{NothingToOpen, after-calls, after-list, ShakenSameBody, tube, OtherBodies}
 use Rattle.shaky.proofs.Shaky.{many-shaky-shots}
 

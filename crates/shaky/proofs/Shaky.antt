@@ -24,7 +24,8 @@ use Rattle.rules.proofs.Distance.{greatest-beside}
 use Rattle.rules.proofs.Demand.{by-begin}
 use Rattle.coarse.specs.Blocks.{halved, eight, lesser, leastFrom, leastOf, blockDistance, blockDistances}
 use Rattle.coarse.proofs.Promises.{coarse-body-is}
-use Rattle.shaky.specs.Shaky.{AcceptedGrid, plain, coarse, handedBy, away, OneShot, Shaken, Moved}
+use Rattle.coarse.specs.Starts.{AcceptedGrid, plain, coarse, handedBy}
+use Rattle.shaky.specs.Shaky.{away, OneShot, Shaken, Moved}
 use Rattle.shaky.specs.Shaky.{OneShakyShot, ManyShakyShots, ShakyBlocks}
 
 -- ---- values that are the same, or not negative and at most e apart

@@ -15,7 +15,7 @@ use Rattle.rules.specs.Marks.{noMarks}
 use Rattle.rules.specs.Demand.{carveUpTo, call, run}
 use Rattle.rules.specs.Cases.{sides}
 use Rattle.coarse.proofs.Examples.{coarse-rules}
-use Rattle.shaky.specs.Shaky.{AcceptedGrid, plain}
+use Rattle.coarse.specs.Starts.{AcceptedGrid, plain}
 use Rattle.shaky.specs.Bodies.{shotAt, pipe, tube}
 use Rattle.shaky.specs.Wrong.{beside, Reached, WrongClaims}
 use Rattle.shaky.proofs.Bodies.{set-differ, other-bodies}

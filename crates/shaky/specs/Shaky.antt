@@ -7,28 +7,14 @@ use mathlib.Core.List.{List}
 use Prim.Native.Nat.{ℕ, _≤_}
 use lib.IntN.{ℤ, natAbs, _-ℤ_}
 use Rattle.rules.specs.declared.Sides.{Sides}
-use Rattle.rules.specs.declared.Record.{Record}
 use Rattle.rules.specs.Grid.{measuredNonNegative, valueAt, distanceAt}
 use Rattle.rules.specs.Fill.{filled}
-use Rattle.rules.specs.Answer.{done}
-use Rattle.rules.specs.Begin.{inside, begin}
-use Rattle.rules.specs.Machine.{State, state}
-use Rattle.coarse.specs.Coarse.{FourBuffers, CoarseStart, beginCoarse}
-use Rattle.coarse.specs.Promises.{EveryCoarse, coarseState}
+use Rattle.rules.specs.Begin.{inside}
+use Rattle.rules.specs.Machine.{State}
+use Rattle.coarse.specs.Promises.{EveryCoarse}
+use Rattle.coarse.specs.Starts.{AcceptedGrid, handedBy}
 
 -- ---- "two accepted grids"
-
--- a call of begin, or of begin coarse, on these sides and values that is not refused, whatever T, the marks and what stood in the lent buffers
-pub data AcceptedGrid (s : Sides) (values : List ℤ) : Type 0 where
-  plain : (T : ℕ) (marks : List ℕ) (dist : List ℤ) (status : List ℕ) (r : Record)
-      → begin s T values marks dist status .answer ≡ done r → AcceptedGrid s values
-  coarse : (T : ℕ) (marks : List ℕ) (lent : FourBuffers) (c : CoarseStart)
-      → beginCoarse s T values marks lent .answer ≡ done c → AcceptedGrid s values
-
--- the state that it hands out
-abbrev pub handedBy : {s : Sides} {values : List ℤ} → AcceptedGrid s values → State
-handedBy {s} {values} (plain T marks dist status r e) = let l = begin s T values marks dist status .lent in state r (l .dist) (l .status)
-handedBy {s} {values} (coarse T marks lent c e) = coarseState (beginCoarse s T values marks lent .lent) c
 
 -- of two of the same sides, each with values of its own
 abbrev pub OfTwo : (Sides → List ℤ → List ℤ → State → State → Type 0) → Type 0
