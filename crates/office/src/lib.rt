@@ -8,6 +8,7 @@ pub struct Grids {
 }
 
 // The order record: the places served so far, the one last served longest ago first, of which len are there.
+#[repr(C)]
 pub struct Order {
     pub len: usize,
     pub places: [u8; 16],

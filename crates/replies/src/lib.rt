@@ -46,7 +46,7 @@ fn byte(t: bool) -> u8
     if t { 1 } else { 0 }
 }
 
-fn record_out(r: Record) -> CRecord
+pub fn record_out(r: Record) -> CRecord
     ensures { λ c. ⌜ c ≡ recordOut r ⌝ }
 {
     let s = r.sides;
@@ -62,7 +62,7 @@ fn record_out(r: Record) -> CRecord
 }
 
 // A record that every call refuses, as its sides are 0.
-fn no_record() -> CRecord
+pub fn no_record() -> CRecord
     ensures { λ r. ⌜ r ≡ noRecord ⌝ }
 {
     CRecord {
