@@ -1,6 +1,7 @@
 -- `order_record::served_last` meets its contract: the places that are not this one, in their order, and then it.
 use mathlib.Core.Path.{refl}
 use Prim.Native.Nat.{_-_, _<_}
+use native.Mathlib.Omega.{arith}
 use mathlib.Core.Logic.{⊎-elim}
 use borrow.Author.Needs.{needs}
 use Rattle.order_record.proofs.Places.{Shifting, shifting-start, shifting-out, shifting-on, shifted-few, shifted-is}
@@ -37,8 +38,9 @@ loop-again c =
     let l = i .before in
     let s = l .before in
     ⊎-elim
-    (λ w. rw (w .1, w .2) (shifting-on (s .args .t1) (s .args .place) _ _ _ _ (l .loop .inv) (i .loop-test .taken) refl (s .pre .0) (w .0 .taken)))
-    (λ w. rw (w .1, w .2) (shifting-out (s .args .t1) (s .args .place) _ _ _ _ (l .loop .inv) (i .loop-test .taken) refl (w .0 .left)))
+    (λ w. rw (w .1, w .2) (shifting-on (s .args .t1) (s .args .place) _ _ _ _ (l .loop .inv) (i .loop-test .taken) refl (s .pre .0)
+    (λ e. omega (arith, w .0 .taken))))
+    (λ w. rw (w .1, w .2) (shifting-out (s .args .t1) (s .args .place) _ _ _ _ (l .loop .inv) (i .loop-test .taken) refl (omega (arith, w .0 .left))))
     (c .if1 .came)
 
 -- there is room for the place
