@@ -27,9 +27,9 @@ use Rattle.order_record.specs.Places.{placesOf, packed}
 use Rattle.order_record.proofs.Places.{length-places}
 use Rattle.serving_checks.specs.Given.{sizesOf, officeOf, LaidOut}
 use Rattle.serving_checks.proofs.Places.{length-sizes, part-ordered, part-within, part-is, put-is, part-grid}
+use Rattle.part_carving.specs.Part.{part, spliced, Within}
 use Rattle.choosing.proofs.Checked.{grids-are, all-laid}
 use Rattle.serving.specs.Call.{Kept, kept, asStruct}
-use Rattle.serving.specs.Part.{part, spliced, Within}
 
 module _ (marks : List ℕ) (limit : ℕ) (g : Grids) (o : Order) (dist : List ℤ) (status : List ℕ) where
   abbrev O : Office

@@ -3,52 +3,19 @@ ghost use mathlib.Core.Path.{_≡_};
 ghost use mathlib.Core.Option.{some};
 ghost use Rattle.rules.specs.Checks.{AllHold};
 ghost use Rattle.rules.specs.Answer.{outcome, carvedAnswer};
-ghost use Rattle.rules.specs.Machine.{state, carve};
-ghost use Rattle.rules.specs.Fit.{Marking};
 ghost use Rattle.office.specs.Serve as rule;
 ghost use Rattle.office.specs.Serve.{toServe, serveChecks, servedAnswer};
 ghost use Rattle.serving_checks.specs.Given.{officeOf};
 ghost use Rattle.serving.specs.Call.{kept, asStruct};
-ghost use Rattle.serving.specs.Part.{part, spliced, Within};
 use office::Grids;
 use office::Order;
 use office::Served;
 use rules::Carved;
-use rules::Record;
 
 // What serve hands back: its answer, and the order record after it.
 pub struct Turn {
     pub answer: Served,
     pub order: Order,
-}
-
-// Carves a grid whose parts of the buffers are those from .. to. Every other status byte stays.
-fn carve_part(
-    given: Record,
-    dist: &[i32],
-    status: &mut [u8],
-    marks: &[u8],
-    from: usize,
-    to: usize,
-    limit: u32,
-) -> Carved
-    requires { ⌜
-        Within from to (now dist) (now status) (now marks)
-        × Marking (part (now marks) from to) (state given (part (now dist) from to) (part (now status) from to)) ⌝ }
-    ensures { λ r. ⌜
-        outcome (carvedAnswer r) (now (status .exit))
-        ≡ spliced (now (status .entry)) from to (carve (part (now (marks .entry)) from to) limit
-        (state given (part (now (dist .entry)) from to) (part (now (status .entry)) from to))) ⌝ }
-{
-    let all = marks::all(&marks[from..to]);
-    carving::carve_checked(
-        given,
-        &dist[from..to],
-        &marks[from..to],
-        &mut status[from..to],
-        all,
-        limit,
-    )
 }
 
 // Carve's answer, with the place.
@@ -97,7 +64,7 @@ fn serve_at(
     let order = order_record::served_last(o, place);
     let answer = placed(
         place,
-        carve_part(given, dist, status, marks, from, to, limit),
+        part_carving::carve(given, dist, marks, status, from, to, limit),
     );
     Turn { answer, order }
 }

@@ -25,8 +25,8 @@ cast-place c = let r = is-ready (c .before .before .before .before .before) in s
 served-last-requires : tie.Need-served-last-requires
 served-last-requires c κs = let r = is-ready (c .before .before .before .before .before) in search needs
 
-carve-part-requires : tie.Need-carve-part-requires
-carve-part-requires c κs =
+carve-requires : tie.Need-carve-requires
+carve-requires c κs =
     let g = c .before .before in
     let t = g .before in
     let f = t .before in
@@ -54,7 +54,7 @@ returns c =
     let s = f .before .before .before in
     let a = s .args in
     served-is (a .marks .now) (a .limit) (a .g) (a .o) (a .dist .now) (a .status .now) (a .p) (is-ready s) _ _ (f .start-of .ensures) (t .start-of2 .ensures) _
-    (g .record-at .ensures) _ _ _ _ (c .placed .ensures) (l .served-last .ensures) (v .carve-part .ensures)
+    (g .record-at .ensures) _ _ _ _ (c .placed .ensures) (l .served-last .ensures) (v .carve .ensures)
 
 pub serve-at-spec : {M : Type 1} → statement M
 serve-at-spec =
@@ -66,7 +66,7 @@ serve-at-spec =
     record-at-requires
     cast-place
     served-last-requires
-    carve-part-requires
+    carve-requires
     placed-requires
     same-length
     returns)

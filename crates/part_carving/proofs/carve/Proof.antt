@@ -1,9 +1,9 @@
--- `serving::carve_part` meets its contract: carve's equation of the parts, with the bytes around them.
+-- `part_carving::carve` meets its contract: carve's equation of the parts, with the bytes around them.
 use mathlib.Core.Path.{ap}
 use borrow.Author.Needs.{needs}
-use Rattle.serving.specs.Part.{spliced}
-use Rattle.serving.proofs.carve_part.Statement.{statement}
-use Rattle.serving.proofs.carve_part.Tie as tie
+use Rattle.part_carving.specs.Part.{spliced}
+use Rattle.part_carving.proofs.carve.Statement.{statement}
+use Rattle.part_carving.proofs.carve.Tie as tie
 
 returns : tie.Need-returns
 returns c =
@@ -11,8 +11,8 @@ returns c =
     let a = f .before .before .before .before .before .before .before .before .args in
     ap (spliced (a .status .now) (a .from) (a .to)) (f .carve-checked .ensures)
 
-pub carve-part-spec : {M : Type 1} → statement M
-carve-part-spec =
+pub carve-spec : {M : Type 1} → statement M
+carve-spec =
     tie.close
     (tie.spec
     (λ c. search needs)

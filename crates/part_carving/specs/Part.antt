@@ -1,4 +1,4 @@
--- A carve in parts of the lent buffers.
+-- A carve in parts of longer buffers.
 use mathlib.Core.List.{List, _++_}
 use Prim.Native.Nat.{ℕ, _-_, _≤_}
 use lib.IntN.{ℤ}
