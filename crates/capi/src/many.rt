@@ -2,7 +2,7 @@
 ghost use mathlib.Core.Path.{_≡_};
 ghost use Rattle.rules.specs.Answer.{buffers};
 ghost use Rattle.office.specs.Serve.{serve};
-ghost use Rattle.serving_checks.specs.Given.{officeOf};
+ghost use Rattle.serving_checks.specs.Given.{officeGiven};
 ghost use Rattle.replies.specs.Reply.{returned};
 ghost use Rattle.office_replies.specs.Serving.{gridsIn, servedOut};
 use office::Order;
@@ -19,7 +19,7 @@ pub extern "C" fn wattlerugby_serve(
     marks: &[u8],
 ) -> ServeAnswer
     ensures { λ r. ⌜ returned r (buffers (now (dist .entry)) (now (status .exit)))
-        ≡ servedOut order (serve (now (marks .entry)) limit (officeOf (gridsIn grids) order (now (dist .entry)) (now (status .entry)))) ⌝ }
+        ≡ servedOut order (serve (now (marks .entry)) limit (officeGiven (gridsIn grids) order (now (dist .entry)) (now (status .entry)))) ⌝ }
 {
     let g = office_replies::grids_in(grids);
     office_replies::serve_answer(serving::serve(g, order, limit, dist, status, marks))

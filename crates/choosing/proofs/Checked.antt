@@ -27,13 +27,13 @@ use Rattle.office.specs.Serve.{Office, grids, noRecord, gridAt, waits, toServe,
 use Rattle.office.proofs.Queue.{in-queue, first-mem, none-waits}
 use Rattle.order_record.specs.Places.{placesOf}
 use Rattle.order_record.proofs.Places.{length-listed, length-places, listed-at}
-use Rattle.serving_checks.specs.Given.{recordsOf, sizesOf, gridsOf, officeOf, LaidOut, layoutChecks, stateChecks, gridChecks}
+use Rattle.serving_checks.specs.Given.{recordsOf, sizesOf, gridsOf, officeGiven, LaidOut, layoutChecks, stateChecks, gridChecks}
 use Rattle.serving_checks.proofs.Numbers.{laid-out}
 use Rattle.choosing.specs.Choice.{Choosing, chosenAt}
 
 module _ (marks : List ℕ) (limit : ℕ) (g : Grids) (o : Order) (dist : List ℤ) (status : List ℕ) where
   abbrev O : Office
-  O = officeOf g o dist status
+  O = officeGiven g o dist status
 
   abbrev own : List Check
   own = gridChecks marks limit g o dist status
@@ -89,7 +89,7 @@ module _ (marks : List ℕ) (limit : ℕ) (g : Grids) (o : Order) (dist : List �
                 ∙ none-at (leb (g .count)) 0 (placesOf o) (past .1) k (omega (arith, length-places o)));
           }
 
-      module _ (place : ℕ) (c : toServe (officeOf g o [] status) ≡ chosenAt (g .count) place) where
+      module _ (place : ℕ) (c : toServe (officeGiven g o [] status) ≡ chosenAt (g .count) place) where
         -- the distances do not matter to it
         chosen : (t : Bool) → ltb place (g .count) ≡ t → toServe O ≡ cond t (some place) none
         unfolding toServe waits gridAt

@@ -8,7 +8,7 @@ ghost use Rattle.rules.specs.Grid.{isIn};
 ghost use Rattle.office.specs.Order.{firstWaiting};
 ghost use Rattle.office.specs.Serve.{waits, toServe};
 ghost use Rattle.order_record.specs.Places.{placesOf};
-ghost use Rattle.serving_checks.specs.Given.{gridsOf, officeOf};
+ghost use Rattle.serving_checks.specs.Given.{gridsOf, officeGiven};
 ghost use Rattle.choosing.specs.Choice.{LaidIn, Choosing, chosenAt, Looked};
 use office::Grids;
 use office::Order;
@@ -53,7 +53,7 @@ fn longest_ago(g: Grids, o: Order, status: &[u8]) -> usize
 // The place to serve, or count where nothing is pending anywhere.
 fn choose(g: Grids, o: Order, status: &[u8]) -> usize
     requires { ⌜ Choosing g o (now status) ⌝ }
-    ensures { λ r. ⌜ toServe (officeOf g o [] (now (status .entry))) ≡ chosenAt (g .count) r ⌝ }
+    ensures { λ r. ⌜ toServe (officeGiven g o [] (now (status .entry))) ≡ chosenAt (g .count) r ⌝ }
 {
     let mut p: usize = 0;
     while p < g.count {
@@ -72,7 +72,7 @@ pub struct Found {
 }
 
 pub fn look(g: Grids, o: Order, limit: u32, dist: &[i32], status: &[u8], marks: &[u8]) -> Found
-    ensures { λ r. ⌜ Looked r (now (marks .entry)) limit (officeOf g o (now (dist .entry)) (now (status .entry))) ⌝ }
+    ensures { λ r. ⌜ Looked r (now (marks .entry)) limit (officeGiven g o (now (dist .entry)) (now (status .entry))) ⌝ }
 {
     let number = serving_checks::refusal(g, o, limit, dist, status, marks);
     if number != 0 {

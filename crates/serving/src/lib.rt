@@ -5,7 +5,7 @@ ghost use Rattle.rules.specs.Checks.{AllHold};
 ghost use Rattle.rules.specs.Answer.{outcome, carvedAnswer};
 ghost use Rattle.office.specs.Serve as rule;
 ghost use Rattle.office.specs.Serve.{toServe, serveChecks, servedAnswer};
-ghost use Rattle.serving_checks.specs.Given.{officeOf};
+ghost use Rattle.serving_checks.specs.Given.{officeGiven};
 ghost use Rattle.serving.specs.Call.{kept, asStruct};
 use office::Grids;
 use office::Order;
@@ -52,10 +52,10 @@ fn serve_at(
     p: usize,
 ) -> Turn
     requires { ⌜
-        AllHold (serveChecks (now marks) limit (officeOf g o (now dist) (now status))) × (toServe (officeOf g o (now dist) (now status)) ≡ some p) ⌝ }
+        AllHold (serveChecks (now marks) limit (officeGiven g o (now dist) (now status))) × (toServe (officeGiven g o (now dist) (now status)) ≡ some p) ⌝ }
     ensures { λ r. ⌜
         outcome (servedAnswer (r .answer)) (kept (r .order) (now (dist .entry)) (now (status .exit)))
-        ≡ asStruct o (rule.serve (now (marks .entry)) limit (officeOf g o (now (dist .entry)) (now (status .entry)))) ⌝ }
+        ≡ asStruct o (rule.serve (now (marks .entry)) limit (officeGiven g o (now (dist .entry)) (now (status .entry)))) ⌝ }
 {
     let from = serving_checks::start_of(g, p);
     let to = serving_checks::start_of(g, p + 1);
@@ -73,7 +73,7 @@ fn serve_at(
 pub fn serve(g: Grids, o: Order, limit: u32, dist: &[i32], status: &mut [u8], marks: &[u8]) -> Turn
     ensures { λ r. ⌜
         outcome (servedAnswer (r .answer)) (kept (r .order) (now (dist .entry)) (now (status .exit)))
-        ≡ asStruct o (rule.serve (now (marks .entry)) limit (officeOf g o (now (dist .entry)) (now (status .entry)))) ⌝ }
+        ≡ asStruct o (rule.serve (now (marks .entry)) limit (officeGiven g o (now (dist .entry)) (now (status .entry)))) ⌝ }
 {
     let found = choosing::look(g, o, limit, dist, status, marks);
     let number = found.number;

@@ -22,8 +22,8 @@ use Rattle.order_record.specs.Places.{listed, placesOf}
 abbrev pub recordsOf : Grids → List Record
 recordsOf g = listed noRecord (g .count) (g .records)
 
-abbrev pub officeOf : Grids → Order → List ℤ → List ℕ → Office
-officeOf g o dist status = office (recordsOf g) (placesOf o) dist status
+abbrev pub officeGiven : Grids → Order → List ℤ → List ℕ → Office
+officeGiven g o dist status = office (recordsOf g) (placesOf o) dist status
 
 -- the grids alone: the order record does not matter to them
 abbrev pub gridsOf : Grids → List ℤ → List ℕ → Office

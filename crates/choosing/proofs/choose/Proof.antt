@@ -10,7 +10,7 @@ use Rattle.office.specs.Order.{queue, firstWaiting}
 use Rattle.office.specs.Serve.{noRecord, gridAt, waits, toServe}
 use Rattle.order_record.specs.Places.{placesOf}
 use Rattle.order_record.proofs.Places.{length-listed}
-use Rattle.serving_checks.specs.Given.{gridsOf, officeOf}
+use Rattle.serving_checks.specs.Given.{gridsOf, officeGiven}
 use Rattle.choosing.proofs.Choice.{found, left, left-start, left-next, left-none}
 use Rattle.choosing.proofs.choose.Statement.{statement}
 use Rattle.choosing.proofs.choose.Tie as tie
@@ -19,7 +19,7 @@ abbrev w : Grids → List ℕ → ℕ → Bool
 w g status = waits (gridsOf g [] status)
 
 abbrev Inv-loop : tie.InvT-loop
-Inv-loop g o status p₀ p = toServe (officeOf g o [] status) ≡ left (w g status) (g .count) (placesOf o) p
+Inv-loop g o status p₀ p = toServe (officeGiven g o [] status) ≡ left (w g status) (g .count) (placesOf o) p
 
 abbrev μ-loop : tie.MeasureT-loop
 μ-loop g o status p₀ p = g .count - p
@@ -37,7 +37,7 @@ waits-unserved-requires c κs = search needs
 -- what is left from p on, by whether something is pending there and p never served
 by : (c : tie.After-waits-unserved Inv-loop μ-loop) (t : Bool) → c .waits-unserved .result ≡ t → let l = c .before .before .before in
     let a = l .before .before .args in
-    toServe (officeOf (a .g) (a .o) [] (a .status .now))
+    toServe (officeGiven (a .g) (a .o) [] (a .status .now))
     ≡ cond t (some (l .loop .p)) (left (w (a .g) (a .status .now)) (a .g .count) (placesOf (a .o)) (l .loop .p + 1))
 by c t e =
     let i = c .before in

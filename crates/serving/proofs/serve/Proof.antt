@@ -6,13 +6,13 @@ use Rattle.rules.specs.Machine.{theVoxel}
 use Rattle.rules.proofs.Checks.{call-refused, held-none}
 use Rattle.office.specs.Serve as rule
 use Rattle.office.specs.Serve.{Office, left, toServe, serveChecks, servedAt}
-use Rattle.serving_checks.specs.Given.{officeOf}
+use Rattle.serving_checks.specs.Given.{officeGiven}
 use Rattle.serving.specs.Call.{asStruct}
 use Rattle.serving.proofs.serve.Statement.{statement}
 use Rattle.serving.proofs.serve.Tie as tie
 
 abbrev given : tie.Start → Office
-given c = let a = c .args in officeOf (a .g) (a .o) (a .dist .now) (a .status .now)
+given c = let a = c .args in officeGiven (a .g) (a .o) (a .dist .now) (a .status .now)
 
 look-requires : tie.Need-look-requires
 look-requires c κs = search needs
