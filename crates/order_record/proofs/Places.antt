@@ -6,12 +6,12 @@ use Prim.Native.Nat.{ℕ, suc, _+_, _-_, _≤_, _<_}
 use native.Mathlib.Omega.{arith}
 use native.Mathlib.Numerals.{add-one}
 use lib.Dec.{leb, eqb}
-use lib.ListN.{length, getD, set, take, drop, replicate, length-append, drop-of-length-le}
+use lib.ListN.{length, getD, set, take, drop, replicate, length-append, drop-of-length-le, List·getD-append}
 use lib.Seq.{take-suc, take-all, drop-cons, set-append-seam, append-snoc}
 use borrow.Author.Tests.{lt-ltb, le-ltb, eq-eqb, ne-eqb}
 use Rattle.cells.specs.Groups.{any, filter, consIf}
 use Rattle.prelude.proofs.Lists.{filter-append}
-use Rattle.prelude.proofs.Ranges.{getD-map-range, length-map-range}
+use Rattle.prelude.proofs.Ranges.{getD-map-range, is-map-range, length-map-range}
 use Rattle.rules.specs.Grid.{isIn}
 use Rattle.office.specs.declared.Order.{Order}
 use Rattle.office.specs.Order.{namesTwice, unfitOrder, others, servedLast}
@@ -160,3 +160,10 @@ module _ (o : Order) (place : ℕ) where
         ap₂ (λ (l : List ℕ) (n : ℕ). set l n place) (s .stands ∙ ap (λ (l : List ℕ). packed l .places) all) (s .long ∙ ap length all)
         ∙ packed-more (others place (placesOf o)) place room in
         λ i. record { len = long i; places = stands i }
+
+-- ---- an order record that was handed back, given again
+
+pub places-packed : (l : List ℕ) → placesOf (packed l) ≡ l
+unfolding listed packed
+places-packed l =
+    sym (is-map-range (λ i. getD (packed l .places) i 0) 0 (length l) l refl (λ i h. sym (List·getD-append l (replicate (16 - length l) 0) 0 i h)))
