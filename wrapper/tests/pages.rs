@@ -140,6 +140,7 @@ const NO_THEOREMS: [(&str, &[&str]); 3] = [
             "office/specs/Serve.antt Left",
             "office/specs/Serve.antt Office",
             "office/specs/Serve.antt Serving",
+            "office_replies/specs/FromC.antt HeldOffice",
             "points/specs/Listing.antt Listing",
             "points/specs/Listing.antt Walk",
             "replies/specs/FromC.antt Held",
