@@ -2,7 +2,7 @@
 ghost use mathlib.Core.Path.{_≡_};
 ghost use Rattle.rules.specs.Answer.{buffers};
 ghost use Rattle.office.specs.Serve.{serve};
-ghost use Rattle.serving_checks.specs.Given.{officeGiven};
+ghost use Rattle.office.specs.Structs.{officeGiven};
 ghost use Rattle.replies.specs.Reply.{returned};
 ghost use Rattle.office_replies.specs.Serving.{gridsIn, servedOut};
 use office::Order;

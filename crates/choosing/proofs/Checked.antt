@@ -25,9 +25,9 @@ use Rattle.office.specs.Parts.{total}
 use Rattle.office.specs.Order.{namesTwice, unfitOrder, queue}
 use Rattle.office.specs.Serve.{Office, grids, noRecord, gridAt, waits, toServe, within, wrongLengths, serveChecks}
 use Rattle.office.proofs.Queue.{in-queue, first-mem, none-waits}
-use Rattle.order_record.specs.Places.{placesOf}
+use Rattle.office.specs.Structs.{recordsOf, placesOf, officeGiven}
 use Rattle.order_record.proofs.Places.{length-listed, length-places, listed-at}
-use Rattle.serving_checks.specs.Given.{recordsOf, sizesOf, gridsOf, officeGiven, LaidOut, layoutChecks, stateChecks, gridChecks}
+use Rattle.serving_checks.specs.Given.{sizesOf, gridsOf, LaidOut, layoutChecks, stateChecks, gridChecks}
 use Rattle.serving_checks.proofs.Numbers.{laid-out}
 use Rattle.choosing.specs.Choice.{Choosing, chosenAt}
 

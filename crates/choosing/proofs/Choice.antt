@@ -18,7 +18,7 @@ use Rattle.office.specs.Order.{queue, firstWaiting}
 use Rattle.office.specs.Serve.{gridAt, waits}
 use Rattle.office.proofs.Step.{part-size}
 use Rattle.fitness.proofs.Pending.{any-pending-is}
-use Rattle.order_record.specs.Places.{placesOf}
+use Rattle.office.specs.Structs.{placesOf}
 use Rattle.order_record.proofs.Places.{drop-place, drop-none}
 use Rattle.serving_checks.specs.Given.{sizesOf, gridsOf}
 use Rattle.serving_checks.proofs.Places.{part-is}

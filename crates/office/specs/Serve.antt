@@ -15,7 +15,7 @@ use Rattle.rules.specs.Marks.{strayMark}
 use Rattle.rules.specs.Status.{anyPending}
 use Rattle.rules.specs.Machine.{State, state, unfit, theVoxel, carve}
 use Rattle.office.specs.declared.Served.{Served}
-use Rattle.office.specs.Parts.{total, cut, partAt, put}
+use Rattle.office.specs.Parts.{total, partAt, put}
 use Rattle.office.specs.Order.{unfitOrder, queue, firstWaiting, servedLast}
 
 -- ---- "1 to 16 begun grids together, at places from 0, laid end to end in the lent buffers, with an order record of the places served so far"

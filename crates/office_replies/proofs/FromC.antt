@@ -23,9 +23,8 @@ use Rattle.replies.specs.declared.CRecord.{CRecord}
 use Rattle.replies.specs.Structs as structs
 use Rattle.replies.specs.Structs.{recordOut}
 use Rattle.replies.proofs.FromC.{record-comes-back}
-use Rattle.order_record.specs.Places.{listed}
+use Rattle.office.specs.Structs.{listed, recordsOf}
 use Rattle.order_record.proofs.Places.{length-listed, listed-at, places-packed}
-use Rattle.serving_checks.specs.Given.{recordsOf}
 use Rattle.serving_checks.proofs.Numbers.{few-grids}
 use Rattle.office_replies.specs.declared.CGrids.{CGrids}
 use Rattle.office_replies.specs.Serving.{recordAt, gridsIn, servedOut}

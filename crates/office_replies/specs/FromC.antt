@@ -10,7 +10,7 @@ use lib.ListN.{length, set}
 use Rattle.office.specs.declared.Order.{Order}
 use Rattle.office.specs.Serve.{Office, serve}
 use Rattle.office.specs.Lists.{Request, afterAll}
-use Rattle.serving_checks.specs.Given.{officeGiven}
+use Rattle.office.specs.Structs.{officeGiven}
 use Rattle.office_replies.specs.declared.CGrids.{CGrids}
 use Rattle.office_replies.specs.declared.ServeAnswer.{ServeAnswer}
 use Rattle.office_replies.specs.Serving.{gridsIn, servedOut}

@@ -12,7 +12,7 @@ use Rattle.office.specs.declared.Order.{Order}
 use Rattle.office.specs.Serve.{Serving, Left}
 use Rattle.replies.specs.Reply.{Returned, returned}
 use Rattle.replies.specs.Structs.{recordIn, recordOut, noRecord}
-use Rattle.serving.specs.Call.{Kept, asStruct}
+use Rattle.office.specs.Structs.{Kept, asStruct}
 use Rattle.office_replies.specs.declared.CGrids.{CGrids}
 use Rattle.office_replies.specs.declared.ServeAnswer.{ServeAnswer}
 

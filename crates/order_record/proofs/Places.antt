@@ -15,7 +15,7 @@ use Rattle.prelude.proofs.Ranges.{getD-map-range, is-map-range, length-map-rang
 use Rattle.rules.specs.Grid.{isIn}
 use Rattle.office.specs.declared.Order.{Order}
 use Rattle.office.specs.Order.{namesTwice, unfitOrder, others, servedLast}
-use Rattle.order_record.specs.Places.{listed, placesOf, packed}
+use Rattle.office.specs.Structs.{listed, placesOf, packed}
 
 -- ---- so many elements of an array
 

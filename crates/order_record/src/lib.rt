@@ -4,7 +4,7 @@ ghost use Prim.Native.Nat.{_≤_, _<_};
 ghost use lib.ListN.{length, getD, drop};
 ghost use Rattle.rules.specs.Grid.{isIn};
 ghost use Rattle.office.specs.Order.{unfitOrder, others, servedLast};
-ghost use Rattle.order_record.specs.Places.{placesOf, packed};
+ghost use Rattle.office.specs.Structs.{placesOf, packed};
 use office::Order;
 
 // The place that stands at k.

@@ -23,13 +23,12 @@ use Rattle.office.specs.Serve.{Office, Serving, left, grids, noRecord, gridAt, 
 use Rattle.office.proofs.Parts.{put-same}
 use Rattle.office.proofs.Queue.{few-below, room-for, queue-fit, first-mem}
 use Rattle.office.proofs.Step.{order-fits, grid-holds}
-use Rattle.order_record.specs.Places.{placesOf, packed}
+use Rattle.office.specs.Structs.{placesOf, officeGiven, packed, Kept, kept, asStruct}
 use Rattle.order_record.proofs.Places.{length-places}
-use Rattle.serving_checks.specs.Given.{sizesOf, officeGiven, LaidOut}
+use Rattle.serving_checks.specs.Given.{sizesOf, LaidOut}
 use Rattle.serving_checks.proofs.Places.{length-sizes, part-ordered, part-within, part-is, put-is, part-grid}
 use Rattle.part_carving.specs.Part.{part, spliced, Within}
 use Rattle.choosing.proofs.Checked.{grids-are, all-laid}
-use Rattle.serving.specs.Call.{Kept, kept, asStruct}
 
 module _ (marks : List ℕ) (limit : ℕ) (g : Grids) (o : Order) (dist : List ℤ) (status : List ℕ) where
   abbrev O : Office

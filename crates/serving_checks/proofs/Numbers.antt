@@ -19,7 +19,8 @@ use Rattle.rules.proofs.Checks.{held-at}
 use Rattle.office.specs.declared.Grids.{Grids}
 use Rattle.office.specs.Parts.{total}
 use Rattle.office.specs.Serve.{noRecord, within}
-use Rattle.serving_checks.specs.Given.{recordsOf, sizesOf, Sized, LaidOut, layoutChecks}
+use Rattle.office.specs.Structs.{recordsOf}
+use Rattle.serving_checks.specs.Given.{sizesOf, Sized, LaidOut, layoutChecks}
 use Rattle.serving_checks.proofs.Places.{at-places, length-sizes}
 
 -- 34

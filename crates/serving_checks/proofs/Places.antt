@@ -19,9 +19,9 @@ use Rattle.office.specs.declared.Grids.{Grids}
 use Rattle.office.specs.Parts.{total, partAt, put}
 use Rattle.office.specs.Serve.{noRecord, gridAt}
 use Rattle.office.proofs.Parts.{part-at, put-at, part-length}
-use Rattle.order_record.specs.Places.{listed}
+use Rattle.office.specs.Structs.{listed, recordsOf}
 use Rattle.order_record.proofs.Places.{length-listed, listed-at}
-use Rattle.serving_checks.specs.Given.{recordsOf, sizesOf, gridsOf, LaidOut}
+use Rattle.serving_checks.specs.Given.{sizesOf, gridsOf, LaidOut}
 
 -- ---- a scan
 

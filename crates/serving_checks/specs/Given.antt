@@ -1,4 +1,4 @@
--- What serve is given, as the office of its rule; and its checks but for 35.
+-- The grids that serve is given, and its checks but for 35.
 use mathlib.Core.Path.{_≡_}
 use mathlib.Core.Bool.{true, not, _&&_, _||_}
 use mathlib.Core.List.{List, [], _∷_, _++_}
@@ -7,7 +7,6 @@ use lib.Dec.{eqb}
 use lib.IntN.{ℤ}
 use lib.ListN.{length, getD}
 use Rattle.cells.specs.Groups.{any}
-use Rattle.rules.specs.declared.Record.{Record}
 use Rattle.rules.specs.Grid.{range, fitSides}
 use Rattle.rules.specs.Checks.{Check, _when_}
 use Rattle.rules.specs.Marks.{strayMark}
@@ -17,13 +16,7 @@ use Rattle.office.specs.declared.Order.{Order}
 use Rattle.office.specs.Parts.{total}
 use Rattle.office.specs.Order.{unfitOrder}
 use Rattle.office.specs.Serve.{Office, office, sizes, noRecord, gridAt, within}
-use Rattle.order_record.specs.Places.{listed, placesOf}
-
-abbrev pub recordsOf : Grids → List Record
-recordsOf g = listed noRecord (g .count) (g .records)
-
-abbrev pub officeGiven : Grids → Order → List ℤ → List ℕ → Office
-officeGiven g o dist status = office (recordsOf g) (placesOf o) dist status
+use Rattle.office.specs.Structs.{recordsOf, placesOf}
 
 -- the grids alone: the order record does not matter to them
 abbrev pub gridsOf : Grids → List ℤ → List ℕ → Office

@@ -8,9 +8,9 @@ use borrow.Author.Needs.{needs}
 use Rattle.office.specs.declared.Grids.{Grids}
 use Rattle.office.specs.Order.{queue, firstWaiting}
 use Rattle.office.specs.Serve.{noRecord, gridAt, waits, toServe}
-use Rattle.order_record.specs.Places.{placesOf}
+use Rattle.office.specs.Structs.{placesOf, officeGiven}
 use Rattle.order_record.proofs.Places.{length-listed}
-use Rattle.serving_checks.specs.Given.{gridsOf, officeGiven}
+use Rattle.serving_checks.specs.Given.{gridsOf}
 use Rattle.choosing.proofs.Choice.{found, left, left-start, left-next, left-none}
 use Rattle.choosing.proofs.choose.Statement.{statement}
 use Rattle.choosing.proofs.choose.Tie as tie

@@ -10,7 +10,7 @@ use borrow.Author.Needs.{needs}
 use Rattle.office.specs.declared.Grids.{Grids}
 use Rattle.office.specs.Order.{firstWaiting}
 use Rattle.office.specs.Serve.{waits}
-use Rattle.order_record.specs.Places.{placesOf}
+use Rattle.office.specs.Structs.{placesOf}
 use Rattle.serving_checks.specs.Given.{gridsOf}
 use Rattle.choosing.proofs.Choice.{found, found-none, rest, rest-next, rest-none}
 use Rattle.choosing.proofs.longest_ago.Statement.{statement}

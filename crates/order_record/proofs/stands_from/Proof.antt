@@ -6,7 +6,7 @@ use lib.ListN.{drop}
 use borrow.Author.Needs.{needs}
 use Rattle.cells.specs.Groups.{any}
 use Rattle.rules.specs.Grid.{isIn}
-use Rattle.order_record.specs.Places.{placesOf}
+use Rattle.office.specs.Structs.{placesOf}
 use Rattle.order_record.proofs.Places.{drop-none, stands-more}
 use Rattle.order_record.proofs.stands_from.Statement.{statement}
 use Rattle.order_record.proofs.stands_from.Tie as tie

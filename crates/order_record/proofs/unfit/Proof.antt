@@ -4,7 +4,7 @@ use Prim.Native.Nat.{ℕ, _-_, _≤_}
 use lib.ListN.{drop}
 use borrow.Author.Needs.{needs}
 use Rattle.cells.specs.Groups.{any}
-use Rattle.order_record.specs.Places.{placesOf}
+use Rattle.office.specs.Structs.{placesOf}
 use Rattle.order_record.proofs.Places.{wrong, drop-none, unfit-more, unfit-long, unfit-wrong}
 use Rattle.order_record.proofs.unfit.Statement.{statement}
 use Rattle.order_record.proofs.unfit.Tie as tie

@@ -6,8 +6,7 @@ use Rattle.rules.specs.Machine.{theVoxel}
 use Rattle.rules.proofs.Checks.{call-refused, held-none}
 use Rattle.office.specs.Serve as rule
 use Rattle.office.specs.Serve.{Office, left, toServe, serveChecks, servedAt}
-use Rattle.serving_checks.specs.Given.{officeGiven}
-use Rattle.serving.specs.Call.{asStruct}
+use Rattle.office.specs.Structs.{officeGiven, asStruct}
 use Rattle.serving.proofs.serve.Statement.{statement}
 use Rattle.serving.proofs.serve.Tie as tie
 

@@ -9,7 +9,8 @@ use Rattle.cells.specs.Groups.{any}
 use Rattle.rules.specs.Grid.{fitSides}
 use Rattle.rules.specs.Checks.{_when_, firstFailing}
 use Rattle.rules.proofs.Checks.{fails-first, holds-first}
-use Rattle.serving_checks.specs.Given.{recordsOf, layoutChecks}
+use Rattle.office.specs.Structs.{recordsOf}
+use Rattle.serving_checks.specs.Given.{layoutChecks}
 use Rattle.serving_checks.proofs.Numbers.{few-grids, sized, all-sizes}
 use Rattle.serving_checks.proofs.layout_refusal.Statement.{statement}
 use Rattle.serving_checks.proofs.layout_refusal.Tie as tie

@@ -12,7 +12,7 @@ use Rattle.rules.specs.Machine.{unfit}
 use Rattle.rules.proofs.Checks.{fails-first, holds-first, refused-first, held-first, held-none}
 use Rattle.office.specs.Order.{unfitOrder}
 use Rattle.office.specs.Serve.{gridAt}
-use Rattle.order_record.specs.Places.{placesOf}
+use Rattle.office.specs.Structs.{placesOf}
 use Rattle.serving_checks.specs.Given.{gridsOf, LaidOut, layoutChecks, stateChecks}
 use Rattle.serving_checks.proofs.Numbers.{laid-out}
 use Rattle.serving_checks.proofs.refusal.Statement.{statement}

@@ -3,7 +3,7 @@ use mathlib.Core.Path.{ap, _∙_}
 use borrow.Author.Needs.{needs}
 use Rattle.office.specs.declared.Grids.{Grids}
 use Rattle.office.specs.Serve.{serve}
-use Rattle.serving_checks.specs.Given.{officeGiven}
+use Rattle.office.specs.Structs.{officeGiven}
 use Rattle.office_replies.specs.Serving.{keptOut, servedOut}
 use Rattle.capi.proofs.many.wattlerugby_serve.Statement.{statement}
 use Rattle.capi.proofs.many.wattlerugby_serve.Tie as tie
