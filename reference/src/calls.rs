@@ -8,6 +8,7 @@ use crate::local::local_test;
 use crate::machine::{carve, crossing, finish, open, points, take};
 use crate::practice::practice;
 use crate::replay::Calls;
+use crate::serve::serve;
 
 pub const REFERENCE: Calls = Calls {
     begin,
@@ -16,6 +17,7 @@ pub const REFERENCE: Calls = Calls {
     take,
     open,
     finish,
+    serve,
     judge,
     crossing,
     points,

@@ -1,4 +1,4 @@
-//! Document 01 once more, with CR 1, CR 2 and CR 4 to CR 12 of document 02, written from the papers and not from the product, plain and obvious:
+//! Document 01 once more, with CR 1, CR 2, CR 4 to CR 12 and CR 14 of document 02, written from the papers and not from the product, plain and obvious:
 //! what the product is matched against.
 
 pub mod calls;
@@ -11,4 +11,5 @@ pub mod machine;
 pub mod marks;
 pub mod practice;
 pub mod replay;
+pub mod serve;
 pub mod words;

@@ -6,8 +6,10 @@ use crate::grid::{Record, Refused, Sides};
 use crate::judge::Judged;
 use crate::local::Local;
 use crate::machine::{Carving, Opening, Points};
+use crate::serve::Served;
 use crate::words::{Mistake, Words};
 use std::io::{BufRead, Write};
+use std::ops::{Deref, DerefMut};
 
 /// The calls that a script makes. They are a table, so that it can be replayed over other implementations too (tests/mutants).
 #[derive(Clone, Copy)]
@@ -19,6 +21,7 @@ pub struct Calls {
     pub take: fn(&mut Record, &[i32], &[u8], &mut [u8], u64) -> Result<Local, Refused>,
     pub open: fn(&mut Record, &[i32], &[u8], &mut [u8]) -> Result<Opening, Refused>,
     pub finish: fn(&mut Record, &mut [i32], &[u8]) -> Result<(), Refused>,
+    pub serve: fn(&mut [Record], &mut Vec<u8>, &[i32], &[u8], &mut [u8], u64) -> Result<Served, Refused>,
     pub judge: fn(&Record, &[i32], &mut [u8], &[u8]) -> Result<Judged, Refused>,
     pub crossing: fn(&Record, &[i32], &[u8], u64, u64) -> Result<Option<[f64; 3]>, Refused>,
     pub points: fn(&Record, &[i32], &[u8], u64, &mut [f64]) -> Result<Points, Refused>,
@@ -30,8 +33,15 @@ pub struct Calls {
     pub program_line: fn(&[u8]) -> String,
 }
 
-/// What a script works on, and the calls that it makes.
+/// What a script works on: slots of which one is in use, which is seen without being named, and the order record of `serve`.
 pub struct Replay {
+    slots: Vec<Slot>,
+    at: usize,
+    pub order: Vec<u8>,
+}
+
+/// One of the slots, with the calls that are made on it. The file, and whether hashes are printed, go along to the slot in use.
+pub struct Slot {
     calls: Calls,
     pub sides: Sides,
     pub t: u16,
@@ -47,14 +57,22 @@ pub struct Replay {
     hash_after_each: bool,
 }
 
+/// How many slots there are, and the most of them that `serve` is given.
+const SLOTS: usize = 20;
+const MOST_SERVED: usize = 17;
+
 /// The longest buffer that `len` makes, and that `points` and `write` lend.
 const LONGEST: usize = 1 << 21;
 
-fn length(words: &mut Words) -> Result<usize, Mistake> {
+fn up_to(words: &mut Words, most: usize) -> Result<usize, Mistake> {
     match words.number()? {
-        len if len <= LONGEST => Ok(len),
-        len => Err(format!("out of range: {len}")),
+        number if number <= most => Ok(number),
+        number => Err(format!("out of range: {number}")),
     }
+}
+
+fn length(words: &mut Words) -> Result<usize, Mistake> {
+    up_to(words, LONGEST)
 }
 
 fn fnv(bytes: impl Iterator<Item = u8>) -> String {
@@ -127,13 +145,103 @@ pub fn standard_input(calls: Calls) -> std::process::ExitCode {
     }
 }
 
+impl Deref for Replay {
+    type Target = Slot;
+
+    fn deref(&self) -> &Slot {
+        &self.slots[self.at]
+    }
+}
+
+impl DerefMut for Replay {
+    fn deref_mut(&mut self) -> &mut Slot {
+        &mut self.slots[self.at]
+    }
+}
+
 impl Replay {
     pub fn new(calls: Calls) -> Self {
+        Replay { slots: (0..SLOTS).map(|_| Slot::new(calls)).collect(), at: 0, order: Vec::new() }
+    }
+
+    /// The slot in use, and all of them.
+    pub fn slot_in_use(&self) -> usize {
+        self.at
+    }
+
+    pub fn slots(&self) -> &[Slot] {
+        &self.slots
+    }
+
+    /// One line of a script: what to print, if anything, or what is wrong with it.
+    pub fn line(&mut self, line: &str) -> Result<Option<String>, Mistake> {
+        let mut words = Words::of(line);
+        let command = match words.word() {
+            Ok(command) if !command.starts_with('#') => command,
+            _ => return Ok(None),
+        };
+        let said = match command {
+            "slot" => self.take_up(up_to(&mut words, SLOTS - 1)?),
+            "order" => self.set_order(words.numbers()?)?,
+            "serve" => {
+                let answer = self.serve(&mut words)?;
+                Some(self.with_hashes(answer))
+            }
+            _ => self.command(command, &mut words)?,
+        };
+        words.end()?;
+        Ok(said)
+    }
+
+    /// Another slot is in use from then on.
+    fn take_up(&mut self, slot: usize) -> Option<String> {
+        let (file, hash_after_each) = (std::mem::take(&mut self.file), self.hash_after_each);
+        self.at = slot;
+        (self.file, self.hash_after_each) = (file, hash_after_each);
+        None
+    }
+
+    fn set_order(&mut self, places: Vec<u8>) -> Result<Option<String>, Mistake> {
+        if places.len() > MOST_SERVED {
+            return Err(format!("more than {MOST_SERVED} places"));
+        }
+        self.order = places;
+        Ok(None)
+    }
+
+    /// The slots' buffers are laid end to end as they are, whatever their lengths.
+    fn serve(&mut self, words: &mut Words) -> Result<String, Mistake> {
+        let (grids, limit) = (up_to(words, MOST_SERVED)?, words.number::<u32>()?);
+        let (serve, slots) = (self.calls.serve, &mut self.slots[..grids]);
+        let mut records: Vec<Record> = slots.iter().map(|slot| slot.record).collect();
+        let dist: Vec<i32> = slots.iter().flat_map(|slot| slot.dist.iter().copied()).collect();
+        let marks: Vec<u8> = slots.iter().flat_map(|slot| slot.marks.iter().copied()).collect();
+        let mut status: Vec<u8> = slots.iter().flat_map(|slot| slot.status.iter().copied()).collect();
+        let answer = serve(&mut records, &mut self.order, &dist, &marks, &mut status, limit.into());
+        let mut left = status.into_iter();
+        for (slot, record) in slots.iter_mut().zip(&records) {
+            slot.record = *record;
+            slot.status.fill_with(|| left.next().expect("as many as were lent"));
+        }
+        Ok(match answer {
+            Ok(Served { place, carving: Carving { examined, removed, pending, face } }) => {
+                let (pending, order, record) = (u8::from(pending), &self.order, shown(&records[place]));
+                format!(
+                    "serve ok place {place} examined {examined} removed {removed} pending {pending} face {face} order {order:?} | {record}"
+                )
+            }
+            Err(number) => format!("serve refused {number}"),
+        })
+    }
+}
+
+impl Slot {
+    fn new(calls: Calls) -> Self {
         let sides = Sides { a: 3, b: 3, c: 3 };
         let record = Record { sides, t: 0, openings: 0, removals: 0, examinations: 0, euler: 1, finished: 0 };
         let (values, dist, marks, status, file) = (vec![], vec![], vec![], vec![], vec![]);
         let (cdist, cstatus) = (vec![], vec![]);
-        let mut new = Replay { calls, sides, t: 0, values, dist, marks, status, cdist, cstatus, file, record, hash_after_each: false };
+        let mut new = Slot { calls, sides, t: 0, values, dist, marks, status, cdist, cstatus, file, record, hash_after_each: false };
         new.make_buffers();
         new
     }
@@ -157,6 +265,15 @@ impl Replay {
         format!("dist {dist} status {status} cdist {cdist} cstatus {cstatus} values {}", words(&self.values))
     }
 
+    /// The line of a call.
+    fn with_hashes(&self, answer: String) -> String {
+        if self.hash_after_each {
+            format!("{answer} # {}", self.hashes())
+        } else {
+            answer
+        }
+    }
+
     fn dump(&self, name: &str) -> Result<String, Mistake> {
         Ok(match name {
             "values" => format!("{:?}", self.values),
@@ -167,18 +284,6 @@ impl Replay {
             "cstatus" => format!("{:?}", self.cstatus),
             other => return Err(format!("unknown buffer: {other}")),
         })
-    }
-
-    /// One line of a script: what to print, if anything, or what is wrong with it.
-    pub fn line(&mut self, line: &str) -> Result<Option<String>, Mistake> {
-        let mut words = Words::of(line);
-        let command = match words.word() {
-            Ok(command) if !command.starts_with('#') => command,
-            _ => return Ok(None),
-        };
-        let said = self.command(command, &mut words)?;
-        words.end()?;
-        Ok(said)
     }
 
     fn command(&mut self, command: &str, words: &mut Words) -> Result<Option<String>, Mistake> {
@@ -213,7 +318,7 @@ impl Replay {
                         Err(number) => format!("{command} refused {number}"),
                     },
                 };
-                return Ok(Some(if self.hash_after_each { format!("{answer} # {}", self.hashes()) } else { answer }));
+                return Ok(Some(self.with_hashes(answer)));
             }
         }
         Ok(None)
@@ -271,7 +376,7 @@ impl Replay {
     }
 
     fn call(&mut self, name: &str, words: &mut Words) -> Result<Result<String, Refused>, Mistake> {
-        let Replay { calls, record: r, dist, marks, status, cdist, cstatus, .. } = self;
+        let Slot { calls, record: r, dist, marks, status, cdist, cstatus, .. } = self;
         Ok(match name {
             "begin" => (calls.begin)(self.sides, self.t, &self.values, marks, dist, status).map(|new| {
                 self.record = new;

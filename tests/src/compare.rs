@@ -25,7 +25,7 @@ pub struct Script {
 pub fn prints(command: &str) -> bool {
     let mut words = command.split_ascii_whitespace();
     match words.next() {
-        None | Some("sides" | "rawsides" | "T" | "file" | "append" | "autohash") => false,
+        None | Some("sides" | "rawsides" | "T" | "file" | "append" | "autohash" | "slot" | "order") => false,
         Some("values" | "dist" | "marks" | "status" | "cdist" | "cstatus") => false,
         Some("rec") => words.next() == Some("show"),
         Some(word) => !word.starts_with('#'),
@@ -35,7 +35,7 @@ pub fn prints(command: &str) -> bool {
 /// Whether a command can change the file, or what `write` makes it from.
 pub fn bears_on_the_file(command: &str) -> bool {
     let word = command.split_ascii_whitespace().next();
-    matches!(word, Some("sides" | "rawsides" | "T" | "values" | "file" | "append" | "read" | "write" | "practice"))
+    matches!(word, Some("slot" | "sides" | "rawsides" | "T" | "values" | "file" | "append" | "read" | "write" | "practice"))
 }
 
 /// The reference's lines for a script, or what it does not take.

@@ -1,7 +1,7 @@
 //! Makes conformance/ from its scripts, and holds it to the list of what it must contain.
 
 use crate::compare::prints;
-use crate::demands::{list, marked::Begun, worked_case, Before};
+use crate::demands::{list, noted::Noted, worked_case, Before};
 use crate::scripts::{cases, conformance, language::MISTAKES, SEEDED, WRITTEN};
 use reference::calls::REFERENCE;
 use reference::replay::Replay;
@@ -34,13 +34,13 @@ impl Made {
 
     fn kind(&mut self, kind: &str) -> Result<(), String> {
         let scripts = conformance(kind);
-        let (mut state, mut begun) = (Replay::new(REFERENCE), Begun::default());
+        let (mut state, mut noted) = (Replay::new(REFERENCE), Noted::default());
         let mut answers = String::new();
         for (i, script) in scripts.iter().enumerate() {
             let case = cases::SCRIPTS.get(i).filter(|_| kind == "cases").map(|(name, _)| *name);
             for (line, command) in script.lines().enumerate() {
                 let told = |wrong: String| format!("{kind} {}, line {} of it, {command}: {wrong}", i + 1, line + 1);
-                if let Some(answer) = self.line(&mut state, &mut begun, command, case).map_err(told)? {
+                if let Some(answer) = self.line(&mut state, &mut noted, command, case).map_err(told)? {
                     answers += &answer;
                     answers.push('\n');
                 }
@@ -51,10 +51,10 @@ impl Made {
         Ok(())
     }
 
-    fn line(&mut self, state: &mut Replay, begun: &mut Begun, command: &str, case: Option<&str>) -> Result<Option<String>, String> {
-        let (before, mut changed) = (Before::of(state, command), begun.seen(state, command));
+    fn line(&mut self, state: &mut Replay, noted: &mut Noted, command: &str, case: Option<&str>) -> Result<Option<String>, String> {
+        let (before, mut changed) = (Before::of(state, command), noted.seen(state, command));
         let answer = state.line(command)?;
-        before.left(&state.values)?;
+        before.left(state)?;
         if answer.is_some() != prints(command) {
             return Err("compare::prints is wrong about it".to_string());
         }
@@ -65,7 +65,7 @@ impl Made {
                 *self.met.entry(entry).or_default() += 1;
             }
         }
-        begun.note(state, command, answer.as_deref());
+        noted.note(state, command, answer.as_deref());
         Ok(answer)
     }
 
@@ -99,6 +99,7 @@ impl Made {
 #[cfg(test)]
 mod tests {
     use super::*;
+    use crate::compare::reference_lines;
     use crate::files::{file_of, file_of_widths, hex, patch};
     use crate::grids::Grid;
     use crate::records::{GREATEST, MISSING, NARROW, WIDE};
@@ -113,6 +114,16 @@ mod tests {
             assert!(told.lines().any(|line| line == format!("missing in conformance: {entry}")), "{entry}");
         }
         assert!(!folder.exists());
+    }
+
+    /// In a row the slots, the file and the order record are what the scripts before left; by itself each script is answered the same.
+    #[test]
+    fn a_script_stands_by_itself() {
+        for kind in ["language", "serve", "offices"] {
+            let scripts = conformance(kind);
+            let alone: Vec<String> = scripts.iter().flat_map(|script| reference_lines(script).expect("a script of the language")).collect();
+            assert!(alone == reference_lines(&scripts.concat()).expect("scripts of the language"), "{kind}");
+        }
     }
 
     #[test]
@@ -293,12 +304,64 @@ mod tests {
             }
             let before = of(&state);
             state.line("practice 9").expect("a line of the language");
-            assert!(before.left(&state.values).is_ok(), "{met}");
+            assert!(before.left(&state).is_ok(), "{met}");
             for i in [0, 13, state.values.len() - 1] {
                 state.values[i] += 1;
-                assert!(before.left(&state.values).is_err(), "{met}: {i}");
+                assert!(before.left(&state).is_err(), "{met}: {i}");
                 state.values[i] -= 1;
             }
+        }
+    }
+
+    /// Two bars, of which place 1 was served before; 17 is pending in both.
+    #[test]
+    fn an_answer_of_another_office_is_told() {
+        let bar = "sides 4 3 3\nrec a 4\nrec b 3\nrec c 3\nrec T 5\nrec finished 0\ndist fill 5\nstatus fill 0\nstatus set 17 3\nstatus set 18 1\n";
+        let fresh = |lines: &str| {
+            let mut state = Replay::new(REFERENCE);
+            for line in format!("slot 1\n{bar}slot 0\n{bar}order 1\n{lines}").lines() {
+                state.line(line).expect("a line of the language");
+            }
+            state
+        };
+        let all = [
+            ("rec a 65", "1", "serve refused: 1, of the first grid alone"),
+            ("slot 1\nrec a 65\nslot 0\nstatus set 0 1", "1", "serve: 1 before an earlier grid's 7"),
+            ("marks len 35", "2", "serve refused: 2, marks short alone"),
+            ("slot 1\nstatus set 0 1\nslot 0\nmarks set 0 4", "7", "serve: 7 before an earlier grid's 29"),
+            ("order 1 1", "7", "serve refused: order 7, a place twice alone"),
+            ("order 2\nmarks set 0 4", "7", "serve: order 7 before 29"),
+            ("slot 1\nmarks set 35 4\nslot 0\nrec finished 1", "29", "serve: 29 before an earlier grid's 8"),
+            ("slot 1\nrec finished 2", "8", "serve refused: 8, of the last grid alone"),
+            ("status set 17 1\nslot 1\nstatus set 17 1", "35", "serve refused: 35, after grids were served"),
+        ];
+        for (lines, number, met) in all {
+            let state = fresh(lines);
+            let entries = |answer: &str| Before::of(&state, "serve 2 1").entries(answer);
+            assert!(entries(&format!("serve refused {number}")).is_ok_and(|all| all.contains(&met.to_string())), "{met}");
+            for other in ["34", "1", "2", "7", "29", "8", "35"].into_iter().filter(|&other| other != number) {
+                assert!(entries(&format!("serve refused {other}")).is_err(), "{met}: {other}");
+            }
+            let limit = Before::of(&state, "serve 2 0").entries("serve refused 34");
+            assert!(limit.is_ok_and(|all| all.contains(&"serve refused: 34, limit 0 alone".to_string())), "{met}");
+        }
+        let mut state = fresh("");
+        let done =
+            "examined 1 removed 1 pending 1 face 0 order [1, 0] | rec 4 3 3 T 5 openings 0 removals 1 examinations 1 euler 1 finished 0";
+        let entries = |answer: &str| Before::of(&state, "serve 2 1").entries(&format!("serve ok place {answer}"));
+        let met = "serve: never served, one that was waits too".to_string();
+        assert!(entries(&format!("0 {done}")).is_ok_and(|all| all.contains(&met)));
+        let order = done.replace("[1, 0]", "[0, 1]");
+        for other in [format!("1 {done}"), format!("0 {order}"), format!("0 {}", done.replace("face 0", "face 1"))] {
+            assert!(entries(&other).is_err(), "{other}");
+        }
+        let before = Before::of(&state, "serve 2 1");
+        state.line("serve 2 1").expect("a line of the language");
+        assert!(before.left(&state).is_ok());
+        for line in ["order 0", "order 1 0 1", "status set 18 1", "rec removals 0", "slot 1\nmarks set 3 1", "slot 1\nstatus set 17 1"] {
+            let mut spoilt = fresh("serve 2 1");
+            line.lines().for_each(|line| drop(spoilt.line(line).expect("a line of the language")));
+            assert!(before.left(&spoilt).is_err(), "{line}");
         }
     }
 
@@ -306,10 +369,10 @@ mod tests {
     #[test]
     fn a_mark_of_3_that_changed_since_begin_is_told() {
         let met = |lines: &[&str]| {
-            let (mut made, mut state, mut begun) =
-                (Made { files: Vec::new(), met: BTreeMap::new() }, Replay::new(REFERENCE), Begun::default());
+            let (mut made, mut state, mut noted) =
+                (Made { files: Vec::new(), met: BTreeMap::new() }, Replay::new(REFERENCE), Noted::default());
             for line in ["sides 4 4 3", "values fill 6", "values set 21 -6", "values set 26 -6"].iter().chain(lines) {
-                made.line(&mut state, &mut begun, line, None).expect("a line of the language");
+                made.line(&mut state, &mut noted, line, None).expect("a line of the language");
             }
             made.met
         };

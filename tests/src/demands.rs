@@ -7,13 +7,14 @@ use reference::replay::Replay;
 use std::collections::BTreeMap;
 
 /// The calls that can be refused.
-const CALLS: [&str; 14] = [
+const CALLS: [&str; 15] = [
     "begin",
     "begincoarse",
     "carve",
     "take",
     "open",
     "finish",
+    "serve",
     "judge",
     "crossing",
     "points",
@@ -71,6 +72,9 @@ const IMPOSSIBLE: &[(&str, Check, Check, &str)] = &[
     ("program", "24", "27", "27 is for a layer that is no repeat"),
     ("program", "3", "4", "a negative border voxel is a negative voxel"),
 ];
+
+/// The checks that `serve` makes on each grid, on all of them before the next.
+const OF_GRIDS: [Check; 4] = ["1", "7", "29", "8"];
 
 /// The checks of a layer record, of a patch record and of a removal record. One that is too short is the last, so it is no earlier one's fault.
 const RECORDS: [&[Check]; 3] = [&["21", "22", "23", "24", "27", "28"], &PATCH, &["removal 21", "removal 22", "removal 5", "32"]];
@@ -156,7 +160,7 @@ fn causes(call: &str, check: Check) -> &'static [&'static str] {
             "cstatus long",
         ],
         ("read" | "write" | "practice", "2") => &["values short", "values long"],
-        ("carve" | "take" | "open", "2") => WITH_MARKS,
+        ("carve" | "take" | "open" | "serve", "2") => WITH_MARKS,
         (_, "2") => LENGTHS,
         (_, "3") => BORDER,
         (_, "4") => &["none below 0", "missing ones alone"],
@@ -166,6 +170,8 @@ fn causes(call: &str, check: Check) -> &'static [&'static str] {
         ("read" | "program", "5") | ("judge", "removal 5") => &["index n", "index over n", "index over n, its low two bytes under n"],
         (_, "6") => &["axis over 2", "beyond along x", "beyond along y", "beyond along z"],
         (_, "7") => UNFIT,
+        (_, "order 7") => &["a place twice", "a place past the last grid"],
+        (_, "34") => &["limit 0", "limit over 1000", "no grids", "over 16 grids"],
         ("readlayer", "21") => {
             &["start past the end", "start at the end", "cut off", "cut off, wide", "cut off, wide with the bytes of a narrow one"]
         }
@@ -909,6 +915,94 @@ const ALSO: &[(&str, usize)] = &[
     ("practice on three different sides", 20),
     ("begin: a practice grid", 50),
     ("write: a practice grid", 20),
+    // many scans at once
+    ("serve: of 1", 20),
+    ("serve: of 2", 20),
+    ("serve: of 3", 50),
+    ("serve: of 15", 10),
+    ("serve: of 16", 20),
+    ("serve: place 0", 50),
+    ("serve: place 1", 50),
+    ("serve: place 15", 5),
+    ("serve: limit 1", 50),
+    ("serve: limit 1000", 5),
+    ("serve: an empty order record", 20),
+    ("serve: an order record of all grids", 50),
+    ("serve: an order record of 16 grids", 5),
+    ("serve: an order record of some grids", 50),
+    ("serve: never served, a lower place was and waits", 20),
+    ("serve: never served, and a higher place neither", 20),
+    ("serve: never served, one that was waits too", 20),
+    ("serve: never served, a lower one neither but nothing is pending there", 20),
+    ("serve: served longest ago, a lower place waits too", 20),
+    ("serve: served longest ago, a higher place waits too", 20),
+    ("serve: served longest ago of those with something pending", 20),
+    ("serve: served before, and no other waits", 20),
+    ("serve: served before, one never served has nothing pending", 20),
+    ("serve: from the front of the order record", 50),
+    ("serve: from the middle of the order record", 20),
+    ("serve: from the end of the order record", 20),
+    ("serve: the only grid with something pending", 20),
+    ("serve: three different sizes", 20),
+    ("serve: the same sides everywhere", 20),
+    ("serve: the slot in use is not among the grids", 5),
+    ("serve: the slot in use is not the one served", 50),
+    ("serve: an unfit slot past the last grid", 5),
+    ("serve: counts at their limits", 2),
+    ("serve: lengths that are right in sum alone", 3),
+    ("serve: 64 64 64 everywhere", 2),
+    ("serve: otherwise with the marks of place 0", 5),
+    ("serve: otherwise with the marks of another place", 5),
+    ("serve: otherwise with the record of another place", 10),
+    ("serve: something still pending", 50),
+    ("serve: nothing pending there any more", 20),
+    ("serve: a removal", 50),
+    ("serve: no removal, after one of an earlier call", 5),
+    ("serve: face 0", 5),
+    ("serve: face 1", 5),
+    ("serve: face 2", 5),
+    ("serve: face 3", 5),
+    ("serve: face 4", 5),
+    ("serve: face 5", 5),
+    ("serve: face 6", 5),
+    ("serve: after a coarse start", 20),
+    ("serve: after a coarse start, with other marks", 5),
+    ("serve: the order record of a refusal with 34", 5),
+    ("serve: the order record of a refusal with 1", 3),
+    ("serve: the order record of a refusal with 2", 3),
+    ("serve: the order record of a refusal with 7", 3),
+    ("serve: the order record of a refusal with 29", 3),
+    ("serve: the order record of a refusal with 8", 3),
+    ("serve: the order record of a refusal with 35", 3),
+    ("serve refused: 1, of the first grid alone", 2),
+    ("serve refused: 1, of the last grid alone", 2),
+    ("serve refused: 1, of the last of 16 grids alone", 1),
+    ("serve refused: 1, of a grid whose turn it is not", 2),
+    ("serve refused: 7, of the first grid alone", 2),
+    ("serve refused: 7, of the last grid alone", 2),
+    ("serve refused: 7, of the last of 16 grids alone", 1),
+    ("serve refused: 7, of a grid whose turn it is not", 2),
+    ("serve refused: 7, lengths that are right in sum alone", 2),
+    ("serve refused: 29, of the first grid alone", 2),
+    ("serve refused: 29, of the last grid alone", 2),
+    ("serve refused: 29, of the last of 16 grids alone", 1),
+    ("serve refused: 29, of a grid whose turn it is not", 2),
+    ("serve refused: 8, of the first grid alone", 2),
+    ("serve refused: 8, of the last grid alone", 2),
+    ("serve refused: 8, of the last of 16 grids alone", 1),
+    ("serve refused: 8, of a grid whose turn it is not", 2),
+    ("serve refused: 8, while a grid waits", 5),
+    ("serve refused: 8, finished 2", 1),
+    ("serve refused: 8, finished 255", 1),
+    ("serve refused: order 7, longer than the grids", 5),
+    ("serve refused: order 7, no longer than the grids", 5),
+    ("serve refused: order 7, 17 places", 2),
+    ("serve refused: order 7, of 16 grids", 2),
+    ("serve refused: order 7, one past the last", 5),
+    ("serve refused: order 7, place 255", 2),
+    ("serve refused: 35, after grids were served", 5),
+    ("serve refused: 35, none was served", 5),
+    ("serve refused: 35, of 16 grids", 1),
     // the local test
     ("local", 2400),
     ("local: bits from 27 on", 1),
@@ -926,6 +1020,10 @@ pub fn list() -> BTreeMap<String, usize> {
             entries.extend(causes(call, first).iter().map(|cause| (format!("{call} refused: {first}, {cause} alone"), 1)));
             let second = checks[i + 1..].iter().filter(|second| !impossible(call, first, second));
             entries.extend(second.map(|second| (format!("{call}: {first} before {second}"), 2)));
+        }
+        if call == "serve" {
+            let both = (1..OF_GRIDS.len()).flat_map(|k| OF_GRIDS[..k].iter().map(move |first| (first, OF_GRIDS[k])));
+            entries.extend(both.map(|(first, second)| (format!("{call}: {first} before an earlier grid's {second}"), 2)));
         }
         for record in RECORDS.into_iter().filter(|record| record.iter().all(|check| checks.contains(check))) {
             let both = record[1..].iter().flat_map(|first| record.iter().map(move |second| (first, second)));
@@ -958,6 +1056,8 @@ pub struct Before {
     judged: Option<String>,
     /// The values that a practice call must leave.
     practised: Option<Vec<i32>>,
+    /// What a call of `serve` must answer and leave.
+    served: Option<served::Wanted>,
     seen: Vec<String>,
 }
 
@@ -969,7 +1069,9 @@ impl Before {
         let (mut seen, mut face, mut judged) = (Vec::new(), None, None);
         if order(&call).is_some() || call == "local" {
             seen.extend(sights::of(state, &call, &words));
-            seen.extend(extremes::of(state, &call, &words));
+            if call != "serve" || served::is_of_one(state, &words) {
+                seen.extend(extremes::of(state, &call, &words));
+            }
         }
         if faults.as_ref().is_none_or(Vec::is_empty) {
             let faced = faced::of(state, &call, &words);
@@ -979,14 +1081,18 @@ impl Before {
         }
         let made = faults.as_ref().is_some_and(Vec::is_empty).then(|| practised::left(state, &words)).flatten();
         let practised = (call == "practice").then(|| made.unwrap_or_else(|| state.values.clone()));
-        Before { call, words: words.iter().map(|word| word.to_string()).collect(), faults, face, judged, practised, seen }
+        let served = (call == "serve").then(|| served::Wanted::of(state, &words, !faults.as_ref().is_some_and(Vec::is_empty)));
+        Before { call, words: words.iter().map(|word| word.to_string()).collect(), faults, face, judged, practised, served, seen }
     }
 
-    /// An error where a practice call left other values: those of its rule, or, refused, those that it was lent.
-    pub fn left(&self, values: &[i32]) -> Result<(), String> {
+    /// An error where a practice call left other values, those of its rule, or, refused, those that it was lent; or where `serve` left another order
+    /// record, or other grids.
+    pub fn left(&self, state: &Replay) -> Result<(), String> {
         match &self.practised {
-            Some(wanted) if wanted != values => Err("the values after it are not those of a practice grid, or of a refusal".to_string()),
-            _ => Ok(()),
+            Some(wanted) if *wanted != state.values => {
+                Err("the values after it are not those of a practice grid, or of a refusal".to_string())
+            }
+            _ => self.served.as_ref().map_or(Ok(()), |wanted| wanted.left(state)),
         }
     }
 
@@ -1015,6 +1121,9 @@ impl Before {
             if let Some(judged) = self.judged.filter(|judged| judged != said) {
                 return Err(format!("the answer {said:?} is not what the list comes to: {judged}"));
             }
+            if let Some(line) = self.served.and_then(|wanted| wanted.line).filter(|line| line != said) {
+                return Err(format!("the answer {said:?} is not that of the grid whose turn it is, alone: {line}"));
+            }
             let seen = self.seen.into_iter().chain(sights::answered(&self.call, said)).chain(answered);
             return Ok(seen.chain([format!("{} done", self.call)]).collect());
         };
@@ -1035,6 +1144,9 @@ fn refusals(call: &str, first: &Fault, faults: &[Fault]) -> Vec<String> {
         let later = first.record.is_some() && second.record > first.record && first.of_patch() == second.of_patch();
         let later = if later { "a later record's " } else { "" };
         entries.push(format!("{call}: {} before {later}{}", first.check, second.check));
+        if second.place.is_some() && second.place < first.place {
+            entries.push(format!("{call}: {} before an earlier grid's {}", first.check, second.check));
+        }
     }
     entries.sort_unstable();
     entries.dedup();
@@ -1051,9 +1163,11 @@ pub mod extremes;
 mod faced;
 mod gaps;
 mod judged;
-pub mod marked;
+mod marked;
+pub mod noted;
 mod ordered;
 mod patched;
 mod practised;
+mod served;
 mod sights;
 mod wide;

@@ -1,18 +1,19 @@
 //! Every fault that a call has, each by itself and whether or not another one is answered first. From document 01's numbers, document 02's for
-//! `write`, for patch records, for the order of layers, for values of 32 bits, for marks, for coarse starts, for lists of removals and for practice grids,
-//! and docs/RULES.md for `points`, which is ours, with the order of checks beside them, and not from the reference's code: so the kit can be asked for
-//! every pair of faults, and the reference is held to the order.
+//! `write`, for patch records, for the order of layers, for values of 32 bits, for marks, for coarse starts, for lists of removals, for practice grids
+//! and for many scans at once, and docs/RULES.md for `points`, which is ours, with the order of checks beside them, and not from the reference's code:
+//! so the kit can be asked for every pair of faults, and the reference is held to the order.
 
 use crate::faces::ACROSS;
 use crate::marks::{pinned, wrong_mark};
 use crate::records::{contents, is_measured, negative, parts, patch_index, second_byte, written_length, written_width, LayerRecord};
 use crate::records::{GREATEST, LEAST, LONGEST_INPUT, MISSING, NARROW, OPENING, ORDINARY, PATCH_LENGTH, REMOVAL_LENGTH, WIDE};
-use reference::grid::Sides;
+use crate::served::Office;
+use reference::grid::{Record, Sides};
 use reference::local::local_test;
-use reference::replay::Replay;
+use reference::replay::{Replay, Slot};
 
 /// A check of a call in its place of the order: a number, or `header N` for a file's header and `patch N` for its patch records where a layer record
-/// has that number too; and `removal N` for the records of a list.
+/// has that number too; `removal N` for the records of a list; and `order N` for an order record, where the grids have that number too.
 pub type Check = &'static str;
 
 pub struct Fault {
@@ -23,11 +24,13 @@ pub struct Fault {
     pub cause: &'static str,
     /// The record of a file, patches counted on from the layers, or of a list.
     pub record: Option<usize>,
+    /// The place of the grid, where there are many.
+    pub place: Option<usize>,
 }
 
 impl Fault {
     pub fn number(&self) -> &'static str {
-        self.check.trim_start_matches("header ").trim_start_matches("patch ").trim_start_matches("removal ")
+        self.check.rsplit(' ').next().unwrap_or(self.check)
     }
 
     /// Whether it is a fault of a patch record.
@@ -40,8 +43,8 @@ impl Fault {
 pub const PATCH: [Check; 3] = ["patch 21", "patch 22", "5"];
 
 /// A call's checks in their order (document 01, the last two sentences of "Numbers that come from the state"; document 02, CR 1 for `write`, CR 2
-/// for what follows the layers of a file and for the program's 25, CR 4 for 27, CR 5 for 28, CR 7 for 29 and 30, CR 10 for 31, CR 11 for `judge`
-/// and CR 12 for `practice`).
+/// for what follows the layers of a file and for the program's 25, CR 4 for 27, CR 5 for 28, CR 7 for 29 and 30, CR 10 for 31, CR 11 for `judge`,
+/// CR 12 for `practice` and CR 14 for `serve`).
 pub fn order(call: &str) -> Option<&'static [Check]> {
     Some(match call {
         "begin" => &["1", "2", "28", "29", "3", "4"],
@@ -50,6 +53,7 @@ pub fn order(call: &str) -> Option<&'static [Check]> {
         "take" => &["1", "2", "7", "29", "8", "5", "10", "11", "30", "12"],
         "open" => &["1", "2", "7", "29", "8", "13", "14", "15"],
         "finish" => &["1", "2", "7", "8", "13"],
+        "serve" => &["34", "1", "2", "7", "order 7", "29", "8", "35"],
         "judge" => &["1", "2", "7", "8", "removal 21", "removal 22", "removal 5", "32", "33"],
         "crossing" => &["1", "2", "7", "9", "5", "6"],
         "points" => &["1", "2", "7", "9", "5"],
@@ -66,7 +70,7 @@ pub fn order(call: &str) -> Option<&'static [Check]> {
 pub fn faults(state: &Replay, command: &str) -> Option<Vec<Fault>> {
     let words: Vec<&str> = command.split_ascii_whitespace().collect();
     let call = *words.first()?;
-    let mut found = Found { order: order(call)?, list: Vec::new() };
+    let mut found = Found { order: order(call)?, list: Vec::new(), place: None };
     let argument = |i: usize| words.get(i).and_then(|word| word.parse::<u64>().ok()).unwrap_or(0);
     match call {
         "begin" | "begincoarse" => {
@@ -104,6 +108,7 @@ pub fn faults(state: &Replay, command: &str) -> Option<Vec<Fault>> {
             found.sides(&state.sides, 64);
             found.lengths(&state.sides, &[("values", state.values.len())]);
         }
+        "serve" => found.office(&Office::of(state, argument(1) as usize), argument(2)),
         "judge" => {
             found.record(state);
             found.removals(state, &words.get(1).map_or(Vec::new(), |list| bytes_of(list)));
@@ -206,12 +211,14 @@ fn file_sides(file: &[u8]) -> Option<Sides> {
 struct Found {
     order: &'static [Check],
     list: Vec<Fault>,
+    /// Of the grid that is looked at, where there are many.
+    place: Option<usize>,
 }
 
 impl Found {
     fn add(&mut self, check: &str, cause: &'static str) {
         if let Some(rank) = self.order.iter().position(|&c| c == check) {
-            self.list.push(Fault { rank, check: self.order[rank], cause, record: None });
+            self.list.push(Fault { rank, check: self.order[rank], cause, record: None, place: self.place });
         }
     }
 
@@ -219,7 +226,7 @@ impl Found {
     fn add_record(&mut self, record: usize, check: &str, cause: &'static str) {
         if let Some(place) = self.order.iter().position(|&c| c == check) {
             let rank = 100 * (record + 1) + place;
-            self.list.push(Fault { rank, check: self.order[place], cause, record: Some(record) });
+            self.list.push(Fault { rank, check: self.order[place], cause, record: Some(record), place: None });
         }
     }
 
@@ -256,7 +263,10 @@ impl Found {
     }
 
     fn lengths(&mut self, sides: &Sides, buffers: &[(&str, usize)]) {
-        let n = size(sides);
+        self.lengths_of(size(sides), buffers);
+    }
+
+    fn lengths_of(&mut self, n: u128, buffers: &[(&str, usize)]) {
         for &(buffer, len) in buffers {
             let (short, long) = match buffer {
                 "values" => ("values short", "values long"),
@@ -322,10 +332,15 @@ impl Found {
     }
 
     /// 1, 2, 7, 8 and 9.
-    fn record(&mut self, state: &Replay) {
+    fn record(&mut self, state: &Slot) {
         let (r, dist, status) = (&state.record, &state.dist, &state.status);
         self.sides(&r.sides, 64);
         self.lengths(&r.sides, &[("dist", dist.len()), ("status", status.len())]);
+        self.fitness(r, dist, status);
+    }
+
+    /// 7, 8 and 9.
+    fn fitness(&mut self, r: &Record, dist: &[i32], status: &[u8]) {
         let n = size(&r.sides);
         self.if_so(r.openings > u64::from(r.t), "7", "openings over T");
         self.if_so(u128::from(r.removals) > n, "7", "removals over n");
@@ -343,8 +358,30 @@ impl Found {
         self.if_so(!r.finished(), "9", "");
     }
 
+    /// 34 and 35, 2 of the whole buffers, and 1, 7, 29 and 8 of each grid.
+    fn office(&mut self, office: &Office, limit: u64) {
+        let grids = office.records.len();
+        self.if_so(limit == 0, "34", "limit 0");
+        self.if_so(limit > 1_000, "34", "limit over 1000");
+        self.if_so(grids == 0, "34", "no grids");
+        self.if_so(grids > 16, "34", "over 16 grids");
+        let n = office.records.iter().fold(0u128, |n, r| n.saturating_add(size(&r.sides)));
+        self.lengths_of(n, &[("dist", office.dist.len()), ("marks", office.marks.len()), ("status", office.status.len())]);
+        let places = || office.order.iter().map(|&place| usize::from(place));
+        self.if_so(places().enumerate().any(|(at, place)| places().take(at).any(|other| other == place)), "order 7", "a place twice");
+        self.if_so(places().any(|place| place >= grids), "order 7", "a place past the last grid");
+        for (place, r) in office.records.iter().enumerate() {
+            self.place = Some(place);
+            self.sides(&r.sides, 64);
+            self.fitness(r, office.dist_of(place), office.status_of(place));
+            self.marks(office.marks_of(place));
+        }
+        self.place = None;
+        self.if_so(!office.status.contains(&3), "35", "");
+    }
+
     /// 5, 6, 10 to 15, 30.
-    fn argument(&mut self, call: &str, state: &Replay, index: u64, axis: u64) {
+    fn argument(&mut self, call: &str, state: &Slot, index: u64, axis: u64) {
         let (r, dist, status) = (&state.record, &state.dist, &state.status);
         let held = |i: usize| state.marks.get(i).is_some_and(|&mark| pinned(mark));
         let n = size(&r.sides);
@@ -467,7 +504,7 @@ impl Found {
     // ---- lists of removals
 
     /// 21, 22, 5, 32 and 33. A record that is at fault removes nothing, so that those behind it have faults of their own.
-    fn removals(&mut self, state: &Replay, list: &[u8]) {
+    fn removals(&mut self, state: &Slot, list: &[u8]) {
         const LEFT: [&str; 6] = ["", "1 byte", "2 bytes", "3 bytes", "4 bytes", "5 bytes"];
         let n = size(&state.record.sides);
         let mut judged = Removals { state, status: state.status.clone(), openings: 0 };
@@ -536,7 +573,7 @@ fn over(index: u32, n: u128) -> Option<&'static str> {
 
 /// What a list has removed so far.
 struct Removals<'a> {
-    state: &'a Replay,
+    state: &'a Slot,
     status: Vec<u8>,
     openings: u64,
 }

@@ -19,3 +19,4 @@ pub mod random;
 pub mod records;
 pub mod round_trip;
 pub mod scripts;
+pub mod served;

@@ -1,7 +1,7 @@
 //! Call scripts (docs/CALL-SCRIPTS.md). Those from seeds: lists of calls from begin, crafted records, unfit ones, finished grids, files read, patched,
-//! written, out of order and of both widths, walls with gaps, marks that change, coarse starts, lists of removals, practice grids, blocks; each is
-//! made along with a run of the reference, so that it can choose voxels by what they are at that moment. And those written out, in the modules below:
-//! every fault, every worked case, and what chance leaves out.
+//! written, out of order and of both widths, walls with gaps, marks that change, coarse starts, lists of removals, practice grids, offices of many
+//! grids, blocks; each is made along with a run of the reference, so that it can choose voxels by what they are at that moment. And those written out,
+//! in the modules below: every fault, every worked case, and what chance leaves out.
 
 mod both;
 pub mod cases;
@@ -16,11 +16,13 @@ mod judging;
 pub mod language;
 mod long;
 mod marking;
+mod offices;
 mod ordering;
 mod patching;
 mod points;
 mod practice;
 mod refusals;
+mod serving;
 mod shapes;
 mod widening;
 mod writing;
@@ -34,7 +36,7 @@ use reference::machine::{carve, finish, open, take};
 use std::fmt::{Display, Write};
 
 /// The kinds of scripts from seeds.
-pub const SEEDED: [&str; 17] = [
+pub const SEEDED: [&str; 18] = [
     "lists",
     "takes",
     "openings",
@@ -51,13 +53,14 @@ pub const SEEDED: [&str; 17] = [
     "starts",
     "removals",
     "courses",
+    "offices",
     "blocks",
 ];
 
 /// The kinds of scripts that are written out. What takes longest stands last.
-pub const WRITTEN: [&str; 19] = [
+pub const WRITTEN: [&str; 20] = [
     "cases", "language", "refusals", "damage", "ordering", "patching", "writing", "widening", "filling", "marking", "faces", "coarse",
-    "judging", "practice", "extremes", "long", "points", "shapes", "greatest",
+    "judging", "practice", "serve", "extremes", "long", "points", "shapes", "greatest",
 ];
 
 /// How many scripts of each seeded kind a second supplier is given.
@@ -67,8 +70,8 @@ const GIVEN: u64 = 40;
 pub fn conformance(kind: &str) -> Vec<String> {
     if SEEDED.contains(&kind) {
         // What carves needs room for ties and tunnels; the rest stays small.
-        let greatest =
-            if ["lists", "takes", "openings", "crafted", "gaps", "marks", "starts", "removals", "courses"].contains(&kind) { 9 } else { 5 };
+        const CARVES: [&str; 10] = ["lists", "takes", "openings", "crafted", "gaps", "marks", "starts", "removals", "courses", "offices"];
+        let greatest = if CARVES.contains(&kind) { 9 } else { 5 };
         return (1..=GIVEN).map(|seed| script(kind, seed, greatest)).collect();
     }
     let written = match kind {
@@ -85,6 +88,7 @@ pub fn conformance(kind: &str) -> Vec<String> {
         "coarse" => coarse::scripts(),
         "judging" => judging::scripts(),
         "practice" => practice::scripts(),
+        "serve" => serving::scripts(),
         "patching" => patching::scripts(),
         "long" => long::scripts(),
         "points" => points::scripts(),
@@ -118,6 +122,7 @@ pub fn script(kind: &str, seed: u64, greatest: i64) -> String {
         "starts" => m.starts(greatest),
         "removals" => m.removals(greatest),
         "courses" => m.courses(greatest),
+        "offices" => m.offices(greatest),
         "large" => m.large(),
         _ => m.blocks(),
     }

@@ -8,13 +8,13 @@ use crate::records::negative;
 use reference::coarse::{begin_coarse, Lent};
 use reference::grid::{begin, Record, Sides};
 use reference::machine::{carve, open};
-use reference::replay::Replay;
+use reference::replay::Slot;
 
 /// A grid of at most so many voxels is carved to its end from either start.
 const SMALL: usize = 1000;
 
 /// What is seen before a coarse start; what it leaves is seen by making the call.
-pub fn of(state: &Replay) -> Vec<String> {
+pub fn of(state: &Slot) -> Vec<String> {
     let sides = state.sides;
     if !sides.fit() || [state.values.len(), state.marks.len(), state.dist.len(), state.status.len()] != [sides.n(); 4] {
         return Vec::new();
@@ -35,7 +35,7 @@ pub fn of(state: &Replay) -> Vec<String> {
 }
 
 /// What stands beside a refusal.
-fn refused(state: &Replay, sides: &Sides) -> Vec<String> {
+fn refused(state: &Slot, sides: &Sides) -> Vec<String> {
     let all = [sides.a, sides.b, sides.c];
     let (right, odd) = ([state.cdist.len(), state.cstatus.len()] == [sides.n() / 8; 2], all.iter().any(|side| !side.is_multiple_of(2)));
     let up = sides.n().div_ceil(8);
@@ -173,7 +173,7 @@ impl Start<'_> {
     }
 
     /// Bodies at the end, carved and opened in turn until open refuses.
-    fn end(&self, state: &Replay, next: Record) -> Vec<String> {
+    fn end(&self, state: &Slot, next: Record) -> Vec<String> {
         if self.sides.n() > SMALL {
             return Vec::new();
         }

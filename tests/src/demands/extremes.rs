@@ -6,17 +6,17 @@ use super::sights::chosen;
 use crate::faults::{bytes_of, order};
 use crate::records::{parts, patch_index, PATCH_LENGTH, REMOVAL_LENGTH};
 use reference::grid::{Record, Sides};
-use reference::replay::Replay;
+use reference::replay::Slot;
 
 /// The calls on a record.
-const ON_RECORDS: [&str; 7] = ["carve", "take", "open", "finish", "judge", "crossing", "points"];
+const ON_RECORDS: [&str; 8] = ["carve", "take", "open", "finish", "serve", "judge", "crossing", "points"];
 
 /// The buffers that a call is lent, each of n but for the two further ones of a coarse start.
 pub fn buffers(call: &str) -> &'static [&'static str] {
     match call {
         "begincoarse" => &["values", "marks", "dist", "status", "cdist", "cstatus"],
         "begin" => &["values", "marks", "dist", "status"],
-        "carve" | "take" | "open" => &["marks", "dist", "status"],
+        "carve" | "take" | "open" | "serve" => &["marks", "dist", "status"],
         "finish" | "judge" | "crossing" | "points" => &["dist", "status"],
         "read" | "write" | "practice" => &["values"],
         _ => &[],
@@ -53,6 +53,10 @@ const OUT: &[(&str, &str, &[i64])] = &[
     ("open", "k", &[7]),
     ("open", "m", &[5]),
     ("open", "face", &[4]),
+    ("serve", "place", &[14]),
+    ("serve", "examined", &[255, 999]),
+    ("serve", "removed", &[255, 999]),
+    ("serve", "face", &[5]),
     ("judge", "removals", &[255]),
     ("judge", "openings", &[255]),
     ("judge", "euler", &[127, -128]),
@@ -125,13 +129,13 @@ pub fn entries() -> Vec<String> {
             all.extend(bounds.iter().map(|&bound| format!("{call}: given {field} {} {bound}", side_of(bound))));
         }
     }
-    for call in ["begin", "begincoarse", "carve", "take", "open"] {
+    for call in ["begin", "begincoarse", "carve", "take", "open", "serve"] {
         all.extend(MARKS.map(|byte| format!("{call} refused: 29, a mark of {byte}")));
     }
     for &(call, number, bounds) in OUT {
         all.extend(bounds.iter().map(|&bound| format!("{call}: {number} {} {bound}", side_of(bound))));
     }
-    for call in ["carve", "take", "open", "finish"] {
+    for call in ["carve", "take", "open", "finish", "serve"] {
         for (field, bounds) in OF_RECORDS {
             all.extend(bounds.iter().map(|&bound| format!("{call}: answered {field} {} {bound}", side_of(bound))));
         }
@@ -177,6 +181,8 @@ const ARGUMENTS: &[(&str, &str, &str, &[u32])] = &[
     ("take", "an index", "5", &OF_64),
     ("crossing", "an index", "5", &OF_64),
     ("crossing", "an axis", "6", &OF_32),
+    ("serve", "a limit", "34", &OF_32),
+    ("serve", "a place of the order", "order 7", &[4, 7]),
     ("judge", "a removal's index", "removal 5", &OF_INDICES),
     ("points", "a position", "5", &OF_64),
     ("readlayer", "a start", "21", &OF_64),
@@ -204,7 +210,7 @@ fn low_signed(number: i64, bits: u32) -> i64 {
     number << (64 - bits) >> (64 - bits)
 }
 
-fn length(state: &Replay, buffer: &str) -> u64 {
+fn length(state: &Slot, buffer: &str) -> u64 {
     let length = match buffer {
         "values" => state.values.len(),
         "marks" => state.marks.len(),
@@ -217,7 +223,7 @@ fn length(state: &Replay, buffer: &str) -> u64 {
 }
 
 /// What is seen before a call.
-pub fn of(state: &Replay, call: &str, words: &[&str]) -> Vec<String> {
+pub fn of(state: &Slot, call: &str, words: &[&str]) -> Vec<String> {
     let number = |i: usize| words.get(i).and_then(|word| word.parse::<u64>().ok()).unwrap_or(0);
     let sides = if ON_RECORDS.contains(&call) { state.record.sides } else { state.sides };
     let mut seen = cut_sides(state, call, sides);
@@ -228,7 +234,7 @@ pub fn of(state: &Replay, call: &str, words: &[&str]) -> Vec<String> {
         let given = numbers_of(&state.record);
         seen.extend(bounds_met(&given).into_iter().map(|(field, bound)| format!("{call}: given {field} {} {bound}", side_of(bound))));
     }
-    if ["begin", "begincoarse", "carve", "take", "open"].contains(&call) {
+    if ["begin", "begincoarse", "carve", "take", "open", "serve"].contains(&call) {
         let wrong: Vec<u8> = state.marks.iter().copied().filter(|&mark| mark > 3).take(2).collect();
         seen.extend(wrong.iter().filter(|_| wrong.len() == 1).map(|mark| format!("if refused 29: {call} refused: 29, a mark of {mark}")));
     }
@@ -236,6 +242,7 @@ pub fn of(state: &Replay, call: &str, words: &[&str]) -> Vec<String> {
         "carve" => carve(state, number(1)),
         "open" => open(state),
         "take" => within(call, "an index", number(1), state.record.sides),
+        "serve" => limit(number(2)),
         "judge" => judge(&bytes_of(words.get(1).unwrap_or(&"")), sides),
         "crossing" => crossing(state, number(1), number(2)),
         "points" => points(state, number(1), number(2)),
@@ -249,7 +256,7 @@ pub fn of(state: &Replay, call: &str, words: &[&str]) -> Vec<String> {
 }
 
 /// One side is not fit but for its lowest bits, and the buffers have as many voxels as these say: nothing else would be refused.
-fn cut_sides(state: &Replay, call: &str, sides: Sides) -> Vec<String> {
+fn cut_sides(state: &Slot, call: &str, sides: Sides) -> Vec<String> {
     let all = [sides.a, sides.b, sides.c];
     let fit = |side: &u64| (3..=64).contains(side);
     if call == "read" || call == "program" || all.iter().filter(|side| !fit(side)).count() != 1 {
@@ -265,7 +272,7 @@ fn cut_sides(state: &Replay, call: &str, sides: Sides) -> Vec<String> {
     places.map(|(k, bits)| format!("if refused 1: {call} refused: 1, {} fit in its low {bits} bits", ["a", "b", "c"][k])).collect()
 }
 
-fn lengths(state: &Replay, call: &str, sides: Sides) -> Vec<String> {
+fn lengths(state: &Slot, call: &str, sides: Sides) -> Vec<String> {
     let of_file = |i: usize| state.file.get(i).map_or(0, |&side| u64::from(side));
     let sides = if call == "read" { Sides { a: of_file(2), b: of_file(3), c: of_file(4) } } else { sides };
     let all = buffers(call);
@@ -325,8 +332,8 @@ fn counts(call: &str, r: &Record) -> Vec<String> {
 }
 
 /// One status byte is none, of a voxel that is neither on the border nor in S.
-fn status_byte(state: &Replay, call: &str) -> Vec<String> {
-    let Replay { record, dist, status, .. } = state;
+fn status_byte(state: &Slot, call: &str) -> Vec<String> {
+    let Slot { record, dist, status, .. } = state;
     let wrong: Vec<usize> = (0..status.len()).filter(|&i| ![0, 1, 3].contains(&status[i])).take(2).collect();
     let [i] = wrong[..] else { return Vec::new() };
     let within = status.len() == record.sides.n() && dist.get(i).is_some_and(|&d| d >= 0) && !record.sides.border(i);
@@ -351,8 +358,8 @@ fn others_first(dist: &[i32], voxels: &[usize]) -> Vec<String> {
     seen
 }
 
-fn carve(state: &Replay, limit: u64) -> Vec<String> {
-    let Replay { dist, marks, status, .. } = state;
+fn carve(state: &Slot, limit: u64) -> Vec<String> {
+    let Slot { dist, marks, status, .. } = state;
     let mut seen: Vec<String> = Vec::new();
     if limit == 0 {
         seen.extend(order("carve").unwrap_or(&[]).iter().map(|number| format!("if refused {number}: carve refused: {number}, limit 0")));
@@ -372,8 +379,8 @@ fn carve(state: &Replay, limit: u64) -> Vec<String> {
     seen
 }
 
-fn open(state: &Replay) -> Vec<String> {
-    let Replay { record: r, dist, marks, status, .. } = state;
+fn open(state: &Slot) -> Vec<String> {
+    let Slot { record: r, dist, marks, status, .. } = state;
     let t = u64::from(r.t);
     let mut seen = chosen(&[
         (r.openings < t && low(r.openings, 8) == low(t, 8), "open: openings that are T in their low 8 bits".to_string()),
@@ -400,6 +407,11 @@ fn within(call: &str, what: &str, index: u64, sides: Sides) -> Vec<String> {
     seen
 }
 
+fn limit(limit: u64) -> Vec<String> {
+    let cut = OF_32.into_iter().filter(|&bits| limit > 1_000 && (1..=1_000).contains(&low(limit, bits)));
+    cut.map(|bits| format!("if refused 34: serve refused: 34, a limit fit in its low {bits} bits")).collect()
+}
+
 fn judge(list: &[u8], sides: Sides) -> Vec<String> {
     let numbers = ["1", "2", "7", "8"].into_iter().filter(|_| list.is_empty());
     let mut seen: Vec<String> = numbers.map(|number| format!("if refused {number}: judge refused: {number}, an empty list")).collect();
@@ -413,14 +425,14 @@ fn judge(list: &[u8], sides: Sides) -> Vec<String> {
     seen
 }
 
-fn crossing(state: &Replay, index: u64, axis: u64) -> Vec<String> {
+fn crossing(state: &Slot, index: u64, axis: u64) -> Vec<String> {
     let mut seen = within("crossing", "an index", index, state.record.sides);
     let cut = OF_32.into_iter().filter(|&bits| axis > 2 && low(axis, bits) <= 2);
     seen.extend(cut.map(|bits| format!("if refused 6: crossing refused: 6, an axis fit in its low {bits} bits")));
     seen
 }
 
-fn points(state: &Replay, position: u64, capacity: u64) -> Vec<String> {
+fn points(state: &Slot, position: u64, capacity: u64) -> Vec<String> {
     let mut seen = Vec::new();
     for number in order("points").unwrap_or(&[]) {
         seen.extend(chosen(&[
@@ -451,7 +463,7 @@ fn write(lent: u64) -> Vec<String> {
 
 // ---- files
 
-fn start(state: &Replay, start: u64) -> Vec<String> {
+fn start(state: &Slot, start: u64) -> Vec<String> {
     let bytes = &state.file;
     let is_record = |at: u64| usize::try_from(at).ok().and_then(|at| bytes.get(at..)).is_some_and(|left| left.starts_with(&[0x56, 0x4C]));
     let past = start >= bytes.len() as u64;
@@ -500,7 +512,7 @@ pub fn answered(call: &str, words: &[&str], said: &str) -> Vec<String> {
         let met = bounds.iter().filter(|&&bound| after(of_call, number).is_some_and(|value| beyond(value, bound)));
         seen.extend(met.map(|&bound| format!("{call}: {number} {} {bound}", side_of(bound))));
     }
-    if ["carve", "take", "open", "finish"].contains(&call) {
+    if ["carve", "take", "open", "finish", "serve"].contains(&call) {
         let record = said.split("rec ").nth(1).unwrap_or("");
         let numbers = ["T", "openings", "removals", "examinations", "euler"].map(|field| (field, after(record, field).unwrap_or(0)));
         seen.extend(bounds_met(&numbers).iter().map(|(field, bound)| format!("{call}: answered {field} {} {bound}", side_of(*bound))));

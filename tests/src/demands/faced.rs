@@ -3,7 +3,7 @@
 use super::sights::chosen;
 use crate::faces::{examinations, lowest, of_block, of_carve, of_voxel, Examination, ACROSS};
 use crate::marks::pinned;
-use reference::replay::Replay;
+use reference::replay::Slot;
 
 /// Up to how many voxels a carve is gone through examination by examination: on larger grids that takes too long.
 const SMALL: usize = 1000;
@@ -15,7 +15,7 @@ pub struct Faced {
 }
 
 /// Of a call that is not refused; nothing where it answers no face, or is not gone through.
-pub fn of(state: &Replay, call: &str, words: &[&str]) -> Option<Faced> {
+pub fn of(state: &Slot, call: &str, words: &[&str]) -> Option<Faced> {
     let argument = words.get(1).copied().unwrap_or("");
     let number = || argument.parse::<u64>().unwrap_or(0);
     let Faced { face, seen } = match call {
@@ -57,8 +57,8 @@ fn with_faces(faces: &[usize]) -> Faced {
 }
 
 /// A voxel that take or open removes, and what covers its faces of lower numbers.
-fn removed(state: &Replay, i: usize) -> Faced {
-    let Replay { record, dist, marks, status, .. } = state;
+fn removed(state: &Slot, i: usize) -> Faced {
+    let Slot { record, dist, marks, status, .. } = state;
     let mut faced = with_faces(&of_voxel(&record.sides, status, i));
     let [x, y, z] = record.sides.coordinates(i);
     let lower = ACROSS[..faced.face].iter();
@@ -72,14 +72,14 @@ fn removed(state: &Replay, i: usize) -> Faced {
 }
 
 /// The voxel that open removes.
-fn opened(state: &Replay) -> Option<usize> {
-    let Replay { record, dist, marks, status, .. } = state;
+fn opened(state: &Slot) -> Option<usize> {
+    let Slot { record, dist, marks, status, .. } = state;
     let may_go = |&i: &usize| status[i] != 0 && dist[i] >= 0 && !pinned(marks[i]) && !of_voxel(&record.sides, status, i).is_empty();
     (0..status.len()).filter(may_go).max_by_key(|&i| (dist[i], std::cmp::Reverse(i)))
 }
 
-fn carve(state: &Replay, limit: u64) -> Faced {
-    let Replay { record, dist, marks, status, .. } = state;
+fn carve(state: &Slot, limit: u64) -> Faced {
+    let Slot { record, dist, marks, status, .. } = state;
     let made = examinations(record, dist, marks, status, limit);
     let face = of_carve(&made);
     let seen = match made.iter().rposition(|one| one.removed) {
@@ -99,7 +99,7 @@ fn carve(state: &Replay, limit: u64) -> Faced {
     Faced { face, seen }
 }
 
-fn without_removal(state: &Replay, limit: u64, made: &[Examination]) -> Vec<String> {
+fn without_removal(state: &Slot, limit: u64, made: &[Examination]) -> Vec<String> {
     let pending = state.status.contains(&3);
     let all = |wanted: bool| !made.is_empty() && made.iter().all(|one| pinned(state.marks[one.voxel]) == wanted);
     chosen(&[

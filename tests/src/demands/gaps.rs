@@ -5,7 +5,7 @@ use super::sights::{chosen, groups};
 use crate::gaps::{filled, gaps, Gap};
 use crate::records::{contents, negative, parts, patches, LEAST, MISSING};
 use reference::grid::Sides;
-use reference::replay::Replay;
+use reference::replay::Slot;
 use std::collections::BTreeSet;
 
 const SIDES: [&str; 6] = ["low x", "high x", "low y", "high y", "low z", "high z"];
@@ -123,7 +123,7 @@ fn bodies(sides: &Sides, values: &[i32], closed: &[&Gap]) -> Vec<String> {
 }
 
 /// A take of a voxel that is in S because it was filled; `values` are still those that were begun with.
-pub fn of_take(state: &Replay, index: u64) -> Vec<String> {
+pub fn of_take(state: &Slot, index: u64) -> Vec<String> {
     let (sides, values) = (&state.record.sides, &state.values);
     let found = usize::try_from(index).ok().filter(|&i| values.get(i) == Some(&MISSING) && state.dist.get(i) == Some(&-1));
     chosen(&[(sides.fit() && values.len() == sides.n() && found.is_some(), "if refused 11: take refused: 11, a filled voxel")])

@@ -5,27 +5,27 @@ use crate::faults::bytes_of;
 use crate::judged::{is_mark, removals, Body, Removal};
 use crate::marks::pinned;
 use crate::records::{patch_index, OPENING, REMOVAL_LENGTH};
-use reference::replay::Replay;
+use reference::replay::Slot;
 
 fn list_of(words: &[&str]) -> Vec<u8> {
     words.get(1).map_or(Vec::new(), |list| bytes_of(list))
 }
 
 /// The lent buffers, where there are n of each.
-fn body(state: &Replay) -> Option<Body<'_>> {
+fn body(state: &Slot) -> Option<Body<'_>> {
     let sides = state.record.sides;
     let right = sides.fit() && [state.dist.len(), state.status.len()] == [sides.n(); 2];
     right.then(|| Body { sides, dist: &state.dist, status: state.status.clone() })
 }
 
 /// The answer to a call of `judge` that has no fault.
-pub fn line(state: &Replay, words: &[&str]) -> Option<String> {
+pub fn line(state: &Slot, words: &[&str]) -> Option<String> {
     let body = body(state).filter(|_| words.first() == Some(&"judge"))?;
     Some(crate::judged::line(&body, &list_of(words)))
 }
 
 /// What is seen before a list is judged.
-pub fn of(state: &Replay, words: &[&str]) -> Vec<String> {
+pub fn of(state: &Slot, words: &[&str]) -> Vec<String> {
     let (list, Some(mut body)) = (list_of(words), body(state)) else { return Vec::new() };
     let n = body.status.len();
     let good = |record: &&[u8]| record.len() == REMOVAL_LENGTH && is_mark(&record[..2]);
@@ -41,7 +41,7 @@ pub fn of(state: &Replay, words: &[&str]) -> Vec<String> {
 }
 
 /// What stands beside a refusal: the records up to the first that breaks the rules are good.
-fn refused(state: &Replay, body: &mut Body, whole: &[&[u8]], length: usize) -> Vec<String> {
+fn refused(state: &Slot, body: &mut Body, whole: &[&[u8]], length: usize) -> Vec<String> {
     let (mut good, mut woken, mut openings) = (0, false, 0);
     for record in whole {
         let (i, opening) = (patch_index(record).expect("a whole record") as usize, record[1] == OPENING);
@@ -77,7 +77,7 @@ fn refused(state: &Replay, body: &mut Body, whole: &[&[u8]], length: usize) -> V
 }
 
 /// What is seen where the list keeps the rules, from the body before it and the one behind it.
-fn done(state: &Replay, first: &Body, last: &Body, removed: &[Removal]) -> Vec<String> {
+fn done(state: &Slot, first: &Body, last: &Body, removed: &[Removal]) -> Vec<String> {
     let (r, dist) = (&state.record, &state.dist);
     let openings: Vec<&Removal> = removed.iter().filter(|removal| removal.opening).collect();
     let held = |i: usize| state.marks.get(i).is_some_and(|&mark| pinned(mark));

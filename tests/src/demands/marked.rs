@@ -4,13 +4,13 @@ use super::sights::chosen;
 use crate::marks::{hurried, pinned, wrong_mark, BOTH, HURRIED, PINNED, UNMARKED};
 use reference::grid::Sides;
 use reference::machine::test_at;
-use reference::replay::Replay;
+use reference::replay::Slot;
 
 /// The calls that are given sides and values.
 const STARTS: [&str; 2] = ["begin", "begincoarse"];
 
 /// What is seen of the marks before a call.
-pub fn of(state: &Replay, call: &str, index: u64) -> Vec<String> {
+pub fn of(state: &Slot, call: &str, index: u64) -> Vec<String> {
     let sides = if STARTS.contains(&call) { &state.sides } else { &state.record.sides };
     if !sides.fit() || state.marks.iter().all(|&mark| mark == 0) && state.marks.len() == sides.n() {
         return Vec::new();
@@ -31,7 +31,7 @@ pub fn of(state: &Replay, call: &str, index: u64) -> Vec<String> {
     seen.iter().map(told).collect()
 }
 
-fn lent(state: &Replay, sides: &Sides, call: &str, index: u64) -> Vec<String> {
+fn lent(state: &Slot, sides: &Sides, call: &str, index: u64) -> Vec<String> {
     let (marks, n) = (&state.marks, sides.n());
     if marks.len() != n {
         return chosen(&[
@@ -67,7 +67,7 @@ fn lent(state: &Replay, sides: &Sides, call: &str, index: u64) -> Vec<String> {
 }
 
 /// Where the one byte is that is no mark.
-fn wrong_at(state: &Replay, sides: &Sides, call: &str, i: usize) -> Vec<String> {
+fn wrong_at(state: &Slot, sides: &Sides, call: &str, i: usize) -> Vec<String> {
     let status = state.status.get(i).copied().filter(|_| !STARTS.contains(&call));
     let distance = state.dist.get(i).copied().unwrap_or(0);
     chosen(&[
@@ -81,20 +81,20 @@ fn wrong_at(state: &Replay, sides: &Sides, call: &str, i: usize) -> Vec<String> 
 }
 
 /// Whether no voxel has been examined, taken or opened.
-fn untouched(state: &Replay) -> bool {
+fn untouched(state: &Slot) -> bool {
     let r = &state.record;
     (r.openings, r.removals, r.examinations) == (0, 0, 0)
 }
 
 /// Whether a voxel that could go is of mark 3.
-fn held_by_both(state: &Replay) -> bool {
-    let Replay { dist, marks, status, .. } = state;
+fn held_by_both(state: &Slot) -> bool {
+    let Slot { dist, marks, status, .. } = state;
     let n = marks.len();
     (dist.len(), status.len()) == (n, n) && (0..n).any(|i| marks[i] == BOTH && status[i] != 0 && dist[i] >= 0)
 }
 
 /// What begin leaves is seen by making the call.
-fn begin(state: &Replay, sides: &Sides) -> Vec<String> {
+fn begin(state: &Slot, sides: &Sides) -> Vec<String> {
     let (mut dist, mut status) = (state.dist.clone(), state.status.clone());
     let unmarked = vec![0; sides.n()];
     if reference::grid::begin(*sides, 0, &state.values, &unmarked, &mut dist, &mut status).is_err() {
@@ -125,8 +125,8 @@ fn begin(state: &Replay, sides: &Sides) -> Vec<String> {
     seen
 }
 
-fn carve(state: &Replay, limit: u64) -> Vec<String> {
-    let Replay { dist, marks, status, .. } = state;
+fn carve(state: &Slot, limit: u64) -> Vec<String> {
+    let Slot { dist, marks, status, .. } = state;
     let pending: Vec<usize> = (0..status.len()).filter(|&i| status[i] == 3).collect();
     let (first, others): (Vec<usize>, Vec<usize>) = pending.iter().partition(|&&i| hurried(marks[i]));
     let distances: Vec<i32> = first.iter().map(|&i| dist[i]).collect();
@@ -149,8 +149,8 @@ fn carve(state: &Replay, limit: u64) -> Vec<String> {
 }
 
 /// When a pending voxel of mark 3 has its turn, beside what is free: by its distance and index, behind all that is hurried.
-fn carve_both(state: &Replay, limit: u64, pending: &[usize]) -> Vec<String> {
-    let Replay { dist, marks, status, .. } = state;
+fn carve_both(state: &Slot, limit: u64, pending: &[usize]) -> Vec<String> {
+    let Slot { dist, marks, status, .. } = state;
     let foremost = |ahead: &dyn Fn(u8) -> bool| pending.iter().copied().max_by_key(|&i| (ahead(marks[i]), dist[i], std::cmp::Reverse(i)));
     let other_first = foremost(&hurried) != foremost(&|mark| mark >= HURRIED);
     let (both, others): (Vec<usize>, Vec<usize>) = pending.iter().partition(|&&i| marks[i] == BOTH);
@@ -172,8 +172,8 @@ fn carve_both(state: &Replay, limit: u64, pending: &[usize]) -> Vec<String> {
     ])
 }
 
-fn take(state: &Replay, index: u64) -> Vec<String> {
-    let Replay { dist, marks, status, record, .. } = state;
+fn take(state: &Slot, index: u64) -> Vec<String> {
+    let Slot { dist, marks, status, record, .. } = state;
     let Some(i) = usize::try_from(index).ok().filter(|&i| i < status.len()) else { return Vec::new() };
     let near = record.sides.touching(i);
     let beside = |wanted: &dyn Fn(usize) -> bool| near.iter().any(|&j| status[j] != 0 && dist[j] >= 0 && wanted(j));
@@ -192,8 +192,8 @@ fn take(state: &Replay, index: u64) -> Vec<String> {
     ])
 }
 
-fn open(state: &Replay) -> Vec<String> {
-    let Replay { dist, marks, status, record, .. } = state;
+fn open(state: &Slot) -> Vec<String> {
+    let Slot { dist, marks, status, record, .. } = state;
     let bare = |i: usize| record.sides.face_neighbours(i).into_iter().any(|j| j.is_none_or(|j| status[j] == 0));
     let all: Vec<usize> = (0..status.len()).filter(|&i| status[i] != 0 && dist[i] >= 0 && bare(i)).collect();
     // rising indices, so that the first of the farthest is the one to open
@@ -230,7 +230,7 @@ pub struct Begun {
 
 impl Begun {
     /// After a line was done.
-    pub fn note(&mut self, state: &Replay, command: &str, answer: Option<&str>) {
+    pub fn note(&mut self, state: &Slot, command: &str, answer: Option<&str>) {
         let word = command.split_ascii_whitespace().next().unwrap_or("");
         match word {
             "begin" | "begincoarse" if answer.is_some_and(|said| said.starts_with(&format!("{word} ok"))) => {
@@ -243,18 +243,18 @@ impl Begun {
     }
 
     /// What is seen of the start, if the call is done.
-    pub fn seen(&self, state: &Replay, command: &str) -> Vec<String> {
+    pub fn seen(&self, state: &Slot, command: &str) -> Vec<String> {
         let call = command.split_ascii_whitespace().next().unwrap_or("");
         let practised = self.practised.as_ref() == Some(&state.values);
         let of_values = chosen(&[(practised && ["begin", "write"].contains(&call), format!("{call}: a practice grid"))]);
         let Some((start, marks)) = &self.start else { return of_values };
-        let later = ["carve", "take", "open", "finish", "judge"].contains(&call);
+        let later = ["carve", "take", "open", "finish", "serve", "judge"].contains(&call);
         let mut seen = of_values;
         seen.extend(chosen(&[
             (later && start == "begincoarse", format!("{call}: after a coarse start")),
             (STARTS.contains(&call), format!("{call}: over what {start} left")),
         ]));
-        if ["carve", "take", "open"].contains(&call) && marks.len() == state.marks.len() {
+        if ["carve", "take", "open", "serve"].contains(&call) && marks.len() == state.marks.len() {
             seen.extend(changed(state, call, marks));
             let hurry = |i: usize| marks[i] != state.marks[i] && state.status[i] != 0;
             seen.extend(chosen(&[(
@@ -267,8 +267,8 @@ impl Begun {
 }
 
 /// What is seen of marks of 3 that came or went since begin, on voxels that could go.
-fn changed(state: &Replay, call: &str, begun: &[u8]) -> Vec<String> {
-    let Replay { record, dist, marks, status, .. } = state;
+fn changed(state: &Slot, call: &str, begun: &[u8]) -> Vec<String> {
+    let Slot { record, dist, marks, status, .. } = state;
     let may_go: Vec<usize> = (0..marks.len()).filter(|&i| status[i] != 0 && dist[i] >= 0).collect();
     let has = |before: u8, now: u8| may_go.iter().any(|&i| (begun[i], marks[i]) == (before, now));
     let mut seen = Vec::new();

@@ -3,7 +3,7 @@
 use super::sights::chosen;
 use crate::practised::{s_of, seed_of, u_of, value_of, values};
 use crate::records::{is_measured, MISSING};
-use reference::replay::Replay;
+use reference::replay::Slot;
 
 /// The seed of a line, which is one of the language.
 fn seed_in(words: &[&str]) -> Option<u32> {
@@ -12,12 +12,12 @@ fn seed_in(words: &[&str]) -> Option<u32> {
 }
 
 /// The values that a practice call without a fault leaves.
-pub fn left(state: &Replay, words: &[&str]) -> Option<Vec<i32>> {
+pub fn left(state: &Slot, words: &[&str]) -> Option<Vec<i32>> {
     seed_in(words).map(|seed| values(&state.sides, seed))
 }
 
 /// What is seen before a practice grid is made.
-pub fn of(state: &Replay, words: &[&str]) -> Vec<String> {
+pub fn of(state: &Slot, words: &[&str]) -> Vec<String> {
     let (sides, lent) = (&state.sides, &state.values);
     let Some(seed) = seed_in(words).filter(|_| sides.fit() && lent.len() == sides.n()) else { return Vec::new() };
     let within: Vec<u32> = (0..lent.len()).filter(|&i| !sides.border(i)).map(|i| s_of(seed, i)).collect();

@@ -1,11 +1,11 @@
 //! What a call is about, besides its faults: the entries of `ALSO` that it meets if it is done.
 
-use super::{coarse, gaps, judged, marked, ordered, patched, practised, wide};
+use super::{coarse, gaps, judged, marked, ordered, patched, practised, served, wide};
 use crate::gaps::filled;
 use crate::records::{negative, written_length, written_width, GREATEST, LONGEST_INPUT, MISSING};
 use reference::file::read;
 use reference::grid::Sides;
-use reference::replay::Replay;
+use reference::replay::{Replay, Slot};
 
 /// What is seen in the state before a call.
 pub fn of(state: &Replay, call: &str, words: &[&str]) -> Vec<String> {
@@ -17,6 +17,7 @@ pub fn of(state: &Replay, call: &str, words: &[&str]) -> Vec<String> {
         "take" => take(state, number(1)),
         "finish" => finish(state),
         "judge" => judged::of(state, words),
+        "serve" => served::of(state, words),
         "crossing" => crossing(state, number(1), number(2)),
         "points" => points(state, number(1), number(2)),
         "read" | "program" => file(call, &state.file),
@@ -34,7 +35,7 @@ pub fn of(state: &Replay, call: &str, words: &[&str]) -> Vec<String> {
         _ => {}
     }
     seen.extend(marked::of(state, call, number(1)));
-    if !["read", "program", "readlayer", "local"].contains(&call) {
+    if !["read", "program", "readlayer", "local", "serve"].contains(&call) {
         let sides = if ["begin", "begincoarse", "write", "practice"].contains(&call) { state.sides } else { state.record.sides };
         seen.extend(chosen(&[
             (sides == Sides { a: 64, b: 64, c: 64 }, format!("{call} on 64 64 64")),
@@ -55,6 +56,7 @@ pub fn answered(call: &str, said: &str) -> Vec<String> {
             (after("m") > 1, "open: m is 2 or more"),
             (after("k") == 1 && after("m") == 1, "open: k and m are 1"),
         ]),
+        "serve" => served::answered(said),
         "points" => chosen(&[(after("count") >= 1000, "points: 1000 or more in one call")]),
         "program" => chosen(&[
             (after("opened") > 0, "program: an opening"),
@@ -93,7 +95,7 @@ pub(super) fn groups(sides: &Sides, values: &[i32]) -> Vec<Vec<usize>> {
     groups
 }
 
-fn begin(state: &Replay) -> Vec<String> {
+fn begin(state: &Slot) -> Vec<String> {
     let (sides, values) = (&state.sides, &state.values);
     if !sides.fit() || values.len() != sides.n() {
         return Vec::new();
@@ -120,7 +122,7 @@ fn begin(state: &Replay) -> Vec<String> {
     seen
 }
 
-fn begin_coarse(state: &Replay) -> Vec<String> {
+fn begin_coarse(state: &Slot) -> Vec<String> {
     let (sides, values) = (&state.sides, &state.values);
     if !sides.fit() || values.len() != sides.n() {
         return Vec::new();
@@ -130,7 +132,7 @@ fn begin_coarse(state: &Replay) -> Vec<String> {
     seen
 }
 
-fn carve(state: &Replay, limit: u64) -> Vec<String> {
+fn carve(state: &Slot, limit: u64) -> Vec<String> {
     let (r, pending) = (&state.record, state.status.contains(&3));
     let n = if r.sides.fit() { r.sides.n() as u64 } else { 0 };
     chosen(&[
@@ -141,19 +143,19 @@ fn carve(state: &Replay, limit: u64) -> Vec<String> {
     ])
 }
 
-fn take(state: &Replay, index: u64) -> Vec<String> {
+fn take(state: &Slot, index: u64) -> Vec<String> {
     let status = usize::try_from(index).ok().and_then(|i| state.status.get(i)).copied();
     let mut seen = chosen(&[(status == Some(3), "take: pending"), (status == Some(1), "take: not pending")]);
     seen.extend(gaps::of_take(state, index));
     seen
 }
 
-fn finish(state: &Replay) -> Vec<String> {
+fn finish(state: &Slot) -> Vec<String> {
     let kept = |distance: i32| state.dist.iter().zip(&state.status).any(|(&d, &s)| s != 0 && d == distance);
     chosen(&[(kept(0), "finish: a distance of 0 kept"), (kept(i32::MAX), "finish: a distance of 2147483647 kept")])
 }
 
-fn crossing(state: &Replay, index: u64, axis: u64) -> Vec<String> {
+fn crossing(state: &Slot, index: u64, axis: u64) -> Vec<String> {
     let sides = &state.record.sides;
     if !sides.fit() || state.dist.len() != sides.n() || index >= sides.n() as u64 || axis > 2 {
         return Vec::new();
@@ -180,7 +182,7 @@ fn crossing(state: &Replay, index: u64, axis: u64) -> Vec<String> {
     ])
 }
 
-fn points(state: &Replay, position: u64, capacity: u64) -> Vec<String> {
+fn points(state: &Slot, position: u64, capacity: u64) -> Vec<String> {
     let sides = &state.record.sides;
     if !sides.fit() || state.dist.len() != sides.n() || position > 3 * sides.n() as u64 {
         return Vec::new();
@@ -207,14 +209,14 @@ fn points(state: &Replay, position: u64, capacity: u64) -> Vec<String> {
 }
 
 /// Whether a position has a point.
-fn crosses(state: &Replay, position: u64) -> bool {
+fn crosses(state: &Slot, position: u64) -> bool {
     let (sides, index) = (&state.record.sides, (position / 3) as usize);
     let mut there = sides.coordinates(index);
     there[(position % 3) as usize] += 1;
     sides.index(there).is_some_and(|next| (state.dist[index] < 0) != (state.dist[next] < 0))
 }
 
-fn readlayer(state: &Replay, start: u64) -> Vec<String> {
+fn readlayer(state: &Slot, start: u64) -> Vec<String> {
     let bytes = &state.file;
     let mark = usize::try_from(start).ok().and_then(|start| bytes.get(start..)?.get(..2));
     let mut seen = chosen(&[
@@ -246,12 +248,12 @@ fn file(call: &str, bytes: &[u8]) -> Vec<String> {
 }
 
 /// Whether the file is of these sides, T and values.
-fn is_of_the_state(state: &Replay) -> bool {
+fn is_of_the_state(state: &Slot) -> bool {
     let mut values = vec![0; state.values.len()];
     read(&state.file, &mut values, 64) == Ok((state.sides, state.t)) && values == state.values
 }
 
-fn write(state: &Replay, lent: u64) -> Vec<String> {
+fn write(state: &Slot, lent: u64) -> Vec<String> {
     let (sides, values) = (&state.sides, &state.values);
     if !sides.fit() || values.len() != sides.n() {
         return Vec::new();

@@ -7,7 +7,7 @@ use crate::records::{
     is_measured, parts, patches, written_length, written_width, LayerRecord, GREATEST, LEAST, MISSING, NARROW, NARROW_MISSING, WIDE,
 };
 use reference::grid::Sides;
-use reference::replay::Replay;
+use reference::replay::Slot;
 
 /// What the old mark of a missing point is as a value of 32 bits: measured.
 const OLD_MARK: i32 = -32_768;
@@ -30,7 +30,7 @@ pub fn places_of_28(call: &str, sides: &Sides, values: &[i32]) -> Vec<String> {
     places.iter().map(|place| format!("if refused 28: {call} refused: 28, {place}")).collect()
 }
 
-pub fn of_begin(state: &Replay) -> Vec<String> {
+pub fn of_begin(state: &Slot) -> Vec<String> {
     let (sides, values) = (&state.sides, &state.values);
     let on_border = |value: i32| (0..values.len()).any(|i| values[i] == value && sides.border(i));
     let mut seen = places_of_28("begin", sides, values);
@@ -46,7 +46,7 @@ pub fn of_begin(state: &Replay) -> Vec<String> {
 }
 
 /// `own` says that the file at hand is of this grid.
-pub fn of_write(state: &Replay, lent: u64, own: bool) -> Vec<String> {
+pub fn of_write(state: &Slot, lent: u64, own: bool) -> Vec<String> {
     let (sides, values) = (&state.sides, &state.values);
     let wide = written_width(values) == WIDE;
     let needs: Vec<usize> = (0..values.len()).filter(|&i| written_width(&values[i..=i]) == WIDE).collect();

@@ -75,6 +75,7 @@ impl Maker {
 
     pub(super) fn unfit(&mut self, greatest: i64) {
         let finished = self.r.chance(30);
+        self.say("slot 0\norder");
         self.craft(greatest, finished);
         let n = self.record.sides.n() as i64;
         let (t, r) = (i64::from(self.record.t), self.record);
@@ -152,7 +153,7 @@ impl Maker {
     fn each_call(&mut self) {
         let (limit, index) = (self.limit(), self.any_voxel());
         let axis = self.r.below(4);
-        self.say(format!("carve {limit}\ntake {index}\nopen\nfinish\njudge\ncrossing {index} {axis}"));
+        self.say(format!("carve {limit}\ntake {index}\nopen\nfinish\nserve 1 {limit}\njudge\ncrossing {index} {axis}"));
         self.points();
     }
 }

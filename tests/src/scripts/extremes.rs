@@ -305,6 +305,11 @@ fn practice() -> Subject {
     Subject { line: "practice 4294967295", state: given([5, 4, 3], 258, &varied(60)), sides: [5, 4, 3], within: (26, 0) }
 }
 
+fn serve() -> Subject {
+    let (line, state) = super::serving::extremes();
+    Subject { line, state, sides: [5, 5, 3], within: (37, 3) }
+}
+
 /// A list of no removals, behind every number of the record.
 fn empty_list() -> String {
     let unfit = [
@@ -335,5 +340,6 @@ pub fn scripts() -> Vec<String> {
     scripts.extend(judge().scripts());
     scripts.push(empty_list());
     scripts.extend(practice().scripts());
+    scripts.extend(serve().scripts());
     scripts
 }

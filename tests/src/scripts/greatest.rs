@@ -60,5 +60,7 @@ fn points() -> String {
 }
 
 pub fn scripts() -> Vec<String> {
-    vec![points(), pinned(), records(), peeled(), super::coarse::greatest(), super::judging::greatest()]
+    let mut scripts = vec![points(), pinned(), records(), peeled(), super::coarse::greatest(), super::judging::greatest()];
+    scripts.extend(super::serving::greatest(&diagonal()));
+    scripts
 }

@@ -13,7 +13,7 @@ use crate::random::Random;
 use crate::records::{removal, OPENING, ORDINARY};
 use reference::calls::REFERENCE;
 use reference::grid::{begin, Sides};
-use reference::replay::Replay;
+use reference::replay::{Replay, Slot};
 
 type List = Vec<Vec<u8>>;
 
@@ -80,7 +80,7 @@ fn kept_rules(body: &Body, r: &mut Random, order: Order, openings: usize) -> Lis
     }
 }
 
-fn body_of(state: &Replay) -> Body<'_> {
+fn body_of(state: &Slot) -> Body<'_> {
     Body { sides: state.record.sides, dist: &state.dist, status: state.status.clone() }
 }
 

@@ -44,6 +44,14 @@ const SCRIPTS: &[&str] = &[
      practice 4294967295\npractice 0000000000000000000001\npractice -0\n  practice   65536  \nautohash 0\npractice 2\nvalues len 26\npractice 2\n\
      rawsides 3 3 2\npractice 2\nrawsides 3 3 3\nvalues len 27\npractice 2\nautohash 1\nhash\ndump values\nsides 65 3 3\npractice 2\nsides 0 3 3\n\
      practice 2\nrawsides 18446744073709551615 3 3\npractice 2\nrec show 0\nsides 3 3 3\n",
+    "# slots: each has sides, T, buffers and a record of its own; the file, autohash and the order record are there once\nslot 19\nsides 4 4 3\nT 7\n\
+     values fill 6\nvalues set 21 -6\nvalues set 26 -6\nfile 5648\nbegin\nslot 0\nhash\nrec show 0\nshowfile\nslot 018\nsides 3 3 3\nvalues set 13 -1\n\
+     marks set 13 2\nbegin\nappend 03\nautohash 0\nslot 19\nrec show 0\nhash\ndump marks\nshowfile\ncarve 1\nautohash 1\nslot 18\ncarve 1\ndump marks\n\
+     slot 19\ncarve 1\nfinish\nslot 0\nfile\nsides 3 3 3\nvalues set 13 -5\nbegin\nrec show 0\nslot 19\nshowfile\nrec show 0\nslot   0   \n",
+    "# order and serve: the ends of their ranges, leading zeros, an empty order record, and that its line's hashes are of the slot in use\norder\n\
+     values set 13 -5\nbegin\nslot 1\nsides 4 4 3\nvalues fill 6\nvalues set 21 -6\nvalues set 26 -6\nbegin\nserve 0 0\nserve 17 4294967295\nserve 002 01\n\
+     slot 0\nserve 2 1\nserve 2 1\norder 255\nserve 2 1\norder 0 1 2 3 4 5 6 7 8 9 10 11 12 13 14 15 16\nserve 2 1\norder 00 001\nserve 2 4294967295\n\
+     serve 2 1000\nautohash 0\nslot 1\nbegin\nserve 2 1000\nserve 2 1\nslot 0\nbegin\nserve 1 1\norder\nserve 1 1\nserve   2   1000  \nautohash 1\norder\n",
 ];
 
 /// Lines that a tool must refuse, each a script by itself: it prints nothing, and its status is 2.
@@ -120,6 +128,40 @@ pub const MISTAKES: &[&str] = &[
     "practices",
     "Practice 1",
     "practise 1",
+    "slot",
+    "slot 20",
+    "slot -1",
+    "slot 0 1",
+    "slot +0",
+    "slot 0x0",
+    "slot one",
+    "slot 18446744073709551616",
+    "slots 0",
+    "Slot 0",
+    "order 256",
+    "order -1",
+    "order 0 256",
+    "order 0,1",
+    "order [0]",
+    "order +1",
+    "order one",
+    "order 0 0 0 0 0 0 0 0 0 0 0 0 0 0 0 0 0 0",
+    "orders",
+    "Order",
+    "serve",
+    "serve 1",
+    "serve 1 1 1",
+    "serve 18 1",
+    "serve -1 1",
+    "serve 1 -1",
+    "serve 1 4294967296",
+    "serve 4294967297 1",
+    "serve all 1",
+    "serve 1 all",
+    "serve 1.0 1",
+    "serves 1 1",
+    "Serve 1 1",
+    "dump order",
     "showfile 0",
     "showfile 5648",
     "local",

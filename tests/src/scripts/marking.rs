@@ -531,7 +531,7 @@ impl Maker {
     }
 
     /// New marks for all voxels: so many in a hundred are marked, with these.
-    fn mark_all(&mut self) {
+    pub(super) fn mark_all(&mut self) {
         let marked = self.r.pick(&[0, 3, 10, 30, 60, 100]);
         let with =
             self.r.pick(&[&[PINNED][..], &[HURRIED], &[BOTH], &[PINNED, HURRIED], &[PINNED, HURRIED, BOTH], &[HURRIED, HURRIED, BOTH]]);
@@ -540,7 +540,7 @@ impl Maker {
     }
 
     /// Some marks change: of pending voxels mostly, or of kept ones, or all of them.
-    fn change_marks(&mut self) {
+    pub(super) fn change_marks(&mut self) {
         match self.r.below(12) {
             0 => self.mark_all(),
             1 => {

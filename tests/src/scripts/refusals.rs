@@ -11,6 +11,16 @@ pub(super) struct Fault<'a> {
     axis: Option<&'a str>,
 }
 
+impl<'a> Fault<'a> {
+    pub fn check(&self) -> &'a str {
+        self.check
+    }
+
+    pub fn lines(&self) -> &'a str {
+        self.lines
+    }
+}
+
 /// A state in which a call is done, and what spoils it. The first fault of a number is the one that stands in pairs.
 pub(super) struct Subject<'a> {
     pub call: &'a str,
@@ -20,7 +30,7 @@ pub(super) struct Subject<'a> {
     pub faults: Vec<Fault<'a>>,
 }
 
-pub(super) const fn state(check: &'static str, lines: &'static str) -> Fault<'static> {
+pub(super) const fn state<'a>(check: &'a str, lines: &'a str) -> Fault<'a> {
     Fault { check, lines, index: None, axis: None }
 }
 
@@ -28,7 +38,7 @@ pub(super) const fn at(check: &'static str, lines: &'static str, index: &'static
     Fault { check, lines, index: Some(index), axis: None }
 }
 
-const fn along(check: &'static str, index: Option<&'static str>, axis: &'static str) -> Fault<'static> {
+pub(super) const fn along(check: &'static str, index: Option<&'static str>, axis: &'static str) -> Fault<'static> {
     Fault { check, lines: "", index, axis: Some(axis) }
 }
 
