@@ -16,6 +16,7 @@
  *     wattlerugby_finish    closes the list of calls: what is kept is the body
  *     wattlerugby_crossing  a point of the body's surface between two voxels
  *     wattlerugby_points    all points of the surface, as many at a time as you have room for
+ *     wattlerugby_serve     one of up to 16 grids that are carved by turns: which one it is, and carve on it
  *     wattlerugby_judge     whether a list of removals, another supplier's or your own, keeps the rules on a begun grid
  *     wattlerugby_entry     one removal, as bytes to append to such a list
  *     wattlerugby_read, wattlerugby_read_layer   a grid file, whole or a layer at a time
@@ -72,13 +73,14 @@
  *     values   4           1,048,576      by read, write, practice and begin
  *     dist     4           1,048,576      from begin to the last point
  *     status   1             262,144      from begin to the last point
- *     marks    1             262,144      by begin, carve, take and open
+ *     marks    1             262,144      by begin, carve, take, open and serve
  *     blocks   5/8           163,840      by begin_coarse alone: a distance and a status byte for each 8 voxels
  *
  * So 10 bytes a voxel and the file, and 6 a voxel once begin has answered: then `values` may be given back, unless you want to tell the
  * missing points that count as inside (see begin). A coarse start needs 10 5/8 a voxel, and no later call reads its blocks. Points need 24
- * bytes for each that you have room for. A removal list has 6 bytes for each voxel that it removes, and judge needs no room beside it. On the
- * stack begin_coarse and carve use under 14 KB, begin under 1.2 KB, and every other call under 1 KB (docs/PERFORMANCE.md).
+ * bytes for each that you have room for. A removal list has 6 bytes for each voxel that it removes, and judge needs no room beside it. For serve
+ * the buffers of all grids are one behind the other, with 6 bytes a voxel in all. On the stack serve uses under 18 KB, begin_coarse and carve under
+ * 14 KB, begin under 1.2 KB, and every other call under 1 KB (docs/PERFORMANCE.md).
  *
  * MARKS
  *
@@ -121,6 +123,37 @@
  * proved. Otherwise they may be others: with `allowed` 0, or after 14, the skin that closes a hole may lie elsewhere. And pins hold more: any
  * of its eight voxels pins a block, also one that lies outside the box of voxels around the inside, and that voxel is then kept, where begin
  * does not keep it. So a result is handed on with its start, as with T and the marks, and two suppliers compare results of the same start.
+ *
+ * MANY SCANS AT ONCE
+ *
+ * An office server carves up to 16 grids by turns, so that no display waits for another's grid to end. wattlerugby_serve is lent the buffers of all of
+ * them, one grid behind the other from place 0 on, and serves one: it examines as many of its pending voxels as the limit says, 1000 at most, and
+ * answers its place and what carve answers. Of the grids with something pending it takes the lowest place that was never served, and if all of these
+ * were served, the one served longest ago. The order record says which were: the places served so far, the one last served longest ago first.
+ *
+ * What you keep between calls is yours, as with every other call:
+ *
+ *     wattlerugby_grids grids      how many there are, and the record of each: put `next` of an answer at records[place]
+ *     wattlerugby_order order      empty before the first call, {0, {0}}; then `order` of the last answer, refused or not
+ *     dist, status, marks          the grids' buffers end to end, each as long as the sum of their n; marks may change between calls
+ *
+ *     served = wattlerugby_serve(grids, order, 100, dist, total, status, total, marks, total);
+ *     order = served.order;
+ *     if (served.refusal == 0)
+ *         grids.records[served.place] = served.next;
+ *
+ * Begin each grid in its own part of the buffers, by begin or begin_coarse. Between two calls of serve every other call may be made on the part of a
+ * single grid. A finished one stops all with 8, so take it out first: move what lies behind it up in every buffer and in `records`, take its place out
+ * of the order record, and count the places past it one down. A grid that is added goes behind the others, and was never served.
+ * examples/serve_scans.c is a whole program.
+ *
+ * Over every list of such calls on the same freshly begun grids, from an empty order record on, with limits and marks of their own, a grid with
+ * something pending is served within as many calls that are not refused as there are grids. Its record, status and answers are those of the same carves
+ * made on it alone, and all that is promised of these is promised of it. Both are proved. With 1 to 16 such grids, a limit of 1 to 1000, and marks of
+ * which none is over 3, nothing but 35 is answered, and only where nothing is pending anywhere.
+ *
+ * Each call checks every grid, as one bad byte anywhere makes the answer 7. So it takes time in proportion to all voxels, whatever the limit: choose the
+ * largest limit that keeps your rhythm. Where nobody watches the grids meanwhile, threads that carve a grid each are quicker (docs/PERFORMANCE.md).
  *
  * REMOVAL LISTS
  *
@@ -170,7 +203,8 @@
  * Each answer is a struct, by value. Its first field, `refusal`, is 0 when the call did what it is for. Otherwise it is one of the
  * numbers below, nothing was written to any buffer, or by judge nothing that it has not put back, and every other number in the answer is 0:
  * `face` too, which then stands for no face. A record in `next` is the one for the next call on the same buffers: after a refusal that is the
- * record you gave, each field as it was. So a caller that always goes on with it is always right.
+ * record you gave, each field as it was. So a caller that always goes on with it is always right. Serve is given many records: after a refusal `next` is
+ * none of them but all zeros, as after a refused begin, and `order` is the order record that you gave, each byte as it was.
  *
  * Checks are made in the order that stands with each call, and the first that fails gives the number. Any input at all gets an answer:
  * there is no record, buffer content, index or file that a call may not be given. What you owe is C's own: pointers as above.
@@ -252,14 +286,14 @@ enum {
 
     /* the input */
     WATTLERUGBY_SIDE = 1,              /* a side is outside 3 to 64 */
-    WATTLERUGBY_LENGTH = 2,            /* the length of a lent value, mark, distance or status buffer is not n, or of blocks not n / 8 */
+    WATTLERUGBY_LENGTH = 2,            /* a lent value, mark, distance or status buffer is not n long, in serve the sum of n, or of blocks not n / 8 */
     WATTLERUGBY_BORDER_NEGATIVE = 3,   /* a border voxel is measured negative: the body reaches the edge of the grid */
     WATTLERUGBY_NO_NEGATIVE = 4,       /* no voxel is measured negative: there is no body */
     WATTLERUGBY_INDEX = 5,             /* the index, in read a patch's, in judge an entry's, is n or more; points: the position is over 3 n */
     WATTLERUGBY_AXIS = 6,              /* the axis is over 2, or the next voxel lies beyond the grid */
 
     /* the state */
-    WATTLERUGBY_UNFIT = 7,             /* the record or a buffer cannot be what a call left; see wattlerugby_record */
+    WATTLERUGBY_UNFIT = 7,             /* the record or a buffer cannot be what a call left; see wattlerugby_record, and wattlerugby_order */
     WATTLERUGBY_FINISHED = 8,          /* finish was called already */
     WATTLERUGBY_NOT_FINISHED = 9,      /* crossing and points need a finished grid */
     WATTLERUGBY_GONE_ALREADY = 10,     /* take: the voxel is not kept */
@@ -282,7 +316,7 @@ enum {
     WATTLERUGBY_VALUE = 28,            /* begin, begin_coarse, write, read: a value is neither in the range of measured values nor the missing mark */
 
     /* the marks */
-    WATTLERUGBY_MARK_BYTE = 29,        /* begin, begin_coarse, carve, take, open: a lent mark byte is over 3 */
+    WATTLERUGBY_MARK_BYTE = 29,        /* begin, begin_coarse, carve, take, open, serve: a lent mark byte is over 3 */
     WATTLERUGBY_PINNED_VOXEL = 30,     /* take: the voxel is pinned */
 
     /* the coarse start */
@@ -290,7 +324,11 @@ enum {
 
     /* the removal list */
     WATTLERUGBY_BREAKS_RULES = 32,     /* judge: a removal that the rules do not allow at its turn */
-    WATTLERUGBY_STILL_PASSES = 33      /* judge: at the list's end a kept voxel outside passes the local test */
+    WATTLERUGBY_STILL_PASSES = 33,     /* judge: at the list's end a kept voxel outside passes the local test */
+
+    /* many scans at once */
+    WATTLERUGBY_OFFICE = 34,           /* serve: the limit is not 1 to 1000, or the number of grids not 1 to 16 */
+    WATTLERUGBY_NOTHING_PENDING = 35   /* serve: nothing is pending in any grid */
 };
 
 /* What a refusal number says, in English, without a full stop. Any number gets a text. */
@@ -326,6 +364,8 @@ static inline const char *wattlerugby_reason(uint8_t refusal)
     case WATTLERUGBY_COARSE: return "the grid is not fit for a coarse start";
     case WATTLERUGBY_BREAKS_RULES: return "a removal of the list breaks the rules";
     case WATTLERUGBY_STILL_PASSES: return "a voxel still passes the local test at the list's end";
+    case WATTLERUGBY_OFFICE: return "the limit is not 1 to 1,000, or the grids are not 1 to 16";
+    case WATTLERUGBY_NOTHING_PENDING: return "nothing is pending in any grid";
     default: return "no number of this library";
     }
 }
@@ -567,6 +607,47 @@ wattlerugby_open_answer wattlerugby_open(
     const int32_t *dist, size_t dist_len,
     const uint8_t *marks, size_t marks_len,
     uint8_t *status, size_t status_len);
+
+/* ---- serve */
+
+/* The most grids that serve takes, and the greatest limit. */
+#define WATTLERUGBY_MOST_GRIDS 16
+#define WATTLERUGBY_MOST_EXAMINATIONS 1000
+
+/* The records of the grids, at places from 0. Those from `count` on are not looked at. */
+typedef struct wattlerugby_grids {
+    size_t count;
+    wattlerugby_record records[WATTLERUGBY_MOST_GRIDS];
+} wattlerugby_grids;
+
+/* The order record: the places served so far, the one last served longest ago first. Bytes from `len` on are not looked at, and answered as 0 where a
+ * grid was served. It is unfit, refusal 7, where `len` is over the number of grids, or one of its places stands twice or is that number or more. */
+typedef struct wattlerugby_order {
+    size_t len;
+    uint8_t places[WATTLERUGBY_MOST_GRIDS];
+} wattlerugby_order;
+
+typedef struct wattlerugby_serve_answer {
+    uint8_t refusal;
+    uint8_t place;             /* of the grid that was served */
+    uint32_t examined;         /* what carve answers for it */
+    uint32_t removed;
+    bool pending;
+    uint32_t face;
+    wattlerugby_record next;   /* its record for the next call; after a refusal all zeros */
+    wattlerugby_order order;   /* the order record for the next call; after a refusal the one that you gave */
+} wattlerugby_serve_answer;
+
+/* Serves one of up to 16 grids that lie end to end in the buffers, with `limit` examinations at most: see MANY SCANS AT ONCE above. It is carved as by
+ * wattlerugby_carve, with its own part of the marks. Writes status bytes of that grid alone.
+ *
+ * Checks: 34, and then, each on all grids before the next, 1, 2 (`dist`, `status` or `marks` is not as long as the sum of n), 7 (a record with its part of
+ * the buffers, or the order record), 29, 8; last 35. */
+wattlerugby_serve_answer wattlerugby_serve(
+    wattlerugby_grids grids, wattlerugby_order order, uint32_t limit,
+    const int32_t *dist, size_t dist_len,
+    uint8_t *status, size_t status_len,
+    const uint8_t *marks, size_t marks_len);
 
 /* ---- judge */
 

@@ -133,12 +133,17 @@ impl Grid {
         Grid::start_coarse(sides, allowed, values, marks.to_vec())
     }
 
+    /// A grid of parts that are known to be fit, which no call is asked about again.
+    pub(crate) fn of(record: Record, dist: Vec<i32>, marks: Vec<u8>, status: Vec<u8>) -> Grid {
+        Grid { record, dist, marks, status, ended_by: None }
+    }
+
     fn start_coarse(sides: Sides, allowed: u16, values: &[i32], marks: Vec<u8>) -> Result<(Grid, Blocks), Refusal> {
         let (n, blocks) = (sides.voxels().unwrap_or(0), sides.blocks().unwrap_or(0));
         let (mut dist, mut status) = (vec![0; n], vec![0; n]);
         let (mut block_dist, mut block_status) = (vec![0; blocks], vec![0; blocks]);
         let begun = begin_coarse(sides, allowed, values, &marks, &mut dist, &mut status, &mut block_dist, &mut block_status)?;
-        let grid = Grid { record: begun.next, dist, marks, status, ended_by: None };
+        let grid = Grid::of(begun.next, dist, marks, status);
         Ok((grid, Blocks { examined: begun.examined, dist: block_dist, status: block_status }))
     }
 
@@ -146,7 +151,7 @@ impl Grid {
         let n = sides.voxels().unwrap_or(0);
         let (mut dist, mut status) = (vec![0; n], vec![0; n]);
         let record = begin(sides, allowed, values, &marks, &mut dist, &mut status)?;
-        Ok(Grid { record, dist, marks, status, ended_by: None })
+        Ok(Grid::of(record, dist, marks, status))
     }
 
     /// Reads a grid file and begins. See [`crate::read`] for the file's numbers.
@@ -208,7 +213,7 @@ impl Grid {
         // a carve of no examinations checks 1, 2, 7, then 8, and writes nothing
         let marks = vec![UNMARKED; dist.len()];
         match carve(record, &dist, &marks, &mut status, 0) {
-            Ok(_) | Err(Refusal::FINISHED) => Ok(Grid { record, dist, marks, status, ended_by: None }),
+            Ok(_) | Err(Refusal::FINISHED) => Ok(Grid::of(record, dist, marks, status)),
             Err(refused) => Err(refused),
         }
     }

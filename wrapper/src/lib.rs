@@ -106,6 +106,13 @@
 //! # Ok::<(), Refusal>(())
 //! ```
 //!
+//! # Many scans at once
+//!
+//! An office server carves up to 16 grids by turns: each call of [`serve`] serves one, with a limit, so that none waits longer than the others need for
+//! a turn each. An [`Office`] keeps the grids' buffers end to end, and lets grids come and go. What a grid comes to is what the same carves on it alone
+//! come to, which is proved. Where nobody watches meanwhile, and each grid may take its time, threads with a [`Grid`] each are quicker: they use all
+//! processors, and no call checks another's grid.
+//!
 //! # Practice grids
 //!
 //! A training course wants the same grids on every instrument, without a file: [`practice`] fills values from a seed, by rule alone.
@@ -143,6 +150,7 @@ compile_error!(
 mod entry;
 mod face;
 mod grid;
+mod office;
 pub mod raw;
 mod refusal;
 mod surface;
@@ -150,6 +158,7 @@ mod surface;
 pub use entry::Entry;
 pub use face::Face;
 pub use grid::{Blocks, Grid};
+pub use office::{serve, Office, Order, Service};
 pub use refusal::Refusal;
 pub use surface::Points;
 
@@ -196,6 +205,10 @@ pub const NARROW: u8 = 2;
 pub const WIDE: u8 = 4;
 /// A limit that no carve reaches.
 pub const NO_LIMIT: u32 = u32::MAX;
+/// The most grids that [`serve`] takes.
+pub const MOST_GRIDS: usize = 16;
+/// The greatest limit that [`serve`] takes.
+pub const MOST_EXAMINATIONS: u32 = 1_000;
 /// The bytes of the longest file that [`write()`] makes, that of 64 x 64 x 64 voxels with wide layers. A file with patches may be longer.
 pub const LONGEST_FILE: usize = 1_048_775;
 /// A status byte of a voxel that is not kept.
@@ -594,10 +607,12 @@ pub fn carve(given: impl Into<raw::Record>, dist: &[i32], marks: &[u8], status: 
             limit,
         )
     };
-    done(r.refusal, r).map(|r| {
-        let (face, next) = (face(r.face), r.next.into());
-        Carved { examined: r.examined, removed: r.removed, pending: r.pending, face, next }
-    })
+    done(r.refusal, r).map(|r| carve_answer(r.examined, r.removed, r.pending, r.face, r.next))
+}
+
+/// Carve's answer, by itself or of the grid that was served.
+fn carve_answer(examined: u32, removed: u32, pending: bool, face_number: u32, next: raw::Record) -> Carved {
+    Carved { examined, removed, pending, face: face(face_number), next: next.into() }
 }
 
 /// Removes the voxel of that index, pending or not, if it is kept, outside, not pinned, and passes the local test.

@@ -3,7 +3,7 @@
 
 #![allow(missing_docs)]
 
-use crate::{Point, Sides};
+use crate::{Order, Point, Sides, MOST_GRIDS};
 
 /// A record as C has it: `finished` is any byte, and any but 0 is finished.
 #[repr(C)]
@@ -72,6 +72,26 @@ pub struct OpenAnswer {
     pub m: u32,
     pub face: u32,
     pub next: Record,
+}
+
+/// The records of up to 16 grids, from place 0 on; those from `count` on are not looked at.
+#[repr(C)]
+#[derive(Clone, Copy, Debug, PartialEq, Eq)]
+pub struct Grids {
+    pub count: usize,
+    pub records: [Record; MOST_GRIDS],
+}
+
+#[repr(C)]
+pub struct ServeAnswer {
+    pub refusal: u8,
+    pub place: u8,
+    pub examined: u32,
+    pub removed: u32,
+    pub pending: bool,
+    pub face: u32,
+    pub next: Record,
+    pub order: Order,
 }
 
 #[repr(C)]
@@ -213,6 +233,18 @@ extern "C" {
         status: *mut u8,
         status_len: usize,
     ) -> OpenAnswer;
+
+    pub fn wattlerugby_serve(
+        grids: Grids,
+        order: Order,
+        limit: u32,
+        dist: *const i32,
+        dist_len: usize,
+        status: *mut u8,
+        status_len: usize,
+        marks: *const u8,
+        marks_len: usize,
+    ) -> ServeAnswer;
 
     pub fn wattlerugby_judge(
         given: Record,

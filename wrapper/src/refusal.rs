@@ -76,6 +76,8 @@ numbers! {
     /// [`crate::judge`] says which rules these are.
     32 BREAKS_RULES "a removal of the list breaks the rules"
     33 STILL_PASSES "a voxel still passes the local test at the list's end"
+    34 OFFICE "the limit is not 1 to 1,000, or the grids are not 1 to 16"
+    35 NOTHING_PENDING "nothing is pending in any grid"
 }
 
 impl std::fmt::Debug for Refusal {

@@ -1,6 +1,6 @@
 /* Every call on a state from C, on document 01's case C, with each answer printed: a ring of eight voxels around an empty one, and one
- * opening allowed. Then marks, a coarse start, removal lists, faces, a file out and in, patches to it, layers of both widths, practice grids, and what
- * the header says of null pointers, padding and numbers. The status is 0 where all of that holds. */
+ * opening allowed. Then marks, a coarse start, many grids at once, removal lists, faces, a file out and in, patches to it, layers of both widths,
+ * practice grids, and what the header says of null pointers, padding and numbers. The status is 0 where all of that holds. */
 #include <stdio.h>
 #include <string.h>
 
@@ -424,6 +424,104 @@ static int coarse(void)
     return wrong;
 }
 
+/* ---- many grids at once: case D three times, of which place 1 has 22 pinned, and place 2 is carved already; then case D and the ring */
+
+typedef struct office_d {
+    wattlerugby_grids grids;
+    wattlerugby_order order;
+    int32_t dist[3 * OF_D];
+    uint8_t status[3 * OF_D];
+    uint8_t marks[3 * OF_D];
+} office_d;
+
+static office_d office(void)
+{
+    office_d o;
+    size_t place;
+    memset(&o, 0, sizeof o);
+    o.grids.count = 3;
+    for (place = 0; place < 3; place++) {
+        grid_d g = begun_d(place == 1 ? WATTLERUGBY_PINNED : 0, 0);
+        if (place == 2)
+            carve_d(&g, OF_D, WATTLERUGBY_NO_LIMIT);
+        o.grids.records[place] = g.record;
+        memcpy(o.dist + OF_D * place, g.dist, sizeof g.dist);
+        memcpy(o.status + OF_D * place, g.status, sizeof g.status);
+        memcpy(o.marks + OF_D * place, g.marks + 1, OF_D);
+    }
+    return o;
+}
+
+/* Prints the answer. What is kept between calls is what the call left; after a refusal that is what it was. */
+static int serve_d(office_d *o, uint32_t limit)
+{
+    office_d before = *o;
+    wattlerugby_serve_answer r =
+        wattlerugby_serve(o->grids, o->order, limit, o->dist, 3 * OF_D, o->status, 3 * OF_D, o->marks, 3 * OF_D);
+    size_t i;
+    int wrong = memcmp(o->dist, before.dist, sizeof o->dist) != 0 || memcmp(o->marks, before.marks, sizeof o->marks) != 0;
+    o->order = r.order;
+    if (r.refusal != 0) {
+        printf("  limit %u: refused %u\n", (unsigned)limit, r.refusal);
+        wrong += r.place != 0 || r.examined != 0 || r.removed != 0 || r.pending || r.face != 0 || r.next.sides.a != 0;
+        return wrong + (r.order.len != before.order.len) + (memcmp(r.order.places, before.order.places, 16) != 0) +
+               (memcmp(o->status, before.status, sizeof o->status) != 0);
+    }
+    o->grids.records[r.place] = r.next;
+    printf("  limit %u: place %u, examined %u, removed %u, %s, face %u, order", (unsigned)limit, r.place, (unsigned)r.examined,
+           (unsigned)r.removed, r.pending ? "some pending" : "nothing pending", (unsigned)r.face);
+    for (i = 0; i < r.order.len; i++)
+        printf(" %u", r.order.places[i]);
+    printf("\n");
+    for (i = r.order.len; i < WATTLERUGBY_MOST_GRIDS; i++)
+        wrong += r.order.places[i] != 0;
+    return wrong;
+}
+
+static int serving(void)
+{
+    office_d o = office(), spoilt;
+    size_t i;
+    int wrong = 0;
+    printf("serve:\n");
+    for (i = 0; i < 4; i++)
+        wrong += serve_d(&o, 1);
+    wrong += serve_d(&o, 1) + serve_d(&o, 0) + serve_d(&o, 1001);
+    o = office();
+    wrong += serve_d(&o, 1000);
+    /* bytes of the order record past its length, and records past the count, are not looked at */
+    memset(o.order.places + o.order.len, GUARD, sizeof o.order.places - o.order.len);
+    memset(o.grids.records + 3, GUARD, 13 * sizeof o.grids.records[0]);
+    wrong += serve_d(&o, 1000);
+    spoilt = office();
+    spoilt.order.len = 2;
+    wrong += serve_d(&spoilt, 1);
+    spoilt.order.len = 1;
+    spoilt.order.places[0] = 3;
+    wrong += serve_d(&spoilt, 1);
+    spoilt.order.len = SIZE_MAX;
+    wrong += serve_d(&spoilt, 1);
+    spoilt = office();
+    spoilt.order.len = 1;
+    spoilt.marks[3 * OF_D - 1] = 4;
+    wrong += serve_d(&spoilt, 1);
+    spoilt.status[OF_D] = 1;
+    wrong += serve_d(&spoilt, 1);
+    spoilt.grids.records[2].sides.c = 2;
+    wrong += serve_d(&spoilt, 1);
+    spoilt = office();
+    spoilt.grids.records[2].finished = 7;
+    wrong += serve_d(&spoilt, 1);
+    spoilt.grids.count = 2;
+    wrong += serve_d(&spoilt, 1);
+    spoilt.grids.count = 17;
+    wrong += serve_d(&spoilt, 1);
+    spoilt.grids.count = 0;
+    wrong += serve_d(&spoilt, 1);
+    printf("serve: %s\n", wrong ? "WRONG" : "as the header says, and a refusal leaves everything");
+    return wrong;
+}
+
 /* ---- removal lists, on case D: 22 and 25 pass, 21 and 26 are inside, and one opening is allowed */
 
 /* The list of these voxels, each an opening where its sign is negative. */
@@ -788,6 +886,8 @@ static int nulls(void)
     int32_t written[27] = {0};
     uint8_t status[27] = {0};
     wattlerugby_points_answer filled;
+    wattlerugby_grids grids;
+    wattlerugby_order order;
     wattlerugby_record r;
     int wrong = 0;
     memset(&r, 0, sizeof r);
@@ -801,6 +901,15 @@ static int nulls(void)
     wrong += wattlerugby_carve(r, NULL, 0, NULL, 0, NULL, 0, 1).refusal != WATTLERUGBY_LENGTH;
     wrong += wattlerugby_take(r, NULL, 0, NULL, 0, NULL, 0, 13).refusal != WATTLERUGBY_LENGTH;
     wrong += wattlerugby_open(r, NULL, 0, NULL, 0, NULL, 0).refusal != WATTLERUGBY_LENGTH;
+    memset(&grids, 0, sizeof grids);
+    memset(&order, 0, sizeof order);
+    wrong += wattlerugby_serve(grids, order, 1, NULL, 0, NULL, 0, NULL, 0).refusal != WATTLERUGBY_OFFICE;
+    grids.count = 1;
+    wrong += wattlerugby_serve(grids, order, 1, NULL, 0, NULL, 0, NULL, 0).refusal != WATTLERUGBY_SIDE;
+    grids.records[0] = r;
+    wrong += wattlerugby_serve(grids, order, 1, NULL, 0, NULL, 0, NULL, 0).refusal != WATTLERUGBY_LENGTH;
+    wrong += wattlerugby_serve(grids, order, 1, dist, 27, status, 27, NULL, 0).refusal != WATTLERUGBY_LENGTH;
+    wrong += wattlerugby_serve(grids, order, 1, dist, 27, status, 27, unmarked, 27).refusal != WATTLERUGBY_NOTHING_PENDING;
     /* the marks alone: there is no leaving them out */
     wrong += wattlerugby_begin(fit, 0, values, 27, NULL, 0, written, 27, status, 27).refusal != WATTLERUGBY_LENGTH;
     wrong += wattlerugby_carve(r, dist, 27, NULL, 0, status, 27, 1).refusal != WATTLERUGBY_LENGTH;
@@ -852,6 +961,8 @@ static int padding(void)
     uint8_t status[27];
     double out[18];
     const wattlerugby_sides sides = {3, 3, 3};
+    wattlerugby_grids grids;
+    wattlerugby_order order;
     int i, byte, wrong = 0;
     for (i = 0; i < 27; i++)
         values[i] = i == 13 ? -5 : 5;
@@ -861,6 +972,12 @@ static int padding(void)
         wrong += wattlerugby_take(r, dist, 27, unmarked, 27, status, 27, 13).refusal != WATTLERUGBY_INSIDE;
         wrong += wattlerugby_open(r, dist, 27, unmarked, 27, status, 27).refusal != WATTLERUGBY_NO_OPENING_LEFT;
         wrong += wattlerugby_judge(r, dist, 27, status, 27, NULL, 0).refusal != 0;
+        memset(&grids, byte, sizeof grids);
+        grids.count = 1;
+        grids.records[0] = r;
+        memset(&order, byte, sizeof order);
+        order.len = 0;
+        wrong += wattlerugby_serve(grids, order, 1, dist, 27, status, 27, unmarked, 27).refusal != WATTLERUGBY_NOTHING_PENDING;
         r = padded(wattlerugby_finish(r, dist, 27, status, 27).next, byte);
         wrong += wattlerugby_crossing(r, dist, 27, status, 27, 13, 0).point.x != 1.5;
         wrong += wattlerugby_points(r, dist, 27, status, 27, 0, out, 18).count != 6 || out[9] != 1.5;
@@ -876,9 +993,13 @@ static int finished_bytes(void)
     const wattlerugby_sides sides = {3, 3, 3};
     int32_t dist[27] = {0};
     uint8_t status[27] = {0};
+    wattlerugby_grids grids;
+    wattlerugby_order order;
     wattlerugby_record r;
     int byte, wrong = 0;
     memset(&r, 0, sizeof r);
+    memset(&grids, 0, sizeof grids);
+    memset(&order, 0, sizeof order);
     r.sides = sides;
     wrong += wattlerugby_carve(r, dist, 27, unmarked, 27, status, 27, 1).refusal != 0;
     for (byte = 1; byte < 256; byte++) {
@@ -896,6 +1017,9 @@ static int finished_bytes(void)
         wrong += opened.refusal != WATTLERUGBY_FINISHED || opened.next.finished != byte;
         wrong += closed.refusal != WATTLERUGBY_FINISHED || closed.next.finished != byte;
         wrong += wattlerugby_judge(r, dist, 27, status, 27, NULL, 0).refusal != WATTLERUGBY_FINISHED;
+        grids.count = 1;
+        grids.records[0] = r;
+        wrong += wattlerugby_serve(grids, order, 1, dist, 27, status, 27, unmarked, 27).refusal != WATTLERUGBY_FINISHED;
         wrong += wattlerugby_crossing(r, dist, 27, status, 27, 13, 0).refusal != 0;
         wrong += wattlerugby_points(r, dist, 27, status, 27, 0, NULL, 0).refusal != 0;
     }
@@ -948,7 +1072,10 @@ static void numbers(void)
     NUMBER(COARSE);
     NUMBER(BREAKS_RULES);
     NUMBER(STILL_PASSES);
+    NUMBER(OFFICE);
+    NUMBER(NOTHING_PENDING);
     printf("255 %s\n", wattlerugby_reason(255));
+    printf("most grids %u, most examinations %u\n", (unsigned)WATTLERUGBY_MOST_GRIDS, (unsigned)WATTLERUGBY_MOST_EXAMINATIONS);
     printf("longest file %u\n", (unsigned)WATTLERUGBY_LONGEST_FILE);
     printf("values of %d bits, %d to %d, missing %d\n", WATTLERUGBY_VALUE_BITS, WATTLERUGBY_LEAST_VALUE, WATTLERUGBY_GREATEST_VALUE,
            WATTLERUGBY_MISSING);
@@ -1111,6 +1238,6 @@ int main(int argc, char **argv)
         lengths();
         return 0;
     }
-    return ring() + marks() + coarse() + lists() + faces() + files() + patches() + order() + widths() + practice() + nulls() +
+    return ring() + marks() + coarse() + serving() + lists() + faces() + files() + patches() + order() + widths() + practice() + nulls() +
            padding() + finished_bytes();
 }

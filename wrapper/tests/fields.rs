@@ -2,7 +2,7 @@
 //! the library's own declaration would show.
 
 use wattlerugby::raw::*;
-use wattlerugby::Sides;
+use wattlerugby::{Order, Sides};
 
 const SIDES: Sides = Sides { a: 3, b: 4, c: 5 };
 const N: usize = 60;
@@ -37,6 +37,15 @@ fn the_record_given_comes_back() {
             assert_eq!((closed.refusal, closed.next), (7, given));
             let judged = wattlerugby_judge(given, d, N, s, N, std::ptr::null(), 0);
             assert_eq!((judged.refusal, judged.removals, judged.openings, judged.euler), (7, 0, 0, 0));
+            // serve has no record to hand back, and hands back the order record
+            let (grids, order) =
+                (Grids { count: 1, records: [given; 16] }, Order { len: 0x0102_0304, places: std::array::from_fn(|i| 240 + i as u8) });
+            let served = wattlerugby_serve(grids, order, 9, d, N, s, N, m, N);
+            assert_eq!(
+                (served.refusal, served.place, served.examined, served.removed, served.pending, served.face),
+                (7, 0, 0, 0, false, 0)
+            );
+            assert_eq!((served.next, served.order), (Record::default(), order));
             let crossed = wattlerugby_crossing(given, d, N, s, N, 9, 1);
             assert_eq!((crossed.refusal, crossed.crosses, crossed.point.x), (7, false, 0.0));
             let filled = wattlerugby_points(given, d, N, s, N, 9, std::ptr::null_mut(), 0);
@@ -146,6 +155,46 @@ fn judge_and_its_counts() {
     let judged = judge([N, N, 12]);
     assert_eq!((judged.refusal, judged.removals, judged.openings, judged.euler), (0, 2, 1, 0));
     assert_eq!((status, status[44]), (before, 3));
+}
+
+/// Sixteen grids of other sides each, of which the last but one waits, and each count of its record is another number.
+#[test]
+fn serve_and_its_structs() {
+    let sides: [Sides; 16] = std::array::from_fn(|place| Sides { a: 4, b: 3 + place % 3, c: 3 + place / 3 });
+    let record = |place: usize| Record {
+        sides: sides[place],
+        allowed: 0x1234 + place as u16,
+        openings: 0x1111 + place as u32,
+        removals: 10 + place as u64,
+        examinations: 30 + place as u64,
+        euler: -50 - place as i32,
+        finished: 0,
+    };
+    let n = |place: usize| sides[place].voxels().unwrap();
+    let total: usize = (0..16).map(n).sum();
+    let (dist, marks, mut status) = (vec![5i32; total], vec![0u8; total], vec![0u8; total]);
+    // two voxels side by side in a row of four, of which the first is pending
+    let at = (0..14).map(n).sum::<usize>() + 1 + 4 * (1 + sides[14].b);
+    (status[at], status[at + 1]) = (3, 1);
+    let grids = Grids { count: 16, records: std::array::from_fn(record) };
+    let order = Order { len: 15, places: [15, 3, 14, 0, 1, 2, 4, 5, 6, 7, 8, 9, 10, 11, 12, 99] };
+    // SAFETY: the pointers are those of three live vectors, of which no more is lent than there is.
+    let mut serve = |limit: u32, [d, s, m]: [usize; 3]| unsafe {
+        wattlerugby_serve(grids, order, limit, dist.as_ptr(), d, status.as_mut_ptr(), s, marks.as_ptr(), m)
+    };
+    for short in 0..3 {
+        let mut lengths = [total; 3];
+        lengths[short] -= 1;
+        let refused = serve(1, lengths);
+        assert_eq!((refused.refusal, refused.place, refused.next, refused.order), (2, 0, Record::default(), order));
+    }
+    // each of the numbers is another
+    let served = serve(1000, [total; 3]);
+    assert_eq!((served.refusal, served.place, served.examined, served.removed, served.pending, served.face), (0, 14, 2, 1, false, 0));
+    assert_eq!(served.next, Record { removals: 25, examinations: 46, ..record(14) });
+    let after = Order { len: 15, places: [15, 3, 0, 1, 2, 4, 5, 6, 7, 8, 9, 10, 11, 12, 14, 0] };
+    assert_eq!(served.order, after);
+    assert_eq!((status[at], status[at + 1], status.iter().filter(|&&s| s != 0).count()), (0, 1, 1));
 }
 
 /// The struct has its number alone.

@@ -8,10 +8,12 @@ use std::path::Path;
 use std::process::Command;
 use wattlerugby::raw::*;
 use wattlerugby::{
-    archive_version, patch, read, read_header, write, written_length, written_width, Entry, Face, Grid, Point, Refusal, Sides,
+    archive_version, patch, read, read_header, write, written_length, written_width, Entry, Face, Grid, Order, Point, Refusal, Sides,
 };
 use wattlerugby::{GONE, HURRIED, KEPT, PENDING, PINNED, PINNED_AND_HURRIED, UNMARKED};
-use wattlerugby::{GREATEST_VALUE, LEAST_VALUE, LONGEST_FILE, MISSING, NARROW, NARROW_MISSING, VERSION, WIDE};
+use wattlerugby::{
+    GREATEST_VALUE, LEAST_VALUE, LONGEST_FILE, MISSING, MOST_EXAMINATIONS, MOST_GRIDS, NARROW, NARROW_MISSING, VERSION, WIDE,
+};
 
 /// Compiles a C file against the header and the archive, with every warning an error, and gives what it prints when run.
 fn printed(compiler: &str, language: &[&str], source: &Path, name: &str, arguments: &[&str]) -> String {
@@ -70,6 +72,9 @@ fn sizes_and_offsets() {
     lay_out!(ours, "carve_answer", CarveAnswer, refusal examined removed pending face next);
     lay_out!(ours, "take_answer", TakeAnswer, refusal k m face next);
     lay_out!(ours, "open_answer", OpenAnswer, refusal index k m face next);
+    lay_out!(ours, "grids", Grids, count records);
+    lay_out!(ours, "order", Order, len places);
+    lay_out!(ours, "serve_answer", ServeAnswer, refusal place examined removed pending face next order);
     lay_out!(ours, "judge_answer", JudgeAnswer, refusal removals openings euler);
     lay_out!(ours, "finish_answer", FinishAnswer, refusal next);
     lay_out!(ours, "crossing_answer", CrossingAnswer, refusal crosses point);
@@ -84,8 +89,8 @@ fn sizes_and_offsets() {
     }
 }
 
-/// Each call's answers, marks, a coarse start, removal lists, faces, a file out and in, patches, layers out of order, both widths, practice grids, null
-/// pointers, padding.
+/// Each call's answers, marks, a coarse start, many grids at once, removal lists, faces, a file out and in, patches, layers out of order, both widths,
+/// practice grids, null pointers, padding.
 #[test]
 fn calls() {
     let source = root().join("wrapper/tests/calls.c");
@@ -103,6 +108,7 @@ fn version_and_numbers() {
     let mut ours = vec![format!("version {version}, {number}, of the archive {number}")];
     ours.extend(Refusal::ALL.iter().map(|r| format!("{} {} {}", r.name().expect("it has a name"), r.0, r.reason())));
     ours.push(format!("255 {}", Refusal(255).reason()));
+    ours.push(format!("most grids {MOST_GRIDS}, most examinations {MOST_EXAMINATIONS}"));
     ours.push(format!("longest file {LONGEST_FILE}"));
     ours.push(format!("values of {} bits, {LEAST_VALUE} to {GREATEST_VALUE}, missing {MISSING}", i32::BITS));
     ours.push(format!("layers of {NARROW} bytes a value, missing {NARROW_MISSING}, and of {WIDE}"));
@@ -281,6 +287,29 @@ fn judge_example() {
     let passes = "judge: refused 33, a voxel still passes the local test at the list's end\n";
     assert_eq!(run(&[&sample, path]), (Some(1), passes.into()));
     assert_eq!((run(&[&sample, "no such list"]).0, run(&["no such grid"]).0, run(&[]).0), (Some(2), Some(2), Some(2)));
+}
+
+/// The example that serves three grids by turns, and each end that is none of its own.
+#[test]
+fn serve_example() {
+    let (source, wanted) = (root().join("examples/serve_scans.c"), root().join("examples/serve_scans.out"));
+    let wanted = std::fs::read_to_string(wanted).expect("examples/serve_scans.out can be read");
+    let path = |name: &str| root().join("samples").join(name).to_str().expect("a path").to_string();
+    let three = ["torus-1.grid", "ball.grid", "sphere.grid"].map(path);
+    for said in printed_by_each(&source, "serve-example", &three.each_ref().map(String::as_str)) {
+        assert_eq!(said, wanted);
+    }
+    let program = Path::new(env!("CARGO_TARGET_TMPDIR")).join("serve-example-cc");
+    let run = |words: &[&str]| {
+        let out = Command::new(&program).args(words).output().expect("the example runs");
+        (out.status.code(), String::from_utf8(out.stdout).expect("text"))
+    };
+    let (sixteen, refused) = ([three[1].as_str(); 16], path("refused.grid"));
+    let (code, said) = run(&sixteen);
+    // three turns each, and a line at the end
+    assert_eq!((code, said.lines().count(), said.lines().nth(15)), (Some(0), 16 * 4, Some("place 15: examined 100, removed 100")));
+    assert_eq!((run(&[&three[0], "no such grid"]).0, run(&[]).0, run(&[three[1].as_str(); 17]).0), (Some(2), Some(2), Some(2)));
+    assert_eq!(run(&[&three[0], &refused]).0, Some(1));
 }
 
 /// The example with a coarse start, on a grid that is fit for it and on one that is not, which it begins plainly.

@@ -1,5 +1,9 @@
 //! A script's state, and what each line does to it.
 
+mod slots;
+
+pub use slots::State;
+
 use crate::words::{hash, Words};
 use wattlerugby::raw::{Record, NO_FACE};
 use wattlerugby::{
@@ -7,7 +11,8 @@ use wattlerugby::{
     Refusal, Sides,
 };
 
-pub struct State {
+/// A grid of the script with all its buffers, the file and whether hashes are printed.
+pub struct Slot {
     sides: Sides,
     allowed: u16,
     values: Vec<i32>,
@@ -25,26 +30,15 @@ pub struct State {
 /// A line to print, if any; or what is wrong with the script.
 type Said = Result<Option<String>, String>;
 
-impl State {
-    pub fn new() -> Self {
+impl Slot {
+    fn new() -> Self {
         let sides = Sides { a: 3, b: 3, c: 3 };
         let record = Record { sides, euler: 1, ..Record::default() };
         let (values, dist, marks, status, file) = (Vec::new(), Vec::new(), Vec::new(), Vec::new(), Vec::new());
         let (cdist, cstatus) = (Vec::new(), Vec::new());
-        let mut state = State { sides, allowed: 0, values, dist, marks, status, cdist, cstatus, file, record, hashes: false };
-        state.make_buffers();
-        state
-    }
-
-    pub fn line(&mut self, line: &str) -> Said {
-        let mut words = Words::of(line);
-        let Ok(command) = words.word() else { return Ok(None) };
-        if command.starts_with('#') {
-            return Ok(None);
-        }
-        let said = self.command(command, &mut words)?;
-        words.end()?;
-        Ok(said)
+        let mut slot = Slot { sides, allowed: 0, values, dist, marks, status, cdist, cstatus, file, record, hashes: false };
+        slot.make_buffers();
+        slot
     }
 
     fn command(&mut self, command: &str, words: &mut Words) -> Said {
@@ -80,7 +74,7 @@ impl State {
                         Err(Refusal(number)) => format!("{command} refused {number}"),
                     },
                 };
-                return Ok(Some(if self.hashes { format!("{said} # {}", self.buffers()) } else { said }));
+                return Ok(Some(self.with_hashes(said)));
             }
         }
         Ok(None)
@@ -117,6 +111,13 @@ impl State {
             _ => return Err(format!("the record has no {field}")),
         }
         Ok(None)
+    }
+
+    fn with_hashes(&self, said: String) -> String {
+        match self.hashes {
+            true => format!("{said} # {}", self.buffers()),
+            false => said,
+        }
     }
 
     fn buffers(&self) -> String {
