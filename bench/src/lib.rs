@@ -10,6 +10,7 @@ pub mod grids;
 pub mod lists;
 pub mod local;
 pub mod neighbourhood;
+pub mod office;
 pub mod plain;
 pub mod practice;
 pub mod race;

@@ -9,6 +9,7 @@ mod locals;
 mod marks;
 mod patches;
 mod practising;
+mod serving;
 mod singles;
 mod stacks;
 mod starts;
@@ -33,9 +34,9 @@ const GRIDS: [Sides; 5] = [
 const LARGEST: Sides = GRIDS[3];
 
 /// The words that choose parts.
-const WORDS: [&str; 16] = [
-    "begin", "gaps", "marks", "coarse", "carve", "turns", "whole", "judge", "practice", "single", "read", "write", "patches", "crafted",
-    "local", "stack",
+const WORDS: [&str; 17] = [
+    "begin", "gaps", "marks", "coarse", "carve", "turns", "whole", "serve", "judge", "practice", "single", "read", "write", "patches",
+    "crafted", "local", "stack",
 ];
 
 /// T of every grid, so that a noise grid's turns come to an end.
@@ -301,6 +302,9 @@ fn once(word: &str, shape: &str, side: &str, before: bool) {
     if word == "practice" {
         return practising::once(sides, before);
     }
+    if word == "serve" {
+        return serving::once(shape, sides, before);
+    }
     let calls = &ALL[if before { BEFORE } else { 0 }];
     if let Some(distances) = Distances::ALL.into_iter().find(|d| word == "crafted" && d.name() == shape) {
         let (mut state, mut log) = (crafted(sides, distances), Log::default());
@@ -378,6 +382,9 @@ fn main() {
     }
     if wanted("turns") {
         demands.extend(against_before(&found, &took, "turns", &[Shape::Noise], NOT_SLOWER));
+    }
+    if wanted("serve") {
+        demands.extend(serving::measure());
     }
     if wanted("judge") {
         demands.extend(judging::measure());

@@ -187,7 +187,7 @@ fn fill_status(sides: Sides, inside: &[bool], marks: &[u8], status: &mut [u8]) {
 }
 
 /// 1, 2, 7, 29, 8; finish is lent no marks.
-fn ready(given: &Record, dist: &[i32], marks: Option<&[u8]>, status: &[u8]) -> Result<(), Refused> {
+pub fn ready(given: &Record, dist: &[i32], marks: Option<&[u8]>, status: &[u8]) -> Result<(), Refused> {
     let Some(n) = given.sides.voxels() else { return Err(1) };
     if dist.len() != n || status.len() != n || marks.is_some_and(|marks| marks.len() != n) {
         return Err(2);
@@ -240,6 +240,26 @@ fn remove(sides: Sides, dist: &[i32], marks: &[u8], status: &mut [u8], i: usize,
     });
 }
 
+/// Carve on a grid that was checked.
+pub fn carve_ready(given: Record, dist: &[i32], marks: &[u8], status: &mut [u8], limit: u32) -> Carved {
+    let key = |i: usize| (hurried(marks[i]), dist[i], Reverse(i));
+    let mut pending: BinaryHeap<(bool, i32, Reverse<usize>)> = (0..status.len()).filter(|&i| status[i] == 3).map(key).collect();
+    let (mut examined, mut removed, mut face) = (0, 0, NO_FACE);
+    while examined < limit {
+        let Some((_, _, Reverse(i))) = pending.pop() else { break };
+        status[i] = 1;
+        examined += 1;
+        let block = block_around(given.sides, status, i);
+        if !pinned(marks[i]) && joined::passes(block) {
+            removed += 1;
+            face = bare_face(block);
+            remove(given.sides, dist, marks, status, i, |j| pending.push(key(j)));
+        }
+    }
+    let next = Record { removals: given.removals + u64::from(removed), examinations: given.examinations + u64::from(examined), ..given };
+    Carved { examined, removed, pending: !pending.is_empty(), face: Some(face), next }
+}
+
 impl Machine for Plain {
     const NAME: &'static str = "(a) idiomatic Rust";
     type Value = i32;
@@ -270,23 +290,7 @@ impl Machine for Plain {
 
     fn carve(given: Record, dist: &[i32], marks: &[u8], status: &mut [u8], limit: u32) -> Result<Carved, Refused> {
         ready(&given, dist, Some(marks), status)?;
-        let key = |i: usize| (hurried(marks[i]), dist[i], Reverse(i));
-        let mut pending: BinaryHeap<(bool, i32, Reverse<usize>)> = (0..status.len()).filter(|&i| status[i] == 3).map(key).collect();
-        let (mut examined, mut removed, mut face) = (0, 0, NO_FACE);
-        while examined < limit {
-            let Some((_, _, Reverse(i))) = pending.pop() else { break };
-            status[i] = 1;
-            examined += 1;
-            let block = block_around(given.sides, status, i);
-            if !pinned(marks[i]) && joined::passes(block) {
-                removed += 1;
-                face = bare_face(block);
-                remove(given.sides, dist, marks, status, i, |j| pending.push(key(j)));
-            }
-        }
-        let next =
-            Record { removals: given.removals + u64::from(removed), examinations: given.examinations + u64::from(examined), ..given };
-        Ok(Carved { examined, removed, pending: !pending.is_empty(), face: Some(face), next })
+        Ok(carve_ready(given, dist, marks, status, limit))
     }
 
     fn take(given: Record, dist: &[i32], marks: &[u8], status: &mut [u8], index: usize) -> Result<Taken, Refused> {

@@ -9,16 +9,20 @@ use bench::coarse::{ours as begin_coarse, Blocks};
 use bench::contest::{Case, State};
 use bench::grids::{bordered, Marks, Shape};
 use bench::lists::{ours as judge, own};
+use bench::office::{call, Office};
 use bench::practice::ours as practice;
 use bench::stack::{used, LEAST};
 use std::hint::black_box;
+use wattlerugby::raw::Grids;
+use wattlerugby::MOST_GRIDS;
 
-const CALLS: [&str; 14] = [
+const CALLS: [&str; 15] = [
     "begin",
     "begin coarse",
     "carve",
     "take",
     "open",
+    "serve",
     "judge",
     "finish",
     "crossing",
@@ -37,7 +41,7 @@ pub fn measure() -> f64 {
     for sides in GRIDS {
         // each is the most of the torus with no voxel marked, with every voxel hurried and with some pinned
         let marked = Marks::ALL.map(|marks| on(&Scene::of(Case { marks: marks.of(sides), ..case(sides, Shape::Torus) })));
-        let mut found: [usize; 14] = std::array::from_fn(|call| marked.iter().map(|found| found[call]).max().unwrap_or(0));
+        let mut found: [usize; 15] = std::array::from_fn(|call| marked.iter().map(|found| found[call]).max().unwrap_or(0));
         // begin's is the most of the torus and of what is full of gaps
         found[0] = Shape::GAPS.into_iter().map(|shape| of_begin(&case(sides, shape))).fold(found[0], usize::max);
         let cells = found.map(|bytes| if bytes == LEAST { format!("under {bytes}") } else { bytes.to_string() });
@@ -60,7 +64,7 @@ fn of_begin_coarse(case: &Case) -> usize {
 }
 
 /// In the order of `CALLS`.
-fn on(scene: &Scene) -> [usize; 14] {
+fn on(scene: &Scene) -> [usize; 15] {
     let ours = &archives()[0];
     let (calls, others, case) = (&ours.calls, &ours.others, &scene.case);
     let done = &scene.finished;
@@ -75,12 +79,15 @@ fn on(scene: &Scene) -> [usize; 14] {
     let unmarked = Case::unmarked(case.sides, case.allowed, case.values.clone());
     let mut to_judge = begun_plainly(&unmarked);
     let list = own(&unmarked, &to_judge);
+    let mut office = Office::of(case, &scene.begun, MOST_GRIDS);
+    let grids = Grids { count: MOST_GRIDS, records: [scene.begun.record.into(); MOST_GRIDS] };
     [
         of_begin(case),
         of_begin_coarse(case),
         used(|| _ = (calls.carve)(begun.record, &begun.dist, &case.marks, &mut begun.status, u32::MAX).expect("carve")),
         used(|| _ = (calls.take)(to_take.record, &to_take.dist, &case.marks, &mut to_take.status, pending)),
         used(|| _ = (calls.open)(to_open.record, &to_open.dist, &case.marks, &mut to_open.status).expect("open")),
+        used(|| assert_eq!(call(&grids, &mut office, 1_000), 0)),
         used(|| assert!(judge(to_judge.record, &to_judge.dist, &mut to_judge.status, &list).is_ok())),
         used(|| _ = (calls.finish)(to_finish.record, &mut to_finish.dist, &to_finish.status).expect("finish")),
         used(|| assert!((others.crossing)(done.record, &done.dist, &done.status, index, axis).crosses)),

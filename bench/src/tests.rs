@@ -10,6 +10,8 @@ use crate::lists;
 use crate::local::searched::{both, by_cells, by_frontiers, touched};
 use crate::local::{bare_face, joined, passes, ranked, Whole};
 use crate::neighbourhood::{gather, kept_bits};
+use crate::office;
+use crate::office::Office;
 use crate::plain::{filled, Plain};
 use crate::practice;
 use crate::race::{median, race, Contestant};
@@ -20,7 +22,7 @@ use crate::types::{
 use reference::{grid, local, machine};
 use std::cell::RefCell;
 use std::collections::BTreeSet;
-use wattlerugby::patch;
+use wattlerugby::{patch, Order};
 
 fn theirs(r: Record) -> grid::Record {
     let side = |s: usize| s as u64;
@@ -636,6 +638,67 @@ fn lists_and_their_judges() {
         }
     }
     assert_eq!(met, BTreeSet::from([None, Some(5), Some(21), Some(32), Some(33)]));
+}
+
+/// Ours, both in Rust and the reference's, on offices of any size: limits, order records, marks and grids that are fit or not.
+#[test]
+fn offices() {
+    let (mut random, mut met, mut served) = (Random(14), BTreeSet::new(), BTreeSet::new());
+    for _ in 0..400 {
+        let mut office = Office { records: vec![], order: Order::EMPTY, dist: vec![], marks: vec![], status: vec![] };
+        for _ in 0..1 + random.below(17) {
+            let mut side = || 3 + random.below(5) as usize;
+            let sides = Sides { a: side(), b: side(), c: side() };
+            let (n, values) = (size(sides), random_values(&mut random, sides));
+            let marks: Vec<u8> = (0..n).map(|_| if random.below(10) == 0 { random.below(4) as u8 } else { UNMARKED }).collect();
+            let (mut dist, mut status) = (vec![0; n], vec![0; n]);
+            let Ok(record) = Plain::begin(sides, 2, &values, &marks, &mut dist, &mut status) else { continue };
+            office.records.push(record);
+            office.dist.extend(dist);
+            office.marks.extend(marks);
+            office.status.extend(status);
+        }
+        for _ in 0..30 {
+            let before = office.clone();
+            if !office.records.is_empty() && random.below(6) == 0 {
+                let at = random.below(office.records.len() as u64) as usize;
+                let Office { records, dist, status, .. } = &mut office;
+                spoil(&mut random, &mut records[at], dist, status);
+            }
+            match random.below(20) {
+                0 => office.order = Order::of(&[random.below(18) as u8, random.below(18) as u8]),
+                1 => office.marks.push(0),
+                2 => office.marks.iter_mut().take(1).for_each(|mark| *mark = 4),
+                3 => office.status.iter_mut().for_each(|s| *s = (*s).min(1)),
+                _ => {}
+            }
+            let limit = [1, 2, 10, 1000, 1000, 0, 1001][random.below(7) as usize];
+            let mut records: Vec<grid::Record> = office.records.iter().map(|r| theirs(*r)).collect();
+            let (mut order, mut status) = (office.order.served().to_vec(), office.status.clone());
+            let wanted = reference::serve::serve(&mut records, &mut order, &office.dist, &office.marks, &mut status, limit.into());
+            let all = [office::ours, office::plain, office::tuned].map(|serve: office::Serve| {
+                let mut left = office.clone();
+                (serve(&mut left, limit), left)
+            });
+            for (answer, left) in &all {
+                assert_eq!(left.records.iter().map(|r| theirs(*r)).collect::<Vec<_>>(), records);
+                assert_eq!((left.order.served(), &left.status, &left.dist), (&order[..], &status, &office.dist));
+                match (answer, &wanted) {
+                    (Ok((place, c)), Ok(w)) => {
+                        assert_eq!((*place, c.pending, told(c.face)), (w.place, w.carving.pending, w.carving.face.into()));
+                        assert_eq!((u64::from(c.examined), u64::from(c.removed)), (w.carving.examined, w.carving.removed));
+                        served.insert(*place);
+                    }
+                    (answer, wanted) => assert_eq!(answer.err(), wanted.as_ref().err().copied()),
+                }
+            }
+            met.insert(wanted.as_ref().err().copied());
+            let [(_, after), ..] = all;
+            office = if wanted.is_ok() { after } else { before };
+        }
+    }
+    assert_eq!(met, BTreeSet::from([None, Some(2), Some(7), Some(8), Some(29), Some(34), Some(35)]));
+    assert!(served.len() > 10, "{served:?}");
 }
 
 /// Ours, both in Rust and the reference's, on sides that are fit or not, and lengths that are right or not.

@@ -177,7 +177,7 @@ fn fill_status(status: &mut [u8], marks: &[u8], sides: Sides) {
 }
 
 /// 1, 2, 7, 29, 8; finish is lent no marks.
-fn ready(given: &Record, dist: &[i32], marks: Option<&[u8]>, status: &[u8]) -> Result<(), Refused> {
+pub fn ready(given: &Record, dist: &[i32], marks: Option<&[u8]>, status: &[u8]) -> Result<(), Refused> {
     let Some(n) = given.sides.voxels() else { return Err(1) };
     if dist.len() != n || status.len() != n || marks.is_some_and(|marks| marks.len() != n) {
         return Err(2);
@@ -201,7 +201,7 @@ fn ready(given: &Record, dist: &[i32], marks: Option<&[u8]>, status: &[u8]) -> R
     Ok(())
 }
 
-fn any_pending(status: &[u8]) -> bool {
+pub fn any_pending(status: &[u8]) -> bool {
     status.iter().fold(0, |any, &s| any | s) & 2 != 0
 }
 
@@ -254,6 +254,30 @@ fn foremost(sides: Sides, dist: &[i32], marks: &[u8], status: &[u8]) -> u64 {
     best
 }
 
+/// Carve on a grid that was checked.
+pub fn carve_ready(given: Record, dist: &[i32], marks: &[u8], status: &mut [u8], limit: u32) -> Carved {
+    let sides = given.sides;
+    let near = touching(sides);
+    let words: Vec<u64> = (0..status.len()).filter(|&i| status[i] == 3).map(|i| marked_word(dist[i], marks[i], i)).collect();
+    let mut pending = BinaryHeap::from(words);
+    let (mut examined, mut removed, mut last) = (0, 0, None);
+    while examined < limit {
+        let Some(w) = pending.pop() else { break };
+        let i = (0x3FFFF - (w & 0x3FFFF)) as usize;
+        status[i] = 1;
+        examined += 1;
+        if !pinned(marks[i]) && ranked::passes(bits_around(sides, status, i)) {
+            removed += 1;
+            last = Some(i);
+            remove(&near, dist, marks, status, i, |j| pending.push(marked_word(dist[j], marks[j], j)));
+        }
+    }
+    // around the last one removed nothing has gone since
+    let face = last.map_or(NO_FACE, |i| bare_face(bits_around(sides, status, i)));
+    let next = Record { removals: given.removals + u64::from(removed), examinations: given.examinations + u64::from(examined), ..given };
+    Carved { examined, removed, pending: !pending.is_empty(), face: Some(face), next }
+}
+
 impl Machine for Tuned {
     const NAME: &'static str = "(b) tuned Rust";
     type Value = i32;
@@ -302,27 +326,7 @@ impl Machine for Tuned {
 
     fn carve(given: Record, dist: &[i32], marks: &[u8], status: &mut [u8], limit: u32) -> Result<Carved, Refused> {
         ready(&given, dist, Some(marks), status)?;
-        let sides = given.sides;
-        let near = touching(sides);
-        let words: Vec<u64> = (0..status.len()).filter(|&i| status[i] == 3).map(|i| marked_word(dist[i], marks[i], i)).collect();
-        let mut pending = BinaryHeap::from(words);
-        let (mut examined, mut removed, mut last) = (0, 0, None);
-        while examined < limit {
-            let Some(w) = pending.pop() else { break };
-            let i = (0x3FFFF - (w & 0x3FFFF)) as usize;
-            status[i] = 1;
-            examined += 1;
-            if !pinned(marks[i]) && ranked::passes(bits_around(sides, status, i)) {
-                removed += 1;
-                last = Some(i);
-                remove(&near, dist, marks, status, i, |j| pending.push(marked_word(dist[j], marks[j], j)));
-            }
-        }
-        // around the last one removed nothing has gone since
-        let face = last.map_or(NO_FACE, |i| bare_face(bits_around(sides, status, i)));
-        let next =
-            Record { removals: given.removals + u64::from(removed), examinations: given.examinations + u64::from(examined), ..given };
-        Ok(Carved { examined, removed, pending: !pending.is_empty(), face: Some(face), next })
+        Ok(carve_ready(given, dist, marks, status, limit))
     }
 
     fn take(given: Record, dist: &[i32], marks: &[u8], status: &mut [u8], index: usize) -> Result<Taken, Refused> {
