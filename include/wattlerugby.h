@@ -240,11 +240,11 @@
 /* ---- version */
 
 #define WATTLERUGBY_VERSION_MAJOR 0
-#define WATTLERUGBY_VERSION_MINOR 14
+#define WATTLERUGBY_VERSION_MINOR 15
 #define WATTLERUGBY_VERSION_PATCH 0
-#define WATTLERUGBY_VERSION "0.14.0"
+#define WATTLERUGBY_VERSION "0.15.0"
 
-/* The version as one number, 14000 for 0.14.0: the later of two versions has the greater one. It may stand in an #if, where it is 0 with
+/* The version as one number, 15000 for 0.15.0: the later of two versions has the greater one. It may stand in an #if, where it is 0 with
  * a header that does not have it yet. */
 #define WATTLERUGBY_VERSION_NUMBER \
     (WATTLERUGBY_VERSION_MAJOR * 1000000u + WATTLERUGBY_VERSION_MINOR * 1000u + WATTLERUGBY_VERSION_PATCH)

@@ -4,7 +4,7 @@ ghost use Rattle.version.specs.Version.{archiveVersion};
 
 const MAJOR: u32 = 0;
 
-const MINOR: u32 = 14;
+const MINOR: u32 = 15;
 
 const PATCH: u32 = 0;
 
