@@ -59,7 +59,7 @@ static int add(const char *name)
 static uint8_t serve(void)
 {
     size_t n = start[grids.count];
-    wattlerugby_serve_answer served = wattlerugby_serve(grids, order, LIMIT, dist, n, status, n, marks, n);
+    wattlerugby_serve_answer served = wattlerugby_serve(grids, order, dist, n, marks, n, status, n, LIMIT);
     order = served.order;
     if (served.refusal == 0) {
         grids.records[served.place] = served.next;

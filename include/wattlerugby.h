@@ -137,7 +137,7 @@
  *     wattlerugby_order order      empty before the first call, {0, {0}}; then `order` of the last answer, refused or not
  *     dist, status, marks          the grids' buffers end to end, each as long as the sum of their n; marks may change between calls
  *
- *     served = wattlerugby_serve(grids, order, 100, dist, total, status, total, marks, total);
+ *     served = wattlerugby_serve(grids, order, dist, total, marks, total, status, total, 100);
  *     order = served.order;
  *     if (served.refusal == 0)
  *         grids.records[served.place] = served.next;
@@ -644,10 +644,11 @@ typedef struct wattlerugby_serve_answer {
  * Checks: 34, and then, each on all grids before the next, 1, 2 (`dist`, `status` or `marks` is not as long as the sum of n), 7 (a record with its part of
  * the buffers, or the order record), 29, 8; last 35. */
 wattlerugby_serve_answer wattlerugby_serve(
-    wattlerugby_grids grids, wattlerugby_order order, uint32_t limit,
+    wattlerugby_grids grids, wattlerugby_order order,
     const int32_t *dist, size_t dist_len,
+    const uint8_t *marks, size_t marks_len,
     uint8_t *status, size_t status_len,
-    const uint8_t *marks, size_t marks_len);
+    uint32_t limit);
 
 /* ---- judge */
 

@@ -43,7 +43,7 @@ impl Office {
 /// By the archive.
 pub fn ours(office: &mut Office, limit: u32) -> Result<Served, Refused> {
     let Office { records, order, dist, marks, status } = office;
-    let service = wattlerugby::serve(records, order, limit, dist, marks, status).map_err(|refused| refused.0)?;
+    let service = wattlerugby::serve(records, order, dist, marks, status, limit).map_err(|refused| refused.0)?;
     let wattlerugby::Carved { examined, removed, pending, face, next } = service.carved;
     records[service.place] = next;
     let face = Some(face.map_or(NO_FACE, Face::number));
@@ -56,7 +56,7 @@ pub fn call(grids: &Grids, office: &mut Office, limit: u32) -> Refused {
     let Office { order, dist, marks, status, .. } = office;
     let (n, dist, marks, status) = (dist.len(), dist.as_ptr(), marks.as_ptr(), status.as_mut_ptr());
     // SAFETY: the pointers are those of live vectors, which are of one length.
-    unsafe { wattlerugby_serve(*grids, *order, limit, dist, n, status, n, marks, n) }.refusal
+    unsafe { wattlerugby_serve(*grids, *order, dist, n, marks, n, status, n, limit) }.refusal
 }
 
 type Ready = fn(&Record, &[i32], Option<&[u8]>, &[u8]) -> Result<(), Refused>;

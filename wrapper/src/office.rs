@@ -77,23 +77,23 @@ pub struct Service {
 ///
 /// let mut order = Order::EMPTY;
 /// let mut places = Vec::new();
-/// while let Ok(service) = serve(&records, &mut order, 1, &dist, &marks, &mut status) {
+/// while let Ok(service) = serve(&records, &mut order, &dist, &marks, &mut status, 1) {
 ///     records[service.place] = service.carved.next;
 ///     places.push(service.place);
 /// }
 /// assert_eq!(places, [0, 1, 0, 1]);
 /// assert_eq!(order.served(), [0, 1]);
-/// assert_eq!(serve(&records, &mut order, 1, &dist, &marks, &mut status), Err(Refusal::NOTHING_PENDING));
-/// assert_eq!(serve(&records, &mut order, 1001, &dist, &marks, &mut status), Err(Refusal::OFFICE));
+/// assert_eq!(serve(&records, &mut order, &dist, &marks, &mut status, 1), Err(Refusal::NOTHING_PENDING));
+/// assert_eq!(serve(&records, &mut order, &dist, &marks, &mut status, 1001), Err(Refusal::OFFICE));
 /// # Ok::<(), Refusal>(())
 /// ```
 pub fn serve<R: Copy + Into<raw::Record>>(
     records: &[R],
     order: &mut Order,
-    limit: u32,
     dist: &[i32],
     marks: &[u8],
     status: &mut [u8],
+    limit: u32,
 ) -> Result<Service, Refusal> {
     let mut grids = raw::Grids { count: records.len(), records: [raw::Record::default(); MOST_GRIDS] };
     grids.records.iter_mut().zip(records).for_each(|(held, given)| *held = (*given).into());
@@ -102,13 +102,13 @@ pub fn serve<R: Copy + Into<raw::Record>>(
         raw::wattlerugby_serve(
             grids,
             *order,
-            limit,
             dist.as_ptr(),
             dist.len(),
-            status.as_mut_ptr(),
-            status.len(),
             marks.as_ptr(),
             marks.len(),
+            status.as_mut_ptr(),
+            status.len(),
+            limit,
         )
     };
     *order = r.order;
@@ -209,7 +209,7 @@ impl Office {
 
     /// Serves the grid whose turn it is, with `limit` examinations at most, 1 to 1,000. See [`crate::serve`].
     pub fn serve(&mut self, limit: u32) -> Result<Service, Refusal> {
-        let service = serve(&self.records, &mut self.order, limit, &self.dist, &self.marks, &mut self.status)?;
+        let service = serve(&self.records, &mut self.order, &self.dist, &self.marks, &mut self.status, limit)?;
         self.records[service.place] = service.carved.next;
         Ok(service)
     }

@@ -237,13 +237,13 @@ extern "C" {
     pub fn wattlerugby_serve(
         grids: Grids,
         order: Order,
-        limit: u32,
         dist: *const i32,
         dist_len: usize,
-        status: *mut u8,
-        status_len: usize,
         marks: *const u8,
         marks_len: usize,
+        status: *mut u8,
+        status_len: usize,
+        limit: u32,
     ) -> ServeAnswer;
 
     pub fn wattlerugby_judge(

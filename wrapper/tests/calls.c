@@ -457,7 +457,7 @@ static int serve_d(office_d *o, uint32_t limit)
 {
     office_d before = *o;
     wattlerugby_serve_answer r =
-        wattlerugby_serve(o->grids, o->order, limit, o->dist, 3 * OF_D, o->status, 3 * OF_D, o->marks, 3 * OF_D);
+        wattlerugby_serve(o->grids, o->order, o->dist, 3 * OF_D, o->marks, 3 * OF_D, o->status, 3 * OF_D, limit);
     size_t i;
     int wrong = memcmp(o->dist, before.dist, sizeof o->dist) != 0 || memcmp(o->marks, before.marks, sizeof o->marks) != 0;
     o->order = r.order;
@@ -903,13 +903,13 @@ static int nulls(void)
     wrong += wattlerugby_open(r, NULL, 0, NULL, 0, NULL, 0).refusal != WATTLERUGBY_LENGTH;
     memset(&grids, 0, sizeof grids);
     memset(&order, 0, sizeof order);
-    wrong += wattlerugby_serve(grids, order, 1, NULL, 0, NULL, 0, NULL, 0).refusal != WATTLERUGBY_OFFICE;
+    wrong += wattlerugby_serve(grids, order, NULL, 0, NULL, 0, NULL, 0, 1).refusal != WATTLERUGBY_OFFICE;
     grids.count = 1;
-    wrong += wattlerugby_serve(grids, order, 1, NULL, 0, NULL, 0, NULL, 0).refusal != WATTLERUGBY_SIDE;
+    wrong += wattlerugby_serve(grids, order, NULL, 0, NULL, 0, NULL, 0, 1).refusal != WATTLERUGBY_SIDE;
     grids.records[0] = r;
-    wrong += wattlerugby_serve(grids, order, 1, NULL, 0, NULL, 0, NULL, 0).refusal != WATTLERUGBY_LENGTH;
-    wrong += wattlerugby_serve(grids, order, 1, dist, 27, status, 27, NULL, 0).refusal != WATTLERUGBY_LENGTH;
-    wrong += wattlerugby_serve(grids, order, 1, dist, 27, status, 27, unmarked, 27).refusal != WATTLERUGBY_NOTHING_PENDING;
+    wrong += wattlerugby_serve(grids, order, NULL, 0, NULL, 0, NULL, 0, 1).refusal != WATTLERUGBY_LENGTH;
+    wrong += wattlerugby_serve(grids, order, dist, 27, NULL, 0, status, 27, 1).refusal != WATTLERUGBY_LENGTH;
+    wrong += wattlerugby_serve(grids, order, dist, 27, unmarked, 27, status, 27, 1).refusal != WATTLERUGBY_NOTHING_PENDING;
     /* the marks alone: there is no leaving them out */
     wrong += wattlerugby_begin(fit, 0, values, 27, NULL, 0, written, 27, status, 27).refusal != WATTLERUGBY_LENGTH;
     wrong += wattlerugby_carve(r, dist, 27, NULL, 0, status, 27, 1).refusal != WATTLERUGBY_LENGTH;
@@ -977,7 +977,7 @@ static int padding(void)
         grids.records[0] = r;
         memset(&order, byte, sizeof order);
         order.len = 0;
-        wrong += wattlerugby_serve(grids, order, 1, dist, 27, status, 27, unmarked, 27).refusal != WATTLERUGBY_NOTHING_PENDING;
+        wrong += wattlerugby_serve(grids, order, dist, 27, unmarked, 27, status, 27, 1).refusal != WATTLERUGBY_NOTHING_PENDING;
         r = padded(wattlerugby_finish(r, dist, 27, status, 27).next, byte);
         wrong += wattlerugby_crossing(r, dist, 27, status, 27, 13, 0).point.x != 1.5;
         wrong += wattlerugby_points(r, dist, 27, status, 27, 0, out, 18).count != 6 || out[9] != 1.5;
@@ -1019,7 +1019,7 @@ static int finished_bytes(void)
         wrong += wattlerugby_judge(r, dist, 27, status, 27, NULL, 0).refusal != WATTLERUGBY_FINISHED;
         grids.count = 1;
         grids.records[0] = r;
-        wrong += wattlerugby_serve(grids, order, 1, dist, 27, status, 27, unmarked, 27).refusal != WATTLERUGBY_FINISHED;
+        wrong += wattlerugby_serve(grids, order, dist, 27, unmarked, 27, status, 27, 1).refusal != WATTLERUGBY_FINISHED;
         wrong += wattlerugby_crossing(r, dist, 27, status, 27, 13, 0).refusal != 0;
         wrong += wattlerugby_points(r, dist, 27, status, 27, 0, NULL, 0).refusal != 0;
     }

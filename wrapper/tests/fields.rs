@@ -40,7 +40,7 @@ fn the_record_given_comes_back() {
             // serve has no record to hand back, and hands back the order record
             let (grids, order) =
                 (Grids { count: 1, records: [given; 16] }, Order { len: 0x0102_0304, places: std::array::from_fn(|i| 240 + i as u8) });
-            let served = wattlerugby_serve(grids, order, 9, d, N, s, N, m, N);
+            let served = wattlerugby_serve(grids, order, d, N, m, N, s, N, 9);
             assert_eq!(
                 (served.refusal, served.place, served.examined, served.removed, served.pending, served.face),
                 (7, 0, 0, 0, false, 0)
@@ -180,7 +180,7 @@ fn serve_and_its_structs() {
     let order = Order { len: 15, places: [15, 3, 14, 0, 1, 2, 4, 5, 6, 7, 8, 9, 10, 11, 12, 99] };
     // SAFETY: the pointers are those of three live vectors, of which no more is lent than there is.
     let mut serve = |limit: u32, [d, s, m]: [usize; 3]| unsafe {
-        wattlerugby_serve(grids, order, limit, dist.as_ptr(), d, status.as_mut_ptr(), s, marks.as_ptr(), m)
+        wattlerugby_serve(grids, order, dist.as_ptr(), d, marks.as_ptr(), m, status.as_mut_ptr(), s, limit)
     };
     for short in 0..3 {
         let mut lengths = [total; 3];

@@ -146,7 +146,7 @@ fn numbers_in_their_order() {
     let order = Order::of(&[1]);
     let call = |records: &[Record], mut given: Order, limit: u32, lent: usize, marks: &[u8], status: &[u8]| {
         let (mut left, before) = (status.to_vec(), given);
-        let answer = serve(records, &mut given, limit, &dist[..lent], marks, &mut left);
+        let answer = serve(records, &mut given, &dist[..lent], marks, &mut left, limit);
         if answer.is_err() {
             assert_eq!((given, &left[..]), (before, status));
         }
@@ -197,7 +197,7 @@ fn one_grid_is_carved() {
     for limit in [1, 2, 255, 256, 999, 1000] {
         let (record, dist, marks) = (begun.record(), begun.distances(), begun.marks());
         let (mut ours, mut theirs, mut order) = (begun.status().to_vec(), begun.status().to_vec(), Order::EMPTY);
-        let service = serve(&[record], &mut order, limit, dist, marks, &mut ours).unwrap();
+        let service = serve(&[record], &mut order, dist, marks, &mut ours, limit).unwrap();
         assert_eq!(service, Service { place: 0, carved: carve(record, dist, marks, &mut theirs, limit).unwrap() });
         assert_eq!((service.carved.examined, service.carved.pending), (limit, true));
         assert_eq!((ours, order.served()), (theirs, &[0][..]));

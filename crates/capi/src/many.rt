@@ -13,14 +13,14 @@ use office_replies::ServeAnswer;
 pub extern "C" fn wattlerugby_serve(
     grids: CGrids,
     order: Order,
-    limit: u32,
     dist: &[i32],
-    status: &mut [u8],
     marks: &[u8],
+    status: &mut [u8],
+    limit: u32,
 ) -> ServeAnswer
     ensures { λ r. ⌜ returned r (buffers (now (dist .entry)) (now (status .exit)))
         ≡ servedOut order (serve (now (marks .entry)) limit (officeGiven (gridsIn grids) order (now (dist .entry)) (now (status .entry)))) ⌝ }
 {
     let g = office_replies::grids_in(grids);
-    office_replies::serve_answer(serving::serve(g, order, limit, dist, status, marks))
+    office_replies::serve_answer(serving::serve(g, order, dist, marks, status, limit))
 }

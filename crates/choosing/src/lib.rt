@@ -71,10 +71,10 @@ pub struct Found {
     pub place: usize,
 }
 
-pub fn look(g: Grids, o: Order, limit: u32, dist: &[i32], status: &[u8], marks: &[u8]) -> Found
+pub fn look(g: Grids, o: Order, dist: &[i32], marks: &[u8], status: &[u8], limit: u32) -> Found
     ensures { λ r. ⌜ Looked r (now (marks .entry)) limit (officeGiven g o (now (dist .entry)) (now (status .entry))) ⌝ }
 {
-    let number = serving_checks::refusal(g, o, limit, dist, status, marks);
+    let number = serving_checks::refusal(g, o, dist, marks, status, limit);
     if number != 0 {
         return Found { number, place: 0 };
     }

@@ -44,10 +44,10 @@ fn placed(place: u8, c: Carved) -> Served
 fn serve_at(
     g: Grids,
     o: Order,
-    limit: u32,
     dist: &[i32],
-    status: &mut [u8],
     marks: &[u8],
+    status: &mut [u8],
+    limit: u32,
     p: usize,
 ) -> Turn
     requires { ⌜
@@ -69,16 +69,16 @@ fn serve_at(
 }
 
 // Serves one grid with something pending: the lowest place never served, or else the one served longest ago. A refusal writes nothing.
-pub fn serve(g: Grids, o: Order, limit: u32, dist: &[i32], status: &mut [u8], marks: &[u8]) -> Turn
+pub fn serve(g: Grids, o: Order, dist: &[i32], marks: &[u8], status: &mut [u8], limit: u32) -> Turn
     ensures { λ r. ⌜
         outcome (servedAnswer (r .answer)) (kept (r .order) (now (dist .entry)) (now (status .exit)))
         ≡ asStruct o (rule.serve (now (marks .entry)) limit (officeGiven g o (now (dist .entry)) (now (status .entry)))) ⌝ }
 {
-    let found = choosing::look(g, o, limit, dist, status, marks);
+    let found = choosing::look(g, o, dist, marks, status, limit);
     let number = found.number;
     if number != 0 {
         let answer = Served::Refused(number);
         return Turn { answer, order: o };
     }
-    serve_at(g, o, limit, dist, status, marks, found.place)
+    serve_at(g, o, dist, marks, status, limit, found.place)
 }

@@ -112,7 +112,7 @@ fn unfit_grids(g: Grids, dist: &[i32], status: &[u8]) -> bool
 }
 
 // The number of the first check that fails, of all but 35, or 0.
-pub fn refusal(g: Grids, o: Order, limit: u32, dist: &[i32], status: &[u8], marks: &[u8]) -> u8
+pub fn refusal(g: Grids, o: Order, dist: &[i32], marks: &[u8], status: &[u8], limit: u32) -> u8
     ensures { λ r. ⌜ r ≡ firstFailing (gridChecks (now (marks .entry)) limit g o (now (dist .entry)) (now (status .entry))) ⌝ }
 {
     let number = layout_refusal(g, limit, dist.len(), status.len(), marks.len());

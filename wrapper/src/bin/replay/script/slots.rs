@@ -70,7 +70,7 @@ impl State {
         let dist = slots.iter().map(|slot| &slot.dist[..]).collect::<Vec<_>>().concat();
         let marks = slots.iter().map(|slot| &slot.marks[..]).collect::<Vec<_>>().concat();
         let mut status = slots.iter().map(|slot| &slot.status[..]).collect::<Vec<_>>().concat();
-        let answer = serve(&records, &mut self.order, limit, &dist, &marks, &mut status);
+        let answer = serve(&records, &mut self.order, &dist, &marks, &mut status, limit);
         let mut rest = &status[..];
         for slot in slots.iter_mut() {
             let (own, behind) = rest.split_at(slot.status.len());
