@@ -69,14 +69,14 @@ module _ (w : ℕ → Bool) (n : ℕ) (order : List ℕ) where
   unfolding queue
   left-start = let e : n ≡ n - 0 = omega arith in ap (λ (m : ℕ). firstWaiting w (filter free (range 0 m) ++ order)) e
 
-  module _ (p : ℕ) (h : p < n) (t : Bool) (e : t ≡ (free p && w p)) where
+  module _ (p : ℕ) (h : p < n) (v t : Bool) (told : v ≡ t) (e : v ≡ (free p && w p)) where
     pub left-next : left p ≡ cond t (some p) (left (p + 1))
     unfolding firstWaiting filter range
     left-next =
         let m : n - p ≡ suc (n - suc p) = omega arith in
         ap (λ (m : ℕ). firstWaiting w (filter free (range p m) ++ order)) m
         ∙ go (free p)
-        ∙ ap₂ (λ (t : Bool) (q : ℕ). cond t (some p) (left q)) (sym e) (sym (add-one p))
+        ∙ ap₂ (λ (t : Bool) (q : ℕ). cond t (some p) (left q)) (sym e ∙ told) (sym (add-one p))
       where
         go : (f : Bool) → firstWaiting w (consIf f p (filter free (range (suc p) (n - suc p))) ++ order) ≡ cond (f && w p) (some p) (left (suc p))
         go true = refl

@@ -1,12 +1,14 @@
 -- `carving::carve_checked` meets its contract: no check refuses, and the marks that are handed on ask for the same.
 use mathlib.Core.Path.{_≡_, sym, ap, _∙_}
+use mathlib.Core.List.{List}
 use Prim.Native.Nat.{ℕ}
 use borrow.Author.Needs.{needs}
 use lib.ListN.{take}
 use lib.Seq.{length-take-le}
 use Rattle.rules.specs.Answer.{Outcome, Buffers, Carving}
 use Rattle.rules.specs.Marks.{Marked, marked}
-use Rattle.rules.specs.Machine.{State, state, mayGo, sooner, carved}
+use Rattle.rules.specs.Machine.{State, state, mayGo, sooner, carved, carve}
+use Rattle.rules.specs.Fit.{Marking}
 use Rattle.rules.proofs.NeverUnfit.{is-carved}
 use Rattle.marks.proofs.Lent.{used-same}
 use Rattle.fitness.proofs.Marked.{few-marks}
@@ -17,8 +19,13 @@ abbrev lent-to : tie.Start → State
 lent-to c = state (c .args .given) (c .args .dist .now) (c .args .status .now)
 
 -- what is answered where no check fails
-abbrev worked : tie.Start → Marked → Outcome Buffers Carving
-worked c m = carved (mayGo m (lent-to c .dist)) (sooner m (lent-to c .dist)) (c .args .limit) (lent-to c)
+abbrev worked : Marked → ℕ → State → Outcome Buffers Carving
+worked m limit g = carved (mayGo m (g .dist)) (sooner m (g .dist)) limit g
+
+-- by marks that ask for the same
+carve-same : (o : Outcome Buffers Carving) (used : Marked) (m : List ℕ) (limit : ℕ) (g : State)
+    → Marking m g → used ≡ marked m → o ≡ worked used limit g → o ≡ carve m limit g
+carve-same o used m limit g k same e = e ∙ ap (λ (t : Marked). worked t limit g) same ∙ sym (is-carved m limit g k)
 
 used-requires : tie.Need-used-requires
 used-requires c κs = search needs
@@ -42,7 +49,7 @@ returns c =
     let k = s .pre .0 in
     let same : marked (take (u .used .result) m) ≡ marked m =
     ap (λ (n : ℕ). marked (take n m)) (u .used .ensures .0) ∙ used-same m _ (s .pre .1) (few-marks m g k) in
-    f .carve-fit .ensures ∙ ap (worked s) same ∙ sym (is-carved m (s .args .limit) g k)
+    carve-same _ _ m (s .args .limit) g k same (f .carve-fit .ensures)
 
 pub carve-checked-spec : {M : Type 1} → statement M
 carve-checked-spec =

@@ -1,5 +1,5 @@
 -- `choosing::choose` meets its contract: what is left to look at gives the place.
-use mathlib.Core.Path.{_≡_, ap, sym, _∙_}
+use mathlib.Core.Path.{_≡_, ap, _∙_}
 use mathlib.Core.Bool.{Bool, true, false, cond}
 use mathlib.Core.List.{List, []}
 use mathlib.Core.Option.{some}
@@ -44,7 +44,8 @@ by c t e =
     let l = i .before .before in
     let a = l .before .before .args in
     l .loop .inv
-    ∙ left-next (w (a .g) (a .status .now)) (a .g .count) (placesOf (a .o)) (l .loop .p) (i .if1 .taken) t (sym e ∙ c .waits-unserved .ensures)
+    ∙ left-next (w (a .g) (a .status .now)) (a .g .count) (placesOf (a .o)) (l .loop .p) (i .if1 .taken) (c .waits-unserved .result) t e
+    (c .waits-unserved .ensures)
 
 returns : tie.Need-returns Inv-loop μ-loop
 returns c = let t = c .before in by t true (c .if2 .taken) ∙ found _ _ (t .before .if1 .taken)
