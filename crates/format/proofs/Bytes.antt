@@ -14,7 +14,7 @@ use lib.Dec.{eqb, leb, ltb}
 use borrow.Author.Tests.{lt-ltb, le-ltb, ltb-false, leb-false, eq-eqb, ne-eqb, eqb-true}
 use Rattle.prelude.proofs.Bools.{two, and-one}
 use Rattle.prelude.proofs.Ranges.{is-map-range}
-use Rattle.rules.specs.Value.{missing, isMissing, beyond}
+use Rattle.rules.specs.Value.{isMissing, beyond}
 use Rattle.format.specs.Bytes.{Width, word, half, signed, widened, valueOf, valuesOf, wordBytes, unsigned, Holds, narrowed, valueBytes}
 
 -- ---- how many bytes
@@ -95,7 +95,7 @@ pub narrowed-pos : (h n : ℕ) → narrowed h (pos n) ≡ pos n
 unfolding narrowed isMissing
 narrowed-pos h n = refl
 
-pub held-from : (h n : ℕ) → Holds h (pos n) → n ≤ h - 1
+held-from : (h n : ℕ) → Holds h (pos n) → n ≤ h - 1
 unfolding beyond
 held-from h n m = ltb-false (h - 1) n m
 
@@ -103,7 +103,7 @@ pub held-below : (h n : ℕ) → Holds h (negsuc n) → eqb n 2147483647 ≡ fal
 unfolding beyond isMissing
 held-below h n m e = leb-false (h - 1) n (sym (and-one (leb (h - 1) n)) ∙ ap (λ (t : Bool). leb (h - 1) n && not t) (sym e) ∙ m)
 
-narrowed-mag : (h : ℕ) (z : ℤ) → 1 ≤ h → Holds h z → mag (narrowed h z) < h
+pub narrowed-mag : (h : ℕ) (z : ℤ) → 1 ≤ h → Holds h z → mag (narrowed h z) < h
 narrowed-mag h (pos n) l m = rw (narrowed-pos h n) (omega (arith, held-from h n m))
 narrowed-mag h (negsuc n) l m =
     ⊎-elim
@@ -121,7 +121,7 @@ widened-narrowed h (negsuc n) l m =
     (λ e. rw (narrowed-other h n e, ne-eqb (suc n) h (λ f. let z : ⊥ = omega (arith, held-below h n m e) in z)) refl)
     (two (eqb n 2147483647))
 
-widened-other : (h n : ℕ) → n < h + h → (n ≡ h → ⊥) → widened h (signed h n) ≡ signed h n
+pub widened-other : (h n : ℕ) → n < h + h → (n ≡ h → ⊥) → widened h (signed h n) ≡ signed h n
 unfolding signed widened
 widened-other h n b d =
     ⊎-elim
@@ -129,18 +129,6 @@ widened-other h n b d =
     (λ e. let a = ltb-false n h e in
     rw (e, ne-eqb (suc (h + h - 1 - n)) h (λ f. d (let q : n ≡ h = omega arith in q))) refl)
     (two (ltb n h))
-
--- a value by its bytes as a number: the mark, and any other
-pub value-mark : (width : ℕ) (bytes : List ℕ) (at : ℕ) {n h : ℕ} → n ≡ word width bytes at → h ≡ half width → 1 ≤ h → n ≡ h → missing ≡ valueOf width bytes at
-unfolding valueOf signed widened
-value-mark width bytes at {n} {h} e f l d =
-    let k : suc (h + h - 1 - n) ≡ h = omega arith in
-    rw (← e, ← f, le-ltb n h (omega arith), eq-eqb _ h k) refl
-
-pub value-other : (width : ℕ) (bytes : List ℕ) (at : ℕ) {n h : ℕ} → n ≡ word width bytes at → h ≡ half width → n < h + h → (n ≡ h → ⊥)
-    → signed h n ≡ valueOf width bytes at
-unfolding valueOf
-value-other width bytes at {n} {h} e f b d = rw (← e, ← f) (sym (widened-other h n b d))
 
 -- ---- a value is read back
 

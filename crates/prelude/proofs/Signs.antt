@@ -97,31 +97,36 @@ module _ {z : ℤ} (h : SFits w32 z) where
   pub plus-size : natAbs (wide z) ≡ natAbs z
   plus-size = ap natAbs (wide-back h)
 
--- ---- the sign as a bit: joined bits are a negative number exactly where one of the numbers is negative
+-- ---- joined bits need more than k bits exactly where one of the numbers does
+
+abbrev pub high : ℕ → ℕ → Bool
+high k n = not (ltb n (2 ^ k))
+
+pub high-joined : (k a b : ℕ) → high k (bitOr a b) ≡ high k a || high k b
+high-joined k a b =
+    elim (two (ltb a (2 ^ k))) [
+      | inl e ↦ elim (two (ltb b (2 ^ k))) [
+        | inl f ↦ ap not (lt-ltb (bitOr a b) (2 ^ k) (or-lt k a b (ltb-true a _ e) (ltb-true b _ f))) ∙ ap₂ (λ (p q : Bool). not p || not q) (sym e) (sym f)
+        | inr f ↦
+            ap not (le-ltb (bitOr a b) (2 ^ k) (omega (arith, or-add-and a b, and-le-l a b, ltb-false b (2 ^ k) f)))
+            ∙ ap₂ (λ (p q : Bool). not p || not q) (sym e) (sym f)
+      ]
+      | inr e ↦
+          ap not (le-ltb (bitOr a b) (2 ^ k) (omega (arith, or-add-and a b, and-le-r a b, ltb-false a (2 ^ k) e)))
+          ∙ ap (λ (p : Bool). not p || high k b) (sym e)
+    ]
+
+-- ---- the sign as a bit
 
 -- whether the bits are those of a negative number
 abbrev pub signBit : ℕ → Bool
-signBit n = not (ltb n 2147483648)
+signBit n = high 31 n
 
 pub sign-read : (n : ℕ) → ltZ (toZ w32 n) (pos 0) ≡ signBit n
 sign-read n =
     elim (two (ltb n 2147483648)) [
       | inl e ↦ ap (λ (x : ℤ). ltZ x (pos 0)) (toZ-pos w32 (ltb-true n 2147483648 e)) ∙ le-ltb n 0 (omega arith) ∙ ap not (sym e)
       | inr e ↦ ap (λ (t : Bool). ltZ (sel t (pos n) (negsuc (2 ^ 32 - suc n))) (pos 0)) e ∙ ap not (sym e)
-    ]
-
-pub sign-joined : (a b : ℕ) → signBit (bitOr a b) ≡ signBit a || signBit b
-sign-joined a b =
-    elim (two (ltb a 2147483648)) [
-      | inl e ↦ elim (two (ltb b 2147483648)) [
-        | inl f ↦ ap not (lt-ltb (bitOr a b) 2147483648 (or-lt 31 a b (ltb-true a _ e) (ltb-true b _ f))) ∙ ap₂ (λ (p q : Bool). not p || not q) (sym e) (sym f)
-        | inr f ↦
-            ap not (le-ltb (bitOr a b) 2147483648 (omega (arith, or-add-and a b, and-le-l a b, ltb-false b 2147483648 f)))
-            ∙ ap₂ (λ (p q : Bool). not p || not q) (sym e) (sym f)
-      ]
-      | inr e ↦
-          ap not (le-ltb (bitOr a b) 2147483648 (omega (arith, or-add-and a b, and-le-r a b, ltb-false a 2147483648 e)))
-          ∙ ap (λ (p : Bool). not p || signBit b) (sym e)
     ]
 
 pub sign-held : (z : ℤ) → SFits w32 z → signBit (ofZ w32 z) ≡ isNegative z

@@ -2,17 +2,18 @@
 use mathlib.Core.Path.{_≡_, refl, sym, ap, ap₂, _∙_}
 use mathlib.Core.Logic.{⊎-elim}
 use mathlib.Core.Bool.{Bool, true, false, not, cond, _&&_, _||_}
-use Prim.Native.Nat.{ℕ, zero, suc, _+_, _-_, _^_, _≤_, _<_, max}
+use Prim.Native.Nat.{ℕ, zero, suc, _+_, _-_, _%_, _^_, _≤_, _<_, max}
 use native.Mathlib.Omega.{arith}
-use borrow.Author.Tests.{ltb-true, ltb-false, le-ltb, eq-eqb, ne-eqb, eqb-true}
-use lib.IntN.{ℤ, pos, negsuc}
+use borrow.Author.Tests.{ltb-true, ltb-false, lt-ltb, le-ltb, eq-eqb, ne-eqb, eqb-true, eqb-false}
+use lib.Bits.{bitOr, or-mod}
+use lib.IntN.{ℤ, pos, negsuc, natAbs}
 use lib.Signed.{ltZ, leZ, mag}
-use lib.Dec.{eqb, ltb}
+use lib.Dec.{eqb, leb, ltb, leb·suc-suc}
 use mir.Syntax.{w32}
 use mir.Val.{SFits, toZ, ofZ}
 use mir.Facts.{toZ-ofZ, toZ-pos, toZ-neg}
 use Rattle.prelude.proofs.Bools.{two, and-zero, and-one, or-zero, both-ways}
-use Rattle.prelude.proofs.Signs.{below, not-below, turned}
+use Rattle.prelude.proofs.Signs.{below, not-below, turned, high, high-joined}
 use Rattle.rules.specs.Value.{isMissing, beyond, stray, measuredNegative, measuredNonNegative, amount}
 use Rattle.rules.proofs.LongRange.{amount-high}
 use Rattle.values.specs.Values.{countedAs, workedTo}
@@ -55,6 +56,37 @@ pub beyond-test : (bound : ℕ) (z : ℤ) → bound < 2147483648 → SFits w32 z
     → tested (toZ w32 bound) (toZ w32 (ofZ w32 z)) (toZ w32 (4294967295 - ofZ w32 z)) (ofZ w32 z) ≡ beyond bound z
 beyond-test bound z l h =
     ap₂ (λ (high v : ℤ). tested high v (toZ w32 (4294967295 - ofZ w32 z)) (ofZ w32 z)) (toZ-pos w32 l) (toZ-ofZ h) ∙ beyond-is bound z h
+
+-- ---- the width of a grid
+
+-- a size that 15 bits do not hold, the missing mark's left out
+abbrev pub long : ℕ → Bool
+long n = high 15 (n % 2147483648)
+
+pub long-joined : (a b : ℕ) → long (bitOr a b) ≡ long a || long b
+long-joined a b = ap (high 15) (or-mod a b 31) ∙ high-joined 15 (a % 2147483648) (b % 2147483648)
+
+long-from : (n : ℕ) → n < 2 ^ 31 → long n ≡ ltb 32767 n
+long-from n l =
+    let e : n % 2147483648 ≡ n = omega arith in
+    ap (high 15) e
+    ∙ ⊎-elim
+    (λ t. rw (t, le-ltb 32767 n (omega (arith, ltb-true n 32768 t))))
+    (λ f. rw (f, lt-ltb 32767 n (omega (arith, ltb-false n 32768 f))))
+    (two (ltb n 32768))
+
+pub long-size : (z : ℤ) → SFits w32 z → long (natAbs z) ≡ beyond 32767 z
+unfolding beyond isMissing
+long-size (pos n) h = long-from n (h .sfits)
+long-size (negsuc n) h =
+    ⊎-elim
+    (λ e. ap (λ (k : ℕ). long (suc k)) (eqb-true n 2147483647 e) ∙ sym (ap (λ (t : Bool). leb 32767 n && not t) e ∙ and-zero (leb 32767 n)))
+    (λ e.
+    let l : n < 2 ^ 31 = h .sfits in
+    long-from (suc n) (let d = eqb-false n 2147483647 e in omega arith)
+    ∙ leb·suc-suc 32767 n
+    ∙ sym (ap (λ (t : Bool). leb 32767 n && not t) e ∙ and-one (leb 32767 n)))
+    (two (eqb n 2147483647))
 
 -- ---- M
 

@@ -33,6 +33,21 @@ pub fn any_beyond(values: &[i32], bound: u32) -> bool
     found
 }
 
+// Whether some value is measured and not from -32,767 to 32,767: it then has one of the bits from 15 to 30 in its size, as no other has. The missing
+// mark's size has bit 31 alone. Sizes are joined, and looked at in the end, which takes a compiler the fewest steps a value.
+pub fn any_long(values: &[i32]) -> bool
+    ensures { λ r. ⌜ r ≡ any (beyondOf 32767) (now (values .entry)) ⌝ }
+{
+    let mut all: u32 = 0;
+    let mut i = 0;
+    while i < values.len() {
+        let v = values[i];
+        all = all | numbers::magnitude(v) as u32;
+        i += 1;
+    }
+    !(all % 2147483648 < 32768)
+}
+
 // Whether a value is measured and negative: -2,147,483,648 stands for a missing point.
 pub fn negative(v: i32) -> bool
     ensures { λ r. ⌜ r ≡ measuredNegative v ⌝ }

@@ -30,7 +30,7 @@ pub enum WriteAnswer {
 fn width_for(values: &[i32]) -> usize
     ensures { λ r. ⌜ (r ≡ widthFor (now (values .entry))) × (Width r) ⌝ }
 {
-    if values::any_beyond(values, 32767) {
+    if values::any_long(values) {
         return 4;
     }
     2

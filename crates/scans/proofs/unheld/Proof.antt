@@ -13,7 +13,7 @@ use Rattle.rules.specs.Grid.{range}
 use Rattle.rules.specs.Machine.{isInside}
 use Rattle.scans.specs.Scans.{heldUp, unheldAt}
 use Rattle.prelude.proofs.Ranges.{any-run-none, scan-next}
-use Rattle.prelude.proofs.Signs.{signBit, sign-read, sign-joined}
+use Rattle.prelude.proofs.Signs.{signBit, sign-read, high-joined}
 use Rattle.scans.proofs.Borders.{sign-held-up}
 use Rattle.scans.proofs.unheld.Statement.{statement}
 use Rattle.scans.proofs.unheld.Tie as tie
@@ -56,7 +56,7 @@ loop-again c =
     let h = ofZ w32 (c .held-up .result) in
     let e = c .held-up .ensures ∙ ap (λ (x : ℤ). heldUp x (getD (a .status .now) (l .loop .i) 0)) (toZ-ofZ f) in (
       below,
-      sign-joined (l .loop .all) h
+      high-joined 31 (l .loop .all) h
           ∙ scan-next (unheldAt (a .dist .now) (a .status .now)) (l .loop .i) (signBit (l .loop .all)) (signBit h) (l .loop .inv .1)
           (ap (λ (x : ℤ). signBit (ofZ w32 x)) e ∙ sign-held-up (getD (a .dist .now) (l .loop .i) (pos 0)) (getD (a .status .now) (l .loop .i) 0) f),
     )

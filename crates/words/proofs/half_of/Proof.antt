@@ -13,7 +13,7 @@ four : (c : tie.Else1) → c .before .args .width ≡ 4
 four c = ⊎-elim (λ e. absurd (c .if1 .left e)) (λ e. e) (c .before .pre)
 
 returns-2 : tie.Need-returns-2
-returns-2 c = rw (four c) (refl, omega arith, omega arith)
+returns-2 c = rw (four c) (refl, omega arith)
 
 pub half-of-spec : {M : Type 1} → statement M
 half-of-spec = tie.close (tie.spec returns returns-2)
