@@ -1,4 +1,4 @@
-//! Grid files in Rust, read and written: (a) in idiomatic Rust, and by loops with the product's own bodies.
+//! Grid files in Rust, read and written: (a) in idiomatic Rust, (b) by the fastest plain loops that were found, and by loops by index.
 
 use crate::types::{Refused, Sides, MISSING};
 
@@ -108,8 +108,52 @@ fn value_at(bytes: &[u8], at: usize, width: usize) -> i32 {
     }
 }
 
-/// With the product's own bodies: loops by index, from value to value and from record to record by the byte where it begins, a byte at a time, and no
-/// scan that ends early.
+/// As `Chunked`, but with bodies that a compiler makes few steps of, for many values at a time, and no scan that ends early. No loop in plain Rust was
+/// found to be faster.
+pub struct Packed;
+
+impl Way for Packed {
+    /// One size for all bounds that are all ones: the missing mark's is the sign bit alone.
+    fn any_beyond(values: &[i32], bound: i32) -> bool {
+        if bound & (bound + 1) == 0 {
+            return values.iter().fold(0, |all, v| all | v.wrapping_abs()) & i32::MAX > bound;
+        }
+        values.iter().fold(false, |found, v| found | (v.wrapping_abs() > bound))
+    }
+
+    fn any_stray(bytes: &[u8]) -> bool {
+        bytes.as_chunks().0.iter().fold(false, |found, &bytes| found | (i32::from_le_bytes(bytes).wrapping_abs() > GREATEST))
+    }
+
+    /// From the mark of 16 bits to the one of 32 it is a step down that no other value takes.
+    fn fill((bytes, width): Layer, values: &mut [i32]) {
+        let step = MISSING - i32::from(i16::MIN);
+        let widened = |value: i16| i32::from(value) + if value == i16::MIN { step } else { 0 };
+        match width {
+            4 => Chunked::fill((bytes, width), values),
+            _ => values.iter_mut().zip(bytes.as_chunks().0).for_each(|(value, &bytes)| *value = widened(i16::from_le_bytes(bytes))),
+        }
+    }
+
+    fn check(n: usize, bytes: &[u8]) -> Result<(), Refused> {
+        Chunked::check(n, bytes)
+    }
+
+    fn apply(bytes: &[u8], values: &mut [i32]) {
+        Chunked::apply(bytes, values);
+    }
+
+    /// Held to 16 bits: the mark of 32 becomes the one of 16.
+    fn put(values: &[i32], width: usize, bytes: &mut [u8]) {
+        let held = |value: i32| value.clamp(i16::MIN.into(), i16::MAX.into()) as i16;
+        match width {
+            4 => Chunked::put(values, width, bytes),
+            _ => bytes.as_chunks_mut().0.iter_mut().zip(values).for_each(|(bytes, &value)| *bytes = held(value).to_le_bytes()),
+        }
+    }
+}
+
+/// Loops by index, from value to value and from record to record by the byte where it begins, a byte at a time, and no scan that ends early.
 pub struct Indexed;
 
 impl Way for Indexed {
@@ -236,10 +280,11 @@ pub fn write<W: Way>(sides: Sides, allowed: u16, values: &[i32], file: &mut [u8]
     if values.len() != n {
         return Err(2);
     }
-    if W::any_beyond(values, GREATEST) {
+    // where 16 bits hold all of them, none is out of the range
+    let (width, mark) = if W::any_beyond(values, 32_767) { (4, 0x57) } else { (2, 0x4C) };
+    if width == 4 && W::any_beyond(values, GREATEST) {
         return Err(28);
     }
-    let (width, mark) = if W::any_beyond(values, 32_767) { (4, 0x57) } else { (2, 0x4C) };
     let record = 3 + width * a * b;
     let Some(file) = file.get_mut(..7 + c * record) else { return Err(26) };
     let (header, records) = file.split_at_mut(7);

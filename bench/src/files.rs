@@ -1,10 +1,10 @@
-//! Read and write by the value, of narrow layers and of wide ones: ours against two ways in Rust, and against another archive's where that takes the
+//! Read and write by the value, of narrow layers and of wide ones: ours against three ways in Rust, and against another archive's where that takes the
 //! same.
 
 use crate::singles::archives;
 use crate::{against_all, named, Demand, GRIDS, LARGEST};
 use bench::contest::{Case, ROUNDS};
-use bench::file::{self, Chunked, Indexed, Way};
+use bench::file::{self, Chunked, Indexed, Packed, Way};
 use bench::grids::{self, lengthened, Shape};
 use bench::race::Order;
 use bench::types::{size, Sides, Values};
@@ -75,10 +75,17 @@ fn rust_writing<W: Way>() -> Contestant {
     Contestant { run: Box::new(run), take_back: |_| () }
 }
 
-/// Who writes, in the order of those who read.
+/// Ours, (a), (b), a loop by index, and the other archive's where one is given.
+fn layer_readers() -> Vec<Contestant> {
+    let mut all = readers();
+    all.insert(2, rust_reader::<Packed>());
+    all.into_iter().map(reading).collect()
+}
+
+/// Who writes, in the order of those who read layers.
 fn writers() -> Vec<Contestant> {
     let mut all: Vec<Contestant> = archives().into_iter().filter_map(|archive| archive.others.write).map(archive_writing).collect();
-    all.splice(1..1, [rust_writing::<Chunked>(), rust_writing::<Indexed>()]);
+    all.splice(1..1, [rust_writing::<Chunked>(), rust_writing::<Packed>(), rust_writing::<Indexed>()]);
     all
 }
 
@@ -110,21 +117,25 @@ fn race(sheets: &[Sheet], all: &[Contestant], lacking: fn(&Sheet) -> Desk) -> Ve
     least
 }
 
-/// Prints a table; the answer is what is asked of ours to a loop by index, on each sheet. (a) goes through arrays of bytes, and where values are
-/// copied as they are Rust makes calls of the C library's memcpy from it: that figure shows what a copy costs at best, and is no loop any more.
-fn measure(word: &str, sheets: Vec<Sheet>, all: Vec<Contestant>, lacking: fn(&Sheet) -> Desk) -> Vec<Demand> {
-    let before = if all.len() > 3 { ", ours/before" } else { "" };
-    println!("\n## {word}, ns per value: ours, ours/(a), ours/a loop by index{before}\n\n| grid | |\n|---|---|");
+/// Prints a table; the answer is what is asked of ours to a loop by index, on each sheet, and to (b) on the largest narrow one. (a) and (b) go through
+/// arrays of bytes, and where values are copied as they are Rust makes calls of the C library's memcpy from it: that figure shows what a copy costs at
+/// best, and is no loop any more.
+fn measure(word: &str, most: f64, sheets: Vec<Sheet>, all: Vec<Contestant>, lacking: fn(&Sheet) -> Desk) -> Vec<Demand> {
+    let before = if all.len() > 4 { ", ours/before" } else { "" };
+    println!("\n## {word}, ns per value: ours, ours/(a), ours/(b), ours/a loop by index{before}\n\n| grid | |\n|---|---|");
     let times = race(&sheets, &all, lacking);
     for (sheet, times) in sheets.iter().zip(&times) {
         let taken: Vec<f64> = times.iter().copied().filter(|time| time.is_finite()).collect();
         println!("| {} | {} |", sheet.title, against_all(&taken));
     }
     let [.., narrow, wide] = &times[..] else { return Vec::new() };
-    let ratio = |k: usize| wide[k] / narrow[k];
-    println!("\nWide to narrow on {}: ours {:.2}, (a) {:.2}, by index {:.2}.", named(LARGEST), ratio(0), ratio(1), ratio(2));
-    let by_index = |sheet: &Sheet| format!("{}, {}, ours/a loop by index", word.to_lowercase(), sheet.title);
-    sheets.iter().zip(&times).map(|(sheet, times)| Demand(by_index(sheet), times[0] / times[2], 1.3)).collect()
+    let [ours, chunked, packed, indexed] = [0, 1, 2, 3].map(|k| wide[k] / narrow[k]);
+    println!("\nWide to narrow on {}: ours {ours:.2}, (a) {chunked:.2}, (b) {packed:.2}, by index {indexed:.2}.", named(LARGEST));
+    let asked = |sheet: &Sheet, of: &str| format!("{}, {}, ours/{of}", word.to_lowercase(), sheet.title);
+    let [.., largest, _] = &sheets[..] else { return Vec::new() };
+    let to_packed = Demand(asked(largest, "(b)"), narrow[0] / narrow[2], most);
+    let by_index = sheets.iter().zip(&times).map(|(sheet, times)| Demand(asked(sheet, "a loop by index"), times[0] / times[3], 1.3));
+    [to_packed].into_iter().chain(by_index).collect()
 }
 
 /// The smallest and the largest cube, each with its written form, then the largest once more, with wide layers.
@@ -144,7 +155,7 @@ pub fn measure_read(case: fn(Sides, Shape) -> Case) -> Vec<Demand> {
         Sheet { title: format!("{}, wide layers", named(case.sides)), case, file }
     };
     let unread = |sheet: &Sheet| Desk { values: vec![0x5A5A; size(sheet.case.sides)].into(), file: sheet.file.clone() };
-    measure("Read", sheets(case, wide), readers().into_iter().map(reading).collect(), unread)
+    measure("Read", 1.2, sheets(case, wide), layer_readers(), unread)
 }
 
 /// The written form has wide layers only where values need them.
@@ -155,5 +166,5 @@ pub fn measure_write(case: fn(Sides, Shape) -> Case) -> Vec<Demand> {
         Sheet { title: format!("{}, wide values", named(sides)), case: Case::unmarked(sides, allowed, values), file }
     };
     let unwritten = |sheet: &Sheet| Desk { values: sheet.case.values.clone(), file: vec![0xA5; sheet.file.len()] };
-    measure("Write", sheets(case, wide), writers(), unwritten)
+    measure("Write", 1.15, sheets(case, wide), writers(), unwritten)
 }

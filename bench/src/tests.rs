@@ -3,7 +3,7 @@
 use crate::archive::now::Ours;
 use crate::coarse::{by_parts, ours, Blocks};
 use crate::contest::{begin, carve, contest, turns, Apart, Calls, Case, Log, State};
-use crate::file::{read, write, Chunked, Indexed, Way};
+use crate::file::{read, write, Chunked, Indexed, Packed, Way};
 use crate::grids;
 use crate::grids::{blocks, bordered, inner, lengthened, patches, statuses, values, Marks, Random, Shape};
 use crate::lists;
@@ -767,6 +767,7 @@ fn written_as_the_reference<W: Way>() {
 #[test]
 fn write_as_the_reference() {
     written_as_the_reference::<Chunked>();
+    written_as_the_reference::<Packed>();
     written_as_the_reference::<Indexed>();
 }
 
@@ -831,6 +832,7 @@ fn read_as_the_reference() {
         let mut their = lent.clone();
         let expected = (reference::file::read(&file, &mut their, 64), their);
         assert_eq!(read_by::<Chunked>(&file, &lent), expected, "{seed}: {file:02X?}");
+        assert_eq!(read_by::<Packed>(&file, &lent), expected, "{seed}: {file:02X?}");
         assert_eq!(read_by::<Indexed>(&file, &lent), expected, "{seed}: {file:02X?}");
         numbers.insert(expected.0.err().unwrap_or(0));
     }
