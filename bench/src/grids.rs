@@ -113,13 +113,24 @@ fn value(shape: Shape, [x, y, z]: [f64; 3], random: &mut Random) -> i32 {
 }
 
 pub fn values(sides: Sides, shape: Shape) -> Vec<i32> {
-    let mut random = Random(size(sides) as u64);
-    let along = |v: usize, side: usize| 2.0 * v as f64 / (side - 1) as f64 - 1.0;
+    moved(sides, shape, [0.0; 3], Random(size(sides) as u64))
+}
+
+/// Another grid of a shape: other noise, or the body moved by less than a voxel along each axis, so that each has its own order of removals.
+pub fn another(sides: Sides, shape: Shape, nth: u64) -> Vec<i32> {
+    let mut random = Random(nth);
+    let by = [sides.a, sides.b, sides.c].map(|side| random.below(1000) as f64 / 500.0 / (side - 1) as f64);
+    moved(sides, shape, by, random)
+}
+
+/// A shape that lies so far further along each axis.
+fn moved(sides: Sides, shape: Shape, by: [f64; 3], mut random: Random) -> Vec<i32> {
+    let along = |v: usize, side: usize, by: f64| 2.0 * v as f64 / (side - 1) as f64 - 1.0 - by;
     let mut values = Vec::with_capacity(size(sides));
     for z in 0..sides.c {
         for y in 0..sides.b {
             for x in 0..sides.a {
-                let v = value(shape, [along(x, sides.a), along(y, sides.b), along(z, sides.c)], &mut random);
+                let v = value(shape, [along(x, sides.a, by[0]), along(y, sides.b, by[1]), along(z, sides.c, by[2])], &mut random);
                 let border = x == 0 || y == 0 || z == 0 || x == sides.a - 1 || y == sides.b - 1 || z == sides.c - 1;
                 values.push(match v {
                     // the greatest that 16 bits hold, as it was when values had no more: the grids are those of every earlier figure

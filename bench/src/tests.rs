@@ -855,6 +855,25 @@ fn values_in_16_bits_and_back() {
     }
 }
 
+/// The grids that growth goes through: no two are carved alike, and each has about as many examinations as the one of its shape in every other table.
+#[test]
+fn different_grids() {
+    let sides = Sides { a: 16, b: 16, c: 16 };
+    let carved = |values: Vec<i32>| {
+        let case = Case::unmarked(sides, 0, values.into());
+        let (mut state, mut log) = (State::blank(&case), Log::default());
+        begin(&Calls::of::<Tuned>(), &case, &mut state, &mut log);
+        carve(&Calls::of::<Tuned>(), &case, &mut state, &mut log);
+        (log.examined(), state.dist)
+    };
+    for shape in Shape::ALL {
+        let (one, _) = carved(values(sides, shape));
+        let all: BTreeSet<(u64, Vec<i32>)> = (0..64).map(|nth| carved(grids::another(sides, shape, nth))).collect();
+        assert_eq!(all.len(), 64, "{}", shape.name());
+        assert!(all.iter().all(|(examined, _)| (one..3 * one).contains(&(2 * examined))), "{}", shape.name());
+    }
+}
+
 /// The grids that are measured: 16 bits hold the values, and do not where they are lengthened.
 #[test]
 fn measured_grids_narrow_and_wide() {
