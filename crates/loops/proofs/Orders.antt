@@ -36,6 +36,9 @@ module _ (l : List ℕ) {v low high : ℕ} where
   pub absent-none : high ≤ low → Absent l v low high
   absent-none e k f h = let z : ⊥ = omega arith in absurd z
 
+  pub absent-join : (i : ℕ) → Absent l v low i → Absent l v i high → Absent l v low high
+  absent-join i before after k f h e = ⊎-elim (λ q. after k q h e) (λ q. before k f q e) (split i k)
+
   -- nor at i, nor before, nor after
   pub absent-around : (i : ℕ) → (getD l i 0 ≡ v → ⊥) → Absent l v low i → Absent l v (suc i) high → Absent l v low high
   absent-around i here before after k f h e =
