@@ -27,8 +27,9 @@ use Rattle.loops.specs.InPlace.{Each}
 use Rattle.loops.proofs.Orders.{split}
 use Rattle.rules.proofs.Topology.Around.{Inner}
 use Rattle.rules.proofs.Topology.Start.{border-inner}
-use Rattle.floods.specs.Flood.{labelled, nearBy}
-use Rattle.floods.proofs.Positions.{corner, positions-in}
+use Rattle.pushing.specs.Push.{labelled}
+use Rattle.floods.specs.Flood.{nearBy}
+use Rattle.floods.proofs.Positions.{corner, near-in}
 use Rattle.components.specs.Search.{touching, Component, sizeOf, Searchable, Longest}
 use Rattle.components.specs.Work.{Relabelled, Relabels, Found}
 use Rattle.components.proofs.Touched.{few, near-is}
@@ -98,7 +99,7 @@ module _ (s : Sides) (values : List ℤ) (A : Beginnable s values) where
           small = omega (arith, len);
           two = λ k. go (negative s values k) (at k);
           low = λ v q. omega (arith, corner s F v (inner v (one-negative v q)));
-          high = λ v q k h. omega (arith, positions-in s F v (inner v (one-negative v q)) (range 0 27) few k h, len);
+          high = λ v j q h. omega (arith, near-in s F v (inner v (one-negative v q)) (range 0 27) j few h, len);
           turn = λ u v p q t.
               touch-is v u (one-negative v q) ∙ touch-back s u v (sym (touch-is u v (one-negative u p)) ∙ t);
           some = A .some;

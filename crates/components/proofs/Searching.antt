@@ -16,9 +16,10 @@ use Rattle.prelude.proofs.Lists.{mem-filter, filter-ext}
 use Rattle.cells.proofs.Chains.{last-member, append, follow, widen}
 use Rattle.rules.specs.Grid.{range}
 use Rattle.prelude.proofs.Ranges.{range-mem, mem-range}
-use Rattle.floods.specs.Flood.{fillOf, labelled, untaken, Ready, Taken, Flooded, nearBy, Floodable}
-use Rattle.floods.proofs.Counting.{Parts, left, right, none, count-parts, count-labels, mem-some}
-use Rattle.floods.proofs.Pushes.{label-lt}
+use Rattle.pushing.specs.Push.{fillOf, labelled, untaken, Ready}
+use Rattle.floods.specs.Flood.{Taken, Flooded, nearBy, Floodable}
+use Rattle.pushing.proofs.Counting.{Parts, left, right, none, count-parts, count-labels, mem-some}
+use Rattle.pushing.proofs.Pushes.{label-lt}
 use Rattle.components.specs.Search.{Lists, Component, sizeOf, Searchable, Longest}
 use Rattle.loops.specs.Searches.{First}
 use Rattle.loops.proofs.Orders.{split}
@@ -411,7 +412,7 @@ module _ (offsets : List ℕ) (back : ℕ) (L : List ℕ) where
           ready = T .ready;
           seeded = D .next more;
           low = λ v e. S .low v (was v e);
-          high = λ v e k h. let g = S .high v (was v e) k h in omega (arith, T .len);
+          high = λ v j e h. omega (arith, S .high v j (was v e) h, T .len);
         }
 
     module _ (l′ : List ℕ) (work′ : List ℤ) (e j : ℕ) (F : Flooded (nearBy offsets back) (fillOf l work end) (fillOf l′ work′ e) i)

@@ -3,13 +3,14 @@ use mathlib.Core.Path.{_≡_}
 use mathlib.Core.Logic.{_⊎_}
 use mathlib.Core.Bool.{Bool, true}
 use mathlib.Core.List.{List}
-use Prim.Native.Nat.{ℕ, _+_, _-_, _≤_, _<_}
+use Prim.Native.Nat.{ℕ, _≤_, _<_}
 use lib.IntN.{ℤ, pos}
 use lib.ListN.{length, getD}
 use Rattle.cells.specs.Groups.{filter}
 use Rattle.cells.specs.Linked.{Linked}
 use Rattle.rules.specs.Grid.{range}
-use Rattle.floods.specs.Flood.{offsetsOf, labelled, nearBy}
+use Rattle.pushing.specs.Push.{labelled}
+use Rattle.floods.specs.Flood.{offsetsOf, nearBy}
 
 -- the offsets at which voxels touch: all 27 positions
 abbrev pub touching : ℕ → ℕ → List ℕ
@@ -43,7 +44,7 @@ pub record Searchable (offsets : List ℕ) (back : ℕ) (l : List ℕ) (room : �
   pub small : length l ≤ 262144
   pub two : (k : ℕ) → (getD l k 0 ≡ 0) ⊎ (getD l k 0 ≡ 1)
   pub low : (v : ℕ) → getD l v 0 ≡ 1 → back ≤ v
-  pub high : (v : ℕ) → getD l v 0 ≡ 1 → (k : ℕ) → k < length offsets → v - back + getD offsets k 0 < length l
+  pub high : (v j : ℕ) → getD l v 0 ≡ 1 → nearBy offsets back v j ≡ true → j < length l
   pub turn : (u v : ℕ) → getD l u 0 ≡ 1 → getD l v 0 ≡ 1 → nearBy offsets back u v ≡ true → nearBy offsets back v u ≡ true
   pub some : ℕ
   pub some-is : getD l some 0 ≡ 1

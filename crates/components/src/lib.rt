@@ -1,15 +1,15 @@
 // S, the largest connected component of measured negative voxels, gaps filled, by floods with one work list. Labels stand in the status bytes,
 // the work list in the distances. Every flood appends to the list, so that the longest stretch of it is S.
+use pushing::Patch;
 use rules::Sides;
-ghost use mathlib.Core.Path.{_≡_};
-ghost use Prim.Native.Nat.{_≤_};
+ghost use Prim.Native.Nat.{_<_};
 ghost use lib.ListN.{length};
 ghost use Rattle.rules.specs.Fill.{filled};
 ghost use Rattle.rules.specs.Begin.{inside};
 ghost use Rattle.loops.specs.InPlace.{Each};
-ghost use Rattle.floods.specs.Flood.{nearBy};
+ghost use Rattle.floods.specs.Flood.{spanned, nearBy};
 ghost use Rattle.gaps.specs.Work.{Accepted};
-ghost use Rattle.components.specs.Search.{touching as touchingOf, Searchable, Longest};
+ghost use Rattle.components.specs.Search.{Searchable, Longest};
 ghost use Rattle.components.specs.Work.{Relabelled, Relabels, Found};
 
 // A stretch of the work list, from first up to end.
@@ -18,10 +18,20 @@ pub struct Stretch {
     pub end: usize,
 }
 
-// Floods every component, and returns the stretch of the largest, of equal ones of the first.
-fn largest(label: &mut [u8], work: &mut [i32], offsets: &[usize], back: usize) -> Stretch
-    requires { ⌜ Searchable (now offsets) back (now label) (length (now work)) ⌝ }
-    ensures { λ r. ⌜ Longest (nearBy (now (offsets .entry)) back) (now (label .entry)) (now (work .exit)) (r .first) (r .end) ⌝ }
+// Floods every component, and returns the stretch of the largest, of equal ones of the first. A voxel's neighbours are patches at the offsets.
+fn largest(
+    label: &mut [u8],
+    work: &mut [i32],
+    offsets: &[usize],
+    patch: Patch,
+    back: usize,
+) -> Stretch
+    requires { ⌜
+        (0 < patch .wide) × (0 < patch .rows) × Searchable (spanned patch (now offsets)) back (now label) (length (now work))
+        ⌝ }
+    ensures { λ r. ⌜
+        Longest (nearBy (spanned patch (now (offsets .entry))) back) (now (label .entry)) (now (work .exit)) (r .first) (r .end)
+        ⌝ }
 {
     let n = label.len();
     let mut first = 0;
@@ -29,7 +39,7 @@ fn largest(label: &mut [u8], work: &mut [i32], offsets: &[usize], back: usize) -
     let mut end = 0;
     let mut i = loops::first_of(label, 1, 0, n);
     while i < n {
-        let e = floods::flood(label, work, end, i, offsets, back);
+        let e = floods::flood(label, work, end, i, offsets, patch, back);
         if most < e - end {
             most = e - end;
             first = end;
@@ -41,20 +51,6 @@ fn largest(label: &mut [u8], work: &mut [i32], offsets: &[usize], back: usize) -
         first,
         end: first + most,
     }
-}
-
-// The offsets at which voxels touch, in rows of a voxels and layers of ab.
-fn touching(a: usize, ab: usize) -> [usize; 27]
-    requires { ⌜ (a ≤ 64) × (ab ≤ 4096) ⌝ }
-    ensures { λ r. ⌜ r ≡ touchingOf a ab ⌝ }
-{
-    let mut offsets = [0usize; 27];
-    let mut p = 0;
-    while p < 27 {
-        offsets[p] = p % 3 + p / 3 % 3 * a + p / 9 * ab;
-        p += 1;
-    }
-    offsets
 }
 
 // Gives every voxel one label.
@@ -87,10 +83,16 @@ pub fn find(status: &mut [u8], dist: &mut [i32], sides: Sides, values: &[i32], f
     ensures { λ _. ⌜ Found sides (inside sides (filled sides (now (values .entry)))) far (now (status .exit)) ⌝ }
 {
     gaps::label(status, dist, sides, values);
-    let ab = sides.a * sides.b;
-    let offsets = touching(sides.a, ab);
-    let back = 1 + sides.a + ab;
-    let s = largest(status, dist, &offsets, back);
+    let a = sides.a;
+    let ab = a * sides.b;
+    // the voxels that touch one are three rows of three in each of three layers
+    let layers = [0, ab, 2 * ab];
+    let nine = Patch {
+        wide: 3,
+        rows: 3,
+        step: a,
+    };
+    let s = largest(status, dist, &layers, nine, 1 + a + ab);
     let first = s.first;
     let end = s.end;
     clear(status, far);

@@ -1,5 +1,3 @@
-pub mod Counting
-pub mod Pushes
 pub mod Offsets
 pub mod Flooding
 pub mod Spreading

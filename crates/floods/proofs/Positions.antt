@@ -5,9 +5,7 @@ use mathlib.Core.List.{List}
 use Prim.Native.Nat.{ℕ, suc, _+_, _-_, _*_, _/_, _%_, _≤_, _<_}
 use native.Mathlib.Omega.{arith}
 use native.Mathlib.Nat.{add-mul, mul-comm, mul-le-mul-right}
-use lib.ListN.{length, getD}
 use Rattle.prelude.proofs.Lists.{Mem}
-use Rattle.cells.proofs.GroupsAre.{getD-mem}
 use Rattle.rules.specs.declared.Sides.{Sides}
 use Rattle.rules.specs.Grid.{size, voxel}
 use Rattle.rules.proofs.Places.{Fit}
@@ -104,12 +102,16 @@ module _ (s : Sides) (F : Fit s) (v : ℕ) (I : Inner s (voxel s v)) where
 
   -- neighbours at some positions
   module _ (positions : List ℕ) where
-    pub near-position : (j : ℕ) → ((p : ℕ) → Mem p positions → p < 27) → nearBy (offsetsOf (s .a) ab positions) back v j ≡ true
-        → (p : ℕ) × (Mem p positions) × (At (voxel s v) (voxel s j) p)
-    near-position j few e =
+    near-offset : (j : ℕ) → nearBy (offsetsOf (s .a) ab positions) back v j ≡ true
+        → (p : ℕ) × (Mem p positions) × (j ≡ v - back + offsetOf (s .a) ab p)
+    near-offset j e =
         let w = map-mem (λ o. v - back + o) (offsetsOf (s .a) ab positions) j (near-mem (offsetsOf (s .a) ab positions) back v j e) in
         let q = map-mem (offsetOf (s .a) ab) positions (w .0) (w .1) in
-        (q .0, q .1, offset-at j (q .0) (few (q .0) (q .1)) (w .2 ∙ ap (λ (o : ℕ). v - back + o) (q .2)))
+        (q .0, q .1, w .2 ∙ ap (λ (o : ℕ). v - back + o) (q .2))
+
+    pub near-position : (j : ℕ) → ((p : ℕ) → Mem p positions → p < 27) → nearBy (offsetsOf (s .a) ab positions) back v j ≡ true
+        → (p : ℕ) × (Mem p positions) × (At (voxel s v) (voxel s j) p)
+    near-position j few e = let q = near-offset j e in (q .0, q .1, offset-at j (q .0) (few (q .0) (q .1)) (q .2))
 
     pub position-near : (j p : ℕ) → Mem p positions → At (voxel s v) (voxel s j) p → nearBy (offsetsOf (s .a) ab positions) back v j ≡ true
     position-near j p m a =
@@ -118,8 +120,5 @@ module _ (s : Sides) (F : Fit s) (v : ℕ) (I : Inner s (voxel s v)) where
         (mem-map (λ o. v - back + o) (offsetsOf (s .a) ab positions) (offsetOf (s .a) ab p) (mem-map (offsetOf (s .a) ab) positions p m)))
 
     -- all of them lie in the grid
-    pub positions-in : ((p : ℕ) → Mem p positions → p < 27) → (k : ℕ) → k < length (offsetsOf (s .a) ab positions)
-        → v - back + getD (offsetsOf (s .a) ab positions) k 0 < size s
-    positions-in few k h =
-        let q = map-mem (offsetOf (s .a) ab) positions (getD (offsetsOf (s .a) ab positions) k 0) (getD-mem 0 (offsetsOf (s .a) ab positions) k h) in
-        subst (λ (o : ℕ). v - back + o < size s) (sym (q .2)) (offset-in (q .0) (few (q .0) (q .1)))
+    pub near-in : (j : ℕ) → ((p : ℕ) → Mem p positions → p < 27) → nearBy (offsetsOf (s .a) ab positions) back v j ≡ true → j < size s
+    near-in j few e = let q = near-offset j e in omega (arith, q .2, offset-in (q .0) (few (q .0) (q .1)))

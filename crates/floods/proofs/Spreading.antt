@@ -1,4 +1,4 @@
--- A flood whose neighbours are given by offsets.
+-- A flood whose neighbours are given by the offsets of patches.
 use mathlib.Core.Path.{_≡_, ap, subst}
 use mathlib.Core.Bool.{false}
 use mathlib.Core.List.{List}
@@ -7,11 +7,16 @@ use native.Mathlib.Omega.{arith}
 use lib.IntN.{pos}
 use lib.ListN.{length, getD}
 use Rattle.rules.specs.Grid.{isNegative}
-use Rattle.floods.specs.Flood.{Fill, push, pushAll, shifted, nearBy, Pushable, Floodable, Flooded}
-use Rattle.floods.proofs.Offsets.{near-mem, mem-near}
+use Rattle.pushing.specs.declared.Patch.{Patch}
+use Rattle.pushing.specs.Push.{Fill, push, pushAll}
+use Rattle.floods.specs.Flood.{shifted, spanned, nearBy, Pushable, Floodable, Flooded}
+use Rattle.floods.proofs.Offsets.{near-mem, mem-near, patch-near}
 use Rattle.floods.proofs.Flooding.{State, start-state, turn-taken, turn-state, ended}
 
-module _ (offsets : List ℕ) (back : ℕ) (B : Fill) (seed : ℕ) where
+module _ (p : Patch) (firsts : List ℕ) (back : ℕ) (B : Fill) (seed : ℕ) where
+  abbrev offsets : List ℕ
+  offsets = spanned p firsts
+
   -- from B, with the entries before `at` done
   abbrev pub Spread : Fill → ℕ → Type 0
   Spread f at = State (nearBy offsets back) (λ v. shifted (v - back) offsets) (near-mem offsets back) (mem-near offsets back) B seed f at
@@ -36,11 +41,14 @@ module _ (offsets : List ℕ) (back : ℕ) (B : Fill) (seed : ℕ) where
       pub turn-low : back ≤ u
       turn-low = F .low u (turn-taken _ _ _ _ B seed f at T u more turn .was)
 
-      pub turn-pushable : Pushable offsets (u - back) f
-      turn-pushable =
+      pub turn-pushable : 0 < p .wide → 0 < p .rows → Pushable p firsts (u - back) f
+      turn-pushable wide some =
           record {
             ready = T .good .ready;
-            inside = λ k h. let l = F .high u (turn-taken _ _ _ _ B seed f at T u more turn .was) k h in let n = T .good .len in omega arith;
+            some = some;
+            inside = λ k r h l.
+                let n = patch-near p firsts back u k r (p .wide - 1) h l (omega arith) in
+                omega (arith, F .high u _ (turn-taken _ _ _ _ B seed f at T u more turn .was) n, T .good .len);
           }
 
       pub spread-turn : Spread (pushAll (shifted (u - back) offsets) f) (at + 1)

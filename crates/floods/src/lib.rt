@@ -1,13 +1,14 @@
-// Floods with one work list: labels stand in bytes, the work list in numbers of 32 bits, both lent. A voxel's neighbours are those at some offsets
-// from it, so that one flood serves for voxels that touch and for voxels that share faces.
+// Floods with one work list: labels stand in bytes, the work list in numbers of 32 bits, both lent. A voxel's neighbours are patches of voxels at some
+// offsets from it, so that one flood serves for voxels that touch, which are patches of nine, and for voxels that share faces, which are single.
+use pushing::Patch;
 ghost use mathlib.Core.Path.{_≡_};
 ghost use mathlib.Core.Bool.{false};
 ghost use Prim.Native.Nat.{_<_};
 ghost use lib.IntN.{pos};
 ghost use lib.ListN.{length, getD};
 ghost use Rattle.rules.specs.Grid.{isNegative};
-ghost use Rattle.floods.specs.Flood.{fillOf, push as pushOf, pushAll, shifted, nearBy};
-ghost use Rattle.floods.specs.Flood.{Ready, Pushable, Floodable, Flooded};
+ghost use Rattle.pushing.specs.Push.{fillOf, pushAll};
+ghost use Rattle.floods.specs.Flood.{shifted, spanned, nearBy, Pushable, Floodable, Flooded};
 
 // An entry of the work list.
 pub fn entry(work: &[i32], at: usize) -> usize
@@ -18,38 +19,25 @@ pub fn entry(work: &[i32], at: usize) -> usize
     v as usize
 }
 
-// Puts voxel j on the work list, if no flood has taken it.
-fn push(label: &mut [u8], work: &mut [i32], end: usize, j: usize) -> usize
-    requires { ⌜ (j < length (now label)) × Ready (fillOf (now label) (now work) end) ⌝ }
-    ensures { λ r. ⌜ fillOf (now (label .exit)) (now (work .exit)) r ≡ pushOf j (fillOf (now (label .entry)) (now (work .entry)) end) ⌝ }
-{
-    if label[j] == 1 {
-        label[j] = 2;
-        let v = j as i32;
-        work[end] = v;
-        return end + 1;
-    }
-    end
-}
-
-// The voxels at the offsets from base.
+// The patches at the offsets from base.
 fn push_each(
     label: &mut [u8],
     work: &mut [i32],
     end: usize,
     base: usize,
     offsets: &[usize],
+    patch: Patch,
 ) -> usize
-    requires { ⌜ Pushable (now offsets) base (fillOf (now label) (now work) end) ⌝ }
+    requires { ⌜ Pushable patch (now offsets) base (fillOf (now label) (now work) end) ⌝ }
     ensures { λ r. ⌜
         fillOf (now (label .exit)) (now (work .exit)) r
-        ≡ pushAll (shifted base (now (offsets .entry))) (fillOf (now (label .entry)) (now (work .entry)) end)
+        ≡ pushAll (shifted base (spanned patch (now (offsets .entry)))) (fillOf (now (label .entry)) (now (work .entry)) end)
         ⌝ }
 {
     let mut e = end;
     let mut k = 0;
     while k < offsets.len() {
-        e = push(label, work, e, base + offsets[k]);
+        e = pushing::push_patch(label, work, e, base + offsets[k], patch);
         k += 1;
     }
     e
@@ -62,19 +50,20 @@ pub fn flood(
     start: usize,
     seed: usize,
     offsets: &[usize],
+    patch: Patch,
     back: usize,
 ) -> usize
-    requires { ⌜ Floodable (now offsets) back (fillOf (now label) (now work) start) seed ⌝ }
+    requires { ⌜ (0 < patch .wide) × (0 < patch .rows) × Floodable (spanned patch (now offsets)) back (fillOf (now label) (now work) start) seed ⌝ }
     ensures { λ r. ⌜
-        Flooded (nearBy (now (offsets .entry)) back)
+        Flooded (nearBy (spanned patch (now (offsets .entry))) back)
         (fillOf (now (label .entry)) (now (work .entry)) start) (fillOf (now (label .exit)) (now (work .exit)) r) seed
         ⌝ }
 {
-    let mut end = push(label, work, start, seed);
+    let mut end = pushing::push(label, work, start, seed);
     let mut at = start;
     while at < end {
         let v = entry(work, at);
-        end = push_each(label, work, end, v - back, offsets);
+        end = push_each(label, work, end, v - back, offsets, patch);
         at += 1;
     }
     end

@@ -31,9 +31,10 @@ use Rattle.rules.proofs.Topology.Start.{border-inner}
 use Rattle.loops.specs.InPlace.{Each}
 use Rattle.values.specs.Values.{labelsOf}
 use Rattle.values.proofs.Measuring.{negative-measured}
-use Rattle.floods.specs.Flood.{offsetOf, labelled, nearBy, Taken}
-use Rattle.floods.proofs.Pushes.{label-lt}
-use Rattle.floods.proofs.Positions.{corner, offset-in, at-offset, offset-at, near-position, position-near, positions-in}
+use Rattle.pushing.specs.Push.{labelled}
+use Rattle.pushing.proofs.Pushes.{label-lt}
+use Rattle.floods.specs.Flood.{offsetOf, nearBy, Taken}
+use Rattle.floods.proofs.Positions.{corner, offset-in, at-offset, offset-at, near-position, position-near, near-in}
 use Rattle.labels.specs.Labels.{kindOf, Marked, settledOf}
 use Rattle.labels.proofs.Marking.{Kind, negative, missing, other, kind-is}
 use Rattle.gaps.specs.Gaps.{faces, opens, Reached, GapsToFlood, OpenGapsFlooded}
@@ -110,7 +111,7 @@ module _ (s : Sides) (values : List ℤ) (A : Beginnable s values) (L : List ℕ
         same = r ∙ sym (M .len);
         small = omega (arith, M .len);
         low = λ v e. omega (arith, corner s F v (inner-gap v e));
-        high = λ v e k h. omega (arith, positions-in s F v (inner-gap v e) facePositions few k h, M .len);
+        high = λ v j e n. omega (arith, near-in s F v (inner-gap v e) facePositions j few n, M .len);
       }
 
   -- the gap is open beside u exactly if a face neighbour of u has the label 3

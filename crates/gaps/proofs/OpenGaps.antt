@@ -16,9 +16,10 @@ use Rattle.prelude.proofs.Bools.{not-both}
 use Rattle.prelude.proofs.Lists.{any-ext}
 use Rattle.loops.specs.Searches.{Absent, First}
 use Rattle.loops.proofs.Orders.{split}
-use Rattle.floods.specs.Flood.{fillOf, nearBy, Taken, Floodable, Flooded}
-use Rattle.floods.proofs.Counting.{count-labels}
-use Rattle.floods.proofs.Pushes.{label-lt}
+use Rattle.pushing.specs.Push.{fillOf}
+use Rattle.pushing.proofs.Counting.{count-labels}
+use Rattle.pushing.proofs.Pushes.{label-lt}
+use Rattle.floods.specs.Flood.{nearBy, Taken, Floodable, Flooded}
 use Rattle.gaps.specs.Gaps.{opens, Reached, GapsToFlood, Visited, flooded, passed, OpenGapsFlooded}
 
 -- where a flood may start
@@ -60,7 +61,7 @@ module _ (offsets : List ℕ) (back : ℕ) (L : List ℕ) where
           same = A .same ∙ sym (D .len);
           small = omega (arith, A .small, D .len);
           low = λ v e. A .low v (was-one v e);
-          high = λ v e k h. omega (arith, A .high v (was-one v e) k h, D .len);
+          high = λ v j e n. omega (arith, A .high v j (was-one v e) n, D .len);
         }
 
     -- no flood changes where a gap is open

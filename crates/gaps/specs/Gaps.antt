@@ -11,7 +11,8 @@ use lib.ListN.{length, getD}
 use Rattle.cells.specs.Linked.{Linked}
 use Rattle.rules.specs.Grid.{facePositions}
 use Rattle.prelude.specs.Lists.{any}
-use Rattle.floods.specs.Flood.{offsetsOf, nearBy, labelled, fillOf, Taken, Flooded}
+use Rattle.pushing.specs.Push.{labelled, fillOf}
+use Rattle.floods.specs.Flood.{offsetsOf, nearBy, Taken, Flooded}
 
 -- the offsets of the six face neighbours
 abbrev pub faces : ℕ → ℕ → List ℕ
@@ -32,7 +33,7 @@ pub record GapsToFlood (offsets : List ℕ) (back : ℕ) (l : List ℕ) (room : 
   pub same : room ≡ length l
   pub small : length l ≤ 262144
   pub low : (v : ℕ) → getD l v 0 ≡ 1 → back ≤ v
-  pub high : (v : ℕ) → getD l v 0 ≡ 1 → (k : ℕ) → k < length offsets → v - back + getD offsets k 0 < length l
+  pub high : (v j : ℕ) → getD l v 0 ≡ 1 → nearBy offsets back v j ≡ true → j < length l
 
 -- a visit to an untaken voxel: a flood from it where the gap is open beside it
 pub data Visited (offsets : List ℕ) (back i : ℕ) (l l′ : List ℕ) (work work′ : List ℤ) : Type 0 where

@@ -1,6 +1,7 @@
 // The gaps behind the face, document 02's CR 6: the voxels that count as measured negative, with every enclosed gap filled. Labels stand in the status
 // bytes, the floods' work list in the distances. A gap is open where a face neighbour of it is on the border, or measured and not negative. So a flood
 // starts at each missing voxel beside which its gap is open; what no flood takes is enclosed, and each voxel is taken once.
+use pushing::Patch;
 use rules::Sides;
 ghost use mathlib.Core.Path.{_≡_};
 ghost use Prim.Native.Nat.{ℕ, _+_, _≤_, _<_};
@@ -45,7 +46,12 @@ fn visit(label: &mut [u8], work: &mut [i32], i: usize, offsets: &[usize], back: 
     ensures { λ _. ⌜ Visited (now (offsets .entry)) back i (now (label .entry)) (now (label .exit)) (now (work .entry)) (now (work .exit)) ⌝ }
 {
     if opens(label, i - back, offsets) {
-        floods::flood(label, work, 0, i, offsets, back);
+        let single = Patch {
+            wide: 1,
+            rows: 1,
+            step: 0,
+        };
+        floods::flood(label, work, 0, i, offsets, single, back);
     }
 }
 

@@ -13,6 +13,7 @@ use Rattle.rules.specs.Fit.{Beginnable}
 use Rattle.rules.proofs.Fill.{beginnable-filled}
 use Rattle.floods.specs.Flood.{nearBy}
 use Rattle.components.specs.Search.{touching, Searchable, Longest}
+use Rattle.components.proofs.Touched.{layers-touching}
 use Rattle.components.proofs.Finding.{searchable, relabelled, relabels-found}
 use borrow.Author.Needs.{needs}
 use Rattle.components.proofs.find.Statement.{statement}
@@ -40,45 +41,46 @@ labelled c = c .before .before .before .before
 mul-ab : tie.Need-mul-ab
 mul-ab c = let F = fits (begun (labelled c)) in omega (arith, mul-le-mul (F .a-high) (F .b-high))
 
-touching-requires : tie.Need-touching-requires
-touching-requires c κs = let F = fits (begun (labelled c)) in (F .a-high, mul-le-mul (F .a-high) (F .b-high))
-
-add-back : tie.Need-add-back
-add-back c = let F = fits (begun (labelled (c .before .before))) in omega (arith, F .a-high)
-
-add-back-2 : tie.Need-add-back-2
-add-back-2 c = let F = fits (begun (labelled (c .before .before))) in omega (arith, F .a-high, mul-le-mul (F .a-high) (F .b-high))
+mul-largest : tie.Need-mul-largest
+mul-largest c = let F = fits (begun (labelled c)) in omega (arith, mul-le-mul (F .a-high) (F .b-high))
 
 slice-aggregate-largest : tie.Need-slice-aggregate-largest
 slice-aggregate-largest c = search needs
 
-abbrev offered : tie.After-offsets → tie.After-touching
-offered c = c .before .before .before .before
+abbrev offered : tie.After-layers → tie.After-label
+offered c = labelled (c .before .before .before)
+
+add-largest : tie.Need-add-largest
+add-largest c = let F = fits (begun (offered c)) in omega (arith, F .a-high)
+
+add-largest-2 : tie.Need-add-largest-2
+add-largest-2 c = let F = fits (begun (offered c)) in omega (arith, F .a-high, mul-le-mul (F .a-high) (F .b-high))
 
 largest-requires : tie.Need-largest-requires
 largest-requires c κs =
-    let t = offered c in
-    let e = labelled (t .before) in
+    let e = offered c in
     let s = begun e in
-    let a = s .args in
-    subst (λ (o : List ℕ). Searchable o (1 + a .sides .a + a .sides .a * a .sides .b) (e .label .last .0) (length (e .label .last .1 .0)))
-    (sym (t .touching .ensures))
-    (searchable (a .sides) (used s) (accepted s) (e .label .last .0) (e .label .ensures) _ (e .label .kept .1 .0 ∙ s .pre .dist-len))
+    let a = s .args in (
+      omega arith,
+      omega arith,
+      subst (λ (o : List ℕ). Searchable o (1 + a .sides .a + a .sides .a * a .sides .b) (e .label .last .0) (length (e .label .last .1 .0)))
+          (sym (layers-touching (a .sides .a) (a .sides .a * a .sides .b)))
+          (searchable (a .sides) (used s) (accepted s) (e .label .last .0) (e .label .ensures) _ (e .label .kept .1 .0 ∙ s .pre .dist-len)),
+    )
 
 clear-requires : tie.Need-clear-requires
 clear-requires c κs = search needs
 
 -- after the search
-longest : (c : tie.After-largest) → let t = offered (c .before) in let e = labelled (t .before) in let a = begun e .args in
+longest : (c : tie.After-largest) → let e = offered (c .before) in let a = begun e .args in
     Longest (nearBy (touching (a .sides .a) (a .sides .a * a .sides .b)) (1 + a .sides .a + a .sides .a * a .sides .b)) (e .label .last .0)
     (c .largest .last .1 .0)
     (c .largest .result .first) (c .largest .result .end)
 longest c =
-    let t = offered (c .before) in
-    let e = labelled (t .before) in
+    let e = offered (c .before) in
     let a = begun e .args in
     subst (λ (o : List ℕ). Longest (nearBy o (1 + a .sides .a + a .sides .a * a .sides .b)) (e .label .last .0) (c .largest .last .1 .0)
-    (c .largest .result .first) (c .largest .result .end)) (t .touching .ensures) (c .largest .ensures)
+    (c .largest .result .first) (c .largest .result .end)) (layers-touching (a .sides .a) (a .sides .a * a .sides .b)) (c .largest .ensures)
 
 abbrev searched : tie.After-clear → tie.After-largest
 searched c = c .before .before .before .before .before
@@ -87,14 +89,14 @@ abbrev cleared : tie.After-relabel-arg2 → tie.After-clear
 cleared c = c .before .before .before .before
 
 -- the labels are as many as ever
-whole : (c : tie.After-largest) → let s = begun (labelled (offered (c .before) .before)) in length (c .largest .last .0) ≡ size (s .args .sides)
-whole c = let e = labelled (offered (c .before) .before) in c .largest .kept .0 ∙ e .label .kept .0 ∙ begun e .pre .status-len
+whole : (c : tie.After-largest) → let s = begun (offered (c .before)) in length (c .largest .last .0) ≡ size (s .args .sides)
+whole c = let e = offered (c .before) in c .largest .kept .0 ∙ e .label .kept .0 ∙ begun e .pre .status-len
 
 relabel-requires : tie.Need-relabel-requires
 relabel-requires c κs =
     let d = cleared c in
     let r = searched d in
-    let e = labelled (offered (r .before) .before) in
+    let e = offered (r .before) in
     let s = begun e in
     relabelled (s .args .sides) (used s) (accepted s) (e .label .last .0) (e .label .ensures) (r .largest .last .1 .0)
     (r .largest .result .first) (r .largest .result .end) (longest r) _ (d .clear .ensures .len ∙ whole r)
@@ -110,7 +112,7 @@ returns c =
     let n = c .before .before in
     let d = cleared (n .before) in
     let r = searched d in
-    let e = labelled (offered (r .before) .before) in
+    let e = offered (r .before) in
     let s = begun e in
     relabels-found (s .args .sides) (used s) (accepted s) (e .label .last .0) (e .label .ensures) (r .largest .last .1 .0)
     (r .largest .result .first) (r .largest .result .end) (longest r) (s .args .far) (r .largest .last .0) (d .clear .last .0) (n .relabel .last .0)
@@ -122,10 +124,10 @@ find-spec =
     (tie.spec
     label-requires
     mul-ab
-    touching-requires
-    add-back
-    add-back-2
+    mul-largest
     slice-aggregate-largest
+    add-largest
+    add-largest-2
     largest-requires
     clear-requires
     relabel-requires

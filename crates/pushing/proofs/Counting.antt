@@ -14,7 +14,7 @@ use Rattle.prelude.proofs.Bools.{two}
 use Rattle.prelude.proofs.Lists.{Mem, here, there}
 use Rattle.rules.specs.Grid.{range}
 use Rattle.prelude.proofs.Ranges.{range-mem, length-range}
-use Rattle.floods.specs.Flood.{labelled, untaken}
+use Rattle.pushing.specs.Push.{labelled, untaken}
 
 -- one of p and q holds where r does, and neither where it does not
 pub data Parts : Bool → Bool → Bool → Type 0 where

@@ -1,7 +1,7 @@
 -- Laws of a push.
-use mathlib.Core.Path.{_≡_, refl, sym, subst}
+use mathlib.Core.Path.{_≡_, refl, sym, ap, _∙_, subst}
 use mathlib.Core.Logic.{⊎-elim}
-use mathlib.Core.List.{List, [], _∷_}
+use mathlib.Core.List.{List, [], _∷_, _++_}
 use Prim.Native.Nat.{ℕ, zero, suc, _<_}
 use native.Mathlib.Omega.{arith}
 use lib.Dec.{eqb}
@@ -9,8 +9,9 @@ use lib.ListN.{length, getD, length-set}
 use lib.IntN.{pos}
 use borrow.Author.Tests.{eq-eqb, ne-eqb, eqb-true, eqb-false}
 use Rattle.prelude.proofs.Bools.{two}
-use Rattle.floods.specs.Flood.{Fill, pushed, push, untaken, Ready}
-use Rattle.floods.proofs.Counting.{count-set}
+use Rattle.prelude.proofs.Lists.{Mem, here, there}
+use Rattle.pushing.specs.Push.{Fill, pushed, push, pushAll, untaken, Ready}
+use Rattle.pushing.proofs.Counting.{count-set}
 
 pub push-yes : (j : ℕ) (f : Fill) → getD (f .labels) j 0 ≡ 1 → push j f ≡ pushed j f
 unfolding push
@@ -47,8 +48,31 @@ push-keeps P j f p h =
     (λ e. subst P (sym (push-no j f (eqb-false (getD (f .labels) j 0) 1 e))) p)
     (two (eqb (getD (f .labels) j 0) 1))
 
-pub push-ready : (j : ℕ) (f : Fill) → Ready f → Ready (push j f)
+push-ready : (j : ℕ) (f : Fill) → Ready f → Ready (push j f)
 push-ready j f r = push-keeps Ready j f r (pushed-ready j f r)
 
-pub push-length : (j : ℕ) (f : Fill) → length (push j f .labels) ≡ length (f .labels)
+push-length : (j : ℕ) (f : Fill) → length (push j f .labels) ≡ length (f .labels)
 push-length j f = push-keeps (λ g. length (g .labels) ≡ length (f .labels)) j f refl (λ e. length-set (f .labels) j 2)
+
+-- ---- several pushes
+
+pub all-ready : (js : List ℕ) (f : Fill) → Ready f → Ready (pushAll js f)
+unfolding pushAll
+all-ready [] f r = r
+all-ready (j ∷ js) f r = all-ready js (push j f) (push-ready j f r)
+
+pub all-length : (js : List ℕ) (f : Fill) → length (pushAll js f .labels) ≡ length (f .labels)
+unfolding pushAll
+all-length [] f = refl
+all-length (j ∷ js) f = all-length js (push j f) ∙ push-length j f
+
+pub all-append : (js ks : List ℕ) (f : Fill) → pushAll (js ++ ks) f ≡ pushAll ks (pushAll js f)
+unfolding pushAll
+all-append [] ks f = refl
+all-append (j ∷ js) ks f = all-append js ks (push j f)
+
+-- none of them is untaken
+pub all-none : (js : List ℕ) (f : Fill) → ((j : ℕ) → Mem j js → getD (f .labels) j 0 ≡ 1 → ⊥) → pushAll js f ≡ f
+unfolding pushAll
+all-none [] f none = refl
+all-none (j ∷ js) f none = ap (pushAll js) (push-no j f (none j here)) ∙ all-none js f (λ k m. none k (there m))

@@ -6,11 +6,11 @@ use lib.IntN.{ℤ}
 use lib.ListN.{set}
 use mir.Syntax.{w32}
 use mir.Facts.{toZ-pos}
-use Rattle.floods.specs.Flood.{fillOf}
-use Rattle.floods.proofs.Pushes.{push-yes, push-no, has-room}
+use Rattle.pushing.specs.Push.{fillOf}
+use Rattle.pushing.proofs.Pushes.{push-yes, push-no, has-room}
 use borrow.Author.Needs.{needs}
-use Rattle.floods.proofs.push.Statement.{statement}
-use Rattle.floods.proofs.push.Tie as tie
+use Rattle.pushing.proofs.push.Statement.{statement}
+use Rattle.pushing.proofs.push.Tie as tie
 
 slice-read-if1 : tie.Need-slice-read-if1
 slice-read-if1 c = search needs

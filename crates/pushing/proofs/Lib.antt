@@ -1,0 +1,3 @@
+pub mod Counting
+pub mod Pushes
+pub mod Runs
