@@ -1,3 +1,3 @@
-pub mod Sweeping
-pub mod Spreading
+pub mod Advancing
+pub mod Layers
 pub mod Measuring

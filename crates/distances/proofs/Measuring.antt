@@ -5,23 +5,23 @@ use mathlib.Core.Bool.{Bool, true, false, cond}
 use mathlib.Core.List.{List}
 use Prim.Native.Nat.{ℕ, _+_, _*_, _≤_, _<_}
 use native.Mathlib.Omega.{arith}
-use native.Mathlib.Nat.{mul-le-mul, add-mul, mul-comm, mul-assoc, mul-one, one-mul}
+use native.Mathlib.Nat.{mul-le-mul, mul-comm, one-mul}
 use lib.ListN.{length, getD, List·getD-eq-default}
 use Rattle.prelude.proofs.Bools.{two}
 use Rattle.rules.specs.declared.Sides.{Sides}
 use Rattle.rules.specs.Grid.{size, voxel, gap, apart, taxicab}
-use Rattle.rules.specs.Begin.{isIn, distance}
+use Rattle.rules.specs.Begin.{isIn}
 use Rattle.rules.proofs.Places.{Fit, InGrid, voxel-in}
 use Rattle.rules.proofs.Distance.{taxicab-lt, nearest-distance}
-use Rattle.loops.proofs.Orders.{split}
+use Rattle.loops.proofs.Orders.{split, times-next}
 use Rattle.loops.proofs.Coordinates.{index-is, coords, grid-in}
-use Rattle.distances.specs.Sweep.{Whole, Axis}
+use Rattle.sweeps.specs.Sweep.{placeOf}
+use Rattle.distances.specs.Axes.{Whole, Axis}
 use Rattle.distances.specs.Work.{Seeded, Measured}
-use Rattle.distances.proofs.Sweeping.{times-next}
 
 -- a line of an axis, by a position map
-module _ (st m : ℕ) (d d′ : List ℕ) (A : Axis st m d d′) (g r : ℕ) (fits : g * (m * st) + m * st ≤ length d) (h : r < st)
-    (line : ℕ → ℕ) (is : (q : ℕ) → g * (m * st) + q * st + r ≡ line q) where
+module _ (along : Bool) (st m : ℕ) (d d′ : List ℕ) (A : Axis along st m d d′) (g r : ℕ) (fits : g * (m * st) + m * st ≤ length d) (h : r < st)
+    (line : ℕ → ℕ) (is : (q : ℕ) → placeOf along st m (g * (m * st)) r q ≡ line q) where
   along-le : (q q′ : ℕ) → q < m → q′ < m → getD d′ (line q) 0 ≤ getD d (line q′) 0 + gap q q′
   along-le q q′ l k =
       let n = A .spread g fits .near q q′ r l k h in
@@ -62,30 +62,19 @@ module _ (s : Sides) (F : Fit s) where
   unfolding size
   few = mul-le-mul (mul-le-mul (F .a-high) (F .b-high)) (F .c-high)
 
-  rows : s .b * (s .a * 1) ≡ ab
-  rows = ap (λ (x : ℕ). s .b * x) (mul-one (s .a)) ∙ mul-comm (s .b) (s .a)
-
-  -- where a line of each axis lies
-  row-at : (y z : ℕ) → (y + z * s .b) * (s .a * 1) ≡ y * s .a + z * ab
-  row-at y z =
-      let e = add-mul y (z * s .b) (s .a * 1) in
-      let f = ap (λ (x : ℕ). y * x) (mul-one (s .a)) in
-      let g = mul-assoc z (s .b) (s .a * 1) ∙ ap (λ (x : ℕ). z * x) rows in
-      omega arith
-
   layer-at : (z : ℕ) → z * (s .b * s .a) ≡ z * ab
   layer-at z = ap (λ (x : ℕ). z * x) (mul-comm (s .b) (s .a))
 
   -- ---- the three axes, and what the sweeps may go by
 
   module _ (d : List ℕ) (len : length d ≡ size s) (small : (k : ℕ) → getD d k 0 < 255) where
-    pub whole-x : Whole d 1 (s .a)
+    pub whole-x : Whole d (s .b) (s .a)
     whole-x =
         record {
-          slabs = s .c * s .b;
-          some = let p = mul-le-mul pc pb in omega arith;
-          whole = len ∙ size-is ∙ sym (mul-assoc (s .c) (s .b) (s .a * 1) ∙ ap (λ (x : ℕ). s .c * x) rows);
-          st-pos = omega arith;
+          slabs = s .c;
+          some = pc;
+          whole = len ∙ size-is;
+          st-pos = pb;
           m-pos = pa;
           few = omega (arith, few);
           small = small;
@@ -115,33 +104,31 @@ module _ (s : Sides) (F : Fit s) where
           small = small;
         }
 
-  module _ (D D₁ D₂ D₃ : List ℕ) (len : length D ≡ size s) (X : Axis 1 (s .a) D D₁) (Y : Axis (s .a) (s .b) D₁ D₂) (Z : Axis ab (s .c) D₂ D₃) where
-    row-end : (y z : ℕ) → y < s .b → z < s .c → (y + z * s .b) * (s .a * 1) + s .a * 1 ≤ length D
-    row-end y z h k =
-        let l = times-next y (s .b) (s .a) h in
-        let o = times-next z (s .c) ab k in
-        omega (arith, row-at y z, mul-comm (s .b) (s .a), size-is)
+  module _ (D D₁ D₂ D₃ : List ℕ) (len : length D ≡ size s) (X : Axis true (s .b) (s .a) D D₁) (Y : Axis false (s .a) (s .b) D₁ D₂)
+      (Z : Axis false ab (s .c) D₂ D₃) where
+    rows-end : (z : ℕ) → z < s .c → z * ab + ab ≤ length D
+    rows-end z k = omega (arith, times-next z (s .c) ab k, size-is)
 
     x-le : (x x′ y z : ℕ) → x < s .a → x′ < s .a → y < s .b → z < s .c → getD D₁ (point x y z) 0 ≤ getD D (point x′ y z) 0 + gap x x′
     x-le x x′ y z h h′ k l =
-        along-le 1 (s .a) D D₁ X (y + z * s .b) 0 (row-end y z k l) (omega arith) (λ q. point q y z) (λ q. omega (arith, row-at y z)) x x′ h h′
+        along-le true (s .b) (s .a) D D₁ X z y (rows-end z l) k (λ q. point q y z) (λ q. omega arith) x x′ h h′
 
     x-ge : (x y z : ℕ) → x < s .a → y < s .b → z < s .c
         → (x′ : ℕ) × (x′ < s .a) × (getD D (point x′ y z) 0 + gap x x′ ≤ getD D₁ (point x y z) 0)
     x-ge x y z h k l =
-        along-ge 1 (s .a) D D₁ X (y + z * s .b) 0 (row-end y z k l) (omega arith) (λ q. point q y z) (λ q. omega (arith, row-at y z)) x h
+        along-ge true (s .b) (s .a) D D₁ X z y (rows-end z l) k (λ q. point q y z) (λ q. omega arith) x h
 
     layer-end : (z : ℕ) → z < s .c → z * (s .b * s .a) + s .b * s .a ≤ length D₁
     layer-end z k = let o = times-next z (s .c) ab k in omega (arith, layer-at z, mul-comm (s .b) (s .a), size-is, X .len)
 
     y-le : (x y y′ z : ℕ) → x < s .a → y < s .b → y′ < s .b → z < s .c → getD D₂ (point x y z) 0 ≤ getD D₁ (point x y′ z) 0 + gap y y′
     y-le x y y′ z h k k′ l =
-        along-le (s .a) (s .b) D₁ D₂ Y z x (layer-end z l) h (λ q. point x q z) (λ q. omega (arith, layer-at z)) y y′ k k′
+        along-le false (s .a) (s .b) D₁ D₂ Y z x (layer-end z l) h (λ q. point x q z) (λ q. omega (arith, layer-at z)) y y′ k k′
 
     y-ge : (x y z : ℕ) → x < s .a → y < s .b → z < s .c
         → (y′ : ℕ) × (y′ < s .b) × (getD D₁ (point x y′ z) 0 + gap y y′ ≤ getD D₂ (point x y z) 0)
     y-ge x y z h k l =
-        along-ge (s .a) (s .b) D₁ D₂ Y z x (layer-end z l) h (λ q. point x q z) (λ q. omega (arith, layer-at z)) y k
+        along-ge false (s .a) (s .b) D₁ D₂ Y z x (layer-end z l) h (λ q. point x q z) (λ q. omega (arith, layer-at z)) y k
 
     all-end : 0 * (s .c * ab) + s .c * ab ≤ length D₂
     all-end = omega (arith, size-is, X .len, Y .len)
@@ -152,12 +139,12 @@ module _ (s : Sides) (F : Fit s) where
 
     z-le : (x y z z′ : ℕ) → x < s .a → y < s .b → z < s .c → z′ < s .c → getD D₃ (point x y z) 0 ≤ getD D₂ (point x y z′) 0 + gap z z′
     z-le x y z z′ h k l l′ =
-        along-le ab (s .c) D₂ D₃ Z 0 (x + y * s .a) all-end (in-layer x y h k) (λ q. point x y q) (λ q. omega arith) z z′ l l′
+        along-le false ab (s .c) D₂ D₃ Z 0 (x + y * s .a) all-end (in-layer x y h k) (λ q. point x y q) (λ q. omega arith) z z′ l l′
 
     z-ge : (x y z : ℕ) → x < s .a → y < s .b → z < s .c
         → (z′ : ℕ) × (z′ < s .c) × (getD D₂ (point x y z′) 0 + gap z z′ ≤ getD D₃ (point x y z) 0)
     z-ge x y z h k l =
-        along-ge ab (s .c) D₂ D₃ Z 0 (x + y * s .a) all-end (in-layer x y h k) (λ q. point x y q) (λ q. omega arith) z l
+        along-ge false ab (s .c) D₂ D₃ Z 0 (x + y * s .a) all-end (in-layer x y h k) (λ q. point x y q) (λ q. omega arith) z l
 
     in-grid : (i : ℕ) → i < size s → InGrid s (voxel s i)
     in-grid i h = voxel-in s i pa pb h

@@ -1,96 +1,65 @@
-// Taxicab distances to S by sweeps, up and down along each axis. One function with a stride and a direction serves them all.
+// Taxicab distances to S by sweeps, up and down along each axis, slab by slab. Along x a layer is transposed first.
 use rules::Sides;
 ghost use mathlib.Core.Path.{_≡_};
+ghost use mathlib.Core.Bool.{true};
 ghost use mathlib.Core.List.{List};
-ghost use Prim.Native.Nat.{ℕ};
-ghost use Rattle.distances.specs.Sweep.{positionOf, Lowered, Apart, Slab, Swept, Both, Whole, Axis, Positioned};
+ghost use Prim.Native.Nat.{ℕ, _*_, _≤_, _<_};
+ghost use lib.ListN.{length};
+ghost use Rattle.sweeps.specs.Sweep.{Slab, Both};
+ghost use Rattle.distances.specs.Axes.{Level, Whole, Axis};
 ghost use Rattle.distances.specs.Work.{Seeded, Measured};
 
-// Lowers the distances of a run of n voxels: each is then at most 1 more than the one as far along the run at `from`.
-fn lower(d: &mut [u8], at: usize, from: usize, n: usize)
-    requires { ⌜ Apart (now d) at from n ⌝ }
-    ensures { λ _. ⌜ Lowered at from n (now (d .entry)) (now (d .exit)) ⌝ }
+// Whether the distances from first up to end are all the same: without a branch, so that a compiler looks at many at a time.
+fn level(d: &[u8], first: usize, end: usize) -> bool
+    requires { ⌜ (first < end) × (end ≤ length (now d)) ⌝ }
+    ensures { λ r. ⌜ (r ≡ true → Level (now (d .entry)) first end) ⌝ }
 {
-    let mut k = 0;
-    while k < n {
-        let v = numbers::lesser_u8(d[at + k], d[from + k] + 1);
-        d[at + k] = v;
+    let v = d[first];
+    let mut other = false;
+    let mut k = first;
+    while k < end {
+        other = other | (d[k] != v);
         k += 1;
     }
+    !other
 }
 
-// The first voxel of the position that has turn t, of m positions from `at` on.
-fn position(at: usize, st: usize, m: usize, down: bool, t: usize) -> usize
-    requires { ⌜ Positioned at st m t ⌝ }
-    ensures { λ r. ⌜ r ≡ positionOf at st m down t ⌝ }
+// Sweeps st rows of m voxels up and down: transposed, they are a slab, whose lines do not wait for one another. In a layer without a voxel of S all
+// distances are the same, and there is nothing to sweep.
+fn rows(d: &mut [u8], at: usize, st: usize, m: usize)
+    requires { ⌜ Slab (now d) st m at × (m * st ≤ 4096) ⌝ }
+    ensures { λ _. ⌜ Both true st m at (now (d .entry)) (now (d .exit)) ⌝ }
 {
-    if down {
-        return at + (m - 1 - t) * st;
-    }
-    at + t * st
-}
-
-// Sweeps a row. The distance before is at hand: along a row each waits for the one before it.
-fn sweep_row(d: &mut [u8], at: usize, m: usize, down: bool)
-    requires { ⌜ Slab (now d) 1 m at ⌝ }
-    ensures { λ _. ⌜ Swept 1 m at down (now (d .entry)) (now (d .exit)) ⌝ }
-{
-    let first = position(at, 1, m, down, 0);
-    let mut last = d[first];
-    let mut t = 1;
-    while t < m {
-        let i = position(at, 1, m, down, t);
-        last = numbers::lesser_u8(d[i], last + 1);
-        d[i] = last;
-        t += 1;
-    }
-}
-
-// Sweeps a slab of m positions with st voxels at each, run by run.
-fn sweep_runs(d: &mut [u8], at: usize, st: usize, m: usize, down: bool)
-    requires { ⌜ Slab (now d) st m at ⌝ }
-    ensures { λ _. ⌜ Swept st m at down (now (d .entry)) (now (d .exit)) ⌝ }
-{
-    let mut from = position(at, st, m, down, 0);
-    let mut t = 1;
-    while t < m {
-        let i = position(at, st, m, down, t);
-        lower(d, i, from, st);
-        from = i;
-        t += 1;
-    }
-}
-
-// Sweeps a slab one way.
-fn sweep(d: &mut [u8], at: usize, st: usize, m: usize, down: bool)
-    requires { ⌜ Slab (now d) st m at ⌝ }
-    ensures { λ _. ⌜ Swept st m at down (now (d .entry)) (now (d .exit)) ⌝ }
-{
-    if st == 1 {
-        sweep_row(d, at, m, down);
+    if level(d, at, at + m * st) {
         return;
     }
-    sweep_runs(d, at, st, m, down);
+    let mut layer = [0u8; 4096];
+    transposing::transpose(d, at, st, m, &mut layer, 0);
+    sweeps::both(&mut layer, 0, st, m);
+    transposing::transpose(&layer, 0, m, st, d, at);
 }
 
-// Sweeps a slab up and down.
-fn both(d: &mut [u8], at: usize, st: usize, m: usize)
-    requires { ⌜ Slab (now d) st m at ⌝ }
-    ensures { λ _. ⌜ Both st m at (now (d .entry)) (now (d .exit)) ⌝ }
+// Sweeps a slab up and down, along its rows or across them.
+fn slab(d: &mut [u8], at: usize, st: usize, m: usize, along: bool)
+    requires { ⌜ Slab (now d) st m at × (along ≡ true → m * st ≤ 4096) ⌝ }
+    ensures { λ _. ⌜ Both along st m at (now (d .entry)) (now (d .exit)) ⌝ }
 {
-    sweep(d, at, st, m, false);
-    sweep(d, at, st, m, true);
+    if along {
+        rows(d, at, st, m);
+        return;
+    }
+    sweeps::both(d, at, st, m);
 }
 
 // Sweeps all slabs of an axis up and down.
-fn axis(d: &mut [u8], st: usize, m: usize)
-    requires { ⌜ Whole (now d) st m ⌝ }
-    ensures { λ _. ⌜ Axis st m (now (d .entry)) (now (d .exit)) ⌝ }
+fn axis(d: &mut [u8], st: usize, m: usize, along: bool)
+    requires { ⌜ Whole (now d) st m × (along ≡ true → m * st ≤ 4096) ⌝ }
+    ensures { λ _. ⌜ Axis along st m (now (d .entry)) (now (d .exit)) ⌝ }
 {
     let step = m * st;
     let mut at = 0;
     while at < d.len() {
-        both(d, at, st, m);
+        slab(d, at, st, m, along);
         at += step;
     }
 }
@@ -103,7 +72,7 @@ pub fn measure(d: &mut [u8], sides: Sides)
     let a = sides.a;
     let b = sides.b;
     let c = sides.c;
-    axis(d, 1, a);
-    axis(d, a, b);
-    axis(d, a * b, c);
+    axis(d, b, a, true);
+    axis(d, a, b, false);
+    axis(d, a * b, c, false);
 }

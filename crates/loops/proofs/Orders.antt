@@ -2,9 +2,9 @@
 use mathlib.Core.Path.{_≡_, refl, _∙_, subst}
 use mathlib.Core.Logic.{_⊎_, inl, inr, ⊎-elim}
 use mathlib.Core.List.{List, [], _∷_}
-use Prim.Native.Nat.{ℕ, zero, suc, _+_, _≤_, _<_}
+use Prim.Native.Nat.{ℕ, zero, suc, _+_, _*_, _≤_, _<_}
 use native.Mathlib.Omega.{arith}
-use native.Mathlib.Nat.{eq-or-lt-of-le}
+use native.Mathlib.Nat.{eq-or-lt-of-le, mul-le-mul-right, suc-mul}
 use borrow.Author.Count.{below-more}
 use borrow.Author.Tests.{leb-true, leb-false}
 use lib.Dec.{leb}
@@ -15,6 +15,10 @@ use Rattle.loops.specs.Searches.{Absent}
 
 pub split : (x y : ℕ) → (x ≤ y) ⊎ (y < x)
 split x y = ⊎-elim (λ e. inl (leb-true x y e)) (λ e. inr (leb-false x y e)) (two (leb x y))
+
+-- of two multiples
+pub times-next : (a b w : ℕ) → a < b → a * w + w ≤ b * w
+times-next a b w h = let m = mul-le-mul-right w (let l : suc a ≤ b = omega arith in l) in let e = suc-mul a w in omega arith
 
 -- a loop that stores f i at i, for i from 0 up
 pub store-more : {A : Type 0} (f : ℕ → A) (l : List A) (i : ℕ) (v d : A) → i < length l → v ≡ f i → ((k : ℕ) → k < i → getD l k d ≡ f k)

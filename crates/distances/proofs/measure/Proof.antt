@@ -1,10 +1,10 @@
 -- `measure`: three axes.
-use mathlib.Core.Path.{_≡_, _∙_}
+use mathlib.Core.Path.{sym, _∙_}
+use mathlib.Core.Bool.{true≢false}
 use Prim.Native.Nat.{ℕ, _<_}
 use native.Mathlib.Omega.{arith}
 use native.Mathlib.Nat.{mul-le-mul}
-use lib.ListN.{length, getD}
-use Rattle.rules.specs.Grid.{size}
+use lib.ListN.{getD}
 use Rattle.rules.proofs.Places.{Fit, fit}
 use Rattle.distances.proofs.Measuring.{whole-x, whole-y, whole-z, seeded-small, swept-measured}
 use borrow.Author.Needs.{needs}
@@ -29,14 +29,16 @@ second c = c .before .before .before .before
 axis-requires : tie.Need-axis-requires
 axis-requires c κs =
     let s = c .before .before in
-    whole-x (s .args .sides) (fits s) (s .args .d .now) (s .pre .1 .seeds .len) (small s)
+    (whole-x (s .args .sides) (fits s) (s .args .d .now) (s .pre .1 .seeds .len) (small s), λ e. mul-le-mul (fits s .a-high) (fits s .b-high))
 
 axis-requires-2 : tie.Need-axis-requires-2
 axis-requires-2 c κs =
     let x = c .before .before .before in
-    let s = begun x in
-    whole-y (s .args .sides) (fits s) (x .axis .last .0) (x .axis .ensures .len ∙ s .pre .1 .seeds .len)
-    (λ k. omega (arith, x .axis .ensures .lower k, small s k))
+    let s = begun x in (
+      whole-y (s .args .sides) (fits s) (x .axis .last .0) (x .axis .ensures .len ∙ s .pre .1 .seeds .len)
+          (λ k. omega (arith, x .axis .ensures .lower k, small s k)),
+      λ e. absurd (true≢false (sym e)),
+    )
 
 mul-axis : tie.Need-mul-axis
 mul-axis c =
@@ -47,9 +49,11 @@ axis-requires-3 : tie.Need-axis-requires-3
 axis-requires-3 c κs =
     let y = c .before .before .before in
     let x = first y in
-    let s = begun x in
-    whole-z (s .args .sides) (fits s) (y .axis2 .last .0) (y .axis2 .ensures .len ∙ x .axis .ensures .len ∙ s .pre .1 .seeds .len)
-    (λ k. omega (arith, y .axis2 .ensures .lower k, x .axis .ensures .lower k, small s k))
+    let s = begun x in (
+      whole-z (s .args .sides) (fits s) (y .axis2 .last .0) (y .axis2 .ensures .len ∙ x .axis .ensures .len ∙ s .pre .1 .seeds .len)
+          (λ k. omega (arith, y .axis2 .ensures .lower k, x .axis .ensures .lower k, small s k)),
+      λ e. absurd (true≢false (sym e)),
+    )
 
 same-length : tie.Need-same-length
 same-length c = search needs

@@ -1,10 +1,9 @@
--- `sweep_runs`: t positions have had their turn.
+-- `sweep`: t positions have had their turn.
 use Prim.Native.Nat.{_-_}
-use native.Mathlib.Omega.{arith}
-use Rattle.distances.proofs.Sweeping.{Running, running-start, running-apart, running-more, sweeping-done, positioned}
+use Rattle.sweeps.proofs.Sweeping.{Running, running-start, running-apart, running-more, sweeping-done, positioned}
 use borrow.Author.Needs.{needs}
-use Rattle.distances.proofs.sweep_runs.Statement.{statement}
-use Rattle.distances.proofs.sweep_runs.Tie as tie
+use Rattle.sweeps.proofs.sweep.Statement.{statement}
+use Rattle.sweeps.proofs.sweep.Tie as tie
 
 abbrev Inv-loop : tie.InvT-loop
 Inv-loop d₀ at st m down from₀ t₀ d from t = Running st m at down d₀ d t from
@@ -63,8 +62,8 @@ returns c =
     sweeping-done (s .args .st) (s .args .m) (s .args .at) (s .args .down) (s .args .d .now) (s .pre) (l .loop .d) (l .loop .t) (c .loop-test .left)
     (l .loop .inv .sweeping)
 
-pub sweep-runs-spec : {M : Type 1} → statement M
-sweep-runs-spec =
+pub sweep-spec : {M : Type 1} → statement M
+sweep-spec =
     tie.close
     (tie.spec
     Inv-loop

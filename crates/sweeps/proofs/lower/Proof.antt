@@ -2,11 +2,11 @@
 use Prim.Native.Nat.{ℕ, _+_, _-_, _≤_}
 use mathlib.Core.Path.{_≡_, subst}
 use native.Mathlib.Omega.{arith}
-use Rattle.distances.specs.Sweep.{Lowered}
-use Rattle.distances.proofs.Sweeping.{lowered-none, lowered-far, lowered-more}
+use Rattle.sweeps.specs.Sweep.{Lowered}
+use Rattle.sweeps.proofs.Sweeping.{lowered-none, lowered-far, lowered-more}
 use borrow.Author.Needs.{needs}
-use Rattle.distances.proofs.lower.Statement.{statement}
-use Rattle.distances.proofs.lower.Tie as tie
+use Rattle.sweeps.proofs.lower.Statement.{statement}
+use Rattle.sweeps.proofs.lower.Tie as tie
 
 abbrev Inv-loop : tie.InvT-loop
 Inv-loop d₀ at from n k₀ d k = (k ≤ n) × Lowered at from k d₀ d

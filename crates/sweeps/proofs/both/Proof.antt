@@ -1,8 +1,8 @@
 -- `both`: up, then down.
-use Rattle.distances.proofs.Spreading.{both-ways, slab-again}
+use Rattle.sweeps.proofs.Spreading.{both-ways, slab-again}
 use borrow.Author.Needs.{needs}
-use Rattle.distances.proofs.both.Statement.{statement}
-use Rattle.distances.proofs.both.Tie as tie
+use Rattle.sweeps.proofs.both.Statement.{statement}
+use Rattle.sweeps.proofs.both.Tie as tie
 
 sweep-requires : tie.Need-sweep-requires
 sweep-requires c κs = search needs

@@ -2,12 +2,12 @@
 use mathlib.Core.Path.{sym, ap}
 use mathlib.Core.Bool.{Bool}
 use native.Mathlib.Omega.{arith}
-use Prim.Native.Nat.{ℕ, _*_, _-_}
-use Rattle.distances.specs.Sweep.{positionOf}
-use Rattle.distances.proofs.Sweeping.{times-next}
+use Prim.Native.Nat.{_-_}
+use Rattle.sweeps.specs.Sweep.{positionOf}
+use Rattle.loops.proofs.Orders.{times-next}
 use borrow.Author.Needs.{needs}
-use Rattle.distances.proofs.position.Statement.{statement}
-use Rattle.distances.proofs.position.Tie as tie
+use Rattle.sweeps.proofs.position.Statement.{statement}
+use Rattle.sweeps.proofs.position.Tie as tie
 
 sub-result : tie.Need-sub-result
 sub-result c = search needs

@@ -1,16 +1,15 @@
--- Both ways through a slab, and through every slab.
-use mathlib.Core.Path.{_≡_, refl, sym, ap, _∙_, subst}
+-- Both ways through a slab.
+use mathlib.Core.Path.{_≡_, ap, _∙_}
 use mathlib.Core.Logic.{⊎-elim}
-use mathlib.Core.Bool.{true, false}
+use mathlib.Core.Bool.{Bool, true, false}
 use mathlib.Core.List.{List}
 use Prim.Native.Nat.{ℕ, zero, suc, _+_, _-_, _*_, _≤_, _<_}
 use native.Mathlib.Omega.{arith}
-use native.Mathlib.Nat.{mul-le-mul, mul-le-mul-right, suc-mul}
+use native.Mathlib.Nat.{mul-comm}
 use lib.ListN.{length, getD}
 use Rattle.rules.specs.Grid.{gap}
-use Rattle.loops.proofs.Orders.{split}
-use Rattle.distances.specs.Sweep.{best, Slab, Swept, Spread, Both, Whole, Axis}
-use Rattle.distances.proofs.Sweeping.{times-next}
+use Rattle.loops.proofs.Orders.{split, times-next}
+use Rattle.sweeps.specs.Sweep.{best, Slab, Swept, placeOf, Spread, Both}
 
 -- ---- the best along a line is at most that of each position before, and is one of them
 
@@ -59,7 +58,7 @@ module _ (st m at : ℕ) (d d₁ d₂ : List ℕ) (U : Swept st m at false d d�
       let g : m - 1 - q - (m - 1 - q′) ≡ q′ - q = omega arith in
       omega arith
 
-  pub both-spread : Spread st m at d d₂
+  pub both-spread : Spread false st m at d d₂
   unfolding gap
   both-spread =
       record {
@@ -94,7 +93,7 @@ module _ (st m at : ℕ) (d d₁ d₂ : List ℕ) (U : Swept st m at false d d�
       left : (q j : ℕ) → q < m → j ≤ m - 1 - q → m - 1 - q - j ≡ m - 1 - j - q
       left q j h k = omega arith
 
-  pub both-ways : Both st m at d d₂
+  pub both-ways : Both false st m at d d₂
   both-ways =
       record {
         len = D .len ∙ U .len;
@@ -114,91 +113,7 @@ slab-again d d′ st m at B e lower =
       small = λ k. omega (arith, lower k, B .small k);
     }
 
--- ---- from slab to slab: those before g are done
-
-pub record Advancing (st m : ℕ) (d₀ d : List ℕ) (at : ℕ) : Type 0 where
-  pub group : ℕ
-  pub at-is : at ≡ group * (m * st)
-  pub len : length d ≡ length d₀
-  pub lower : (k : ℕ) → getD d k 0 ≤ getD d₀ k 0
-  pub done : (g : ℕ) → g < group → Spread st m (g * (m * st)) d₀ d
-  pub rest : (k : ℕ) → at ≤ k → getD d k 0 ≡ getD d₀ k 0
-
-spread-moved : (st m at : ℕ) (d d′ e e′ : List ℕ) → ((k : ℕ) → at ≤ k → k < at + m * st → getD e k 0 ≡ getD d k 0)
-    → ((k : ℕ) → at ≤ k → k < at + m * st → getD e′ k 0 ≡ getD d′ k 0) → Spread st m at d d′ → Spread st m at e e′
-spread-moved st m at d d′ e e′ p p′ S =
-    record {
-      near = λ q q′ r h k l. omega (arith, S .near q q′ r h k l, moved q′ r k l, moved′ q r h l);
-      some = λ q r h l.
-          let w = S .some q r h l in
-          let g = w .2 in
-          (w .0, w .1, omega (arith, moved (w .0) r (w .1) l, moved′ q r h l));
-    }
-  where
-    moved : (q r : ℕ) → q < m → r < st → getD e (at + q * st + r) 0 ≡ getD d (at + q * st + r) 0
-    moved q r h l = p (at + q * st + r) (omega arith) (omega (arith, times-next q m st h))
-
-    moved′ : (q r : ℕ) → q < m → r < st → getD e′ (at + q * st + r) 0 ≡ getD d′ (at + q * st + r) 0
-    moved′ q r h l = p′ (at + q * st + r) (omega arith) (omega (arith, times-next q m st h))
-
-module _ (st m : ℕ) (d₀ : List ℕ) (W : Whole d₀ st m) where
-  pub advancing-start : Advancing st m d₀ d₀ 0
-  advancing-start =
-      record { group = 0; at-is = omega arith; len = refl; lower = λ k. omega arith; done = λ g h. let z : ⊥ = omega arith in absurd z; rest = λ k h. refl }
-
-  module _ (d : List ℕ) (at : ℕ) (P : Advancing st m d₀ d at) (h : at < length d) where
-    pub slab-fits : at + m * st ≤ length d₀
-    slab-fits =
-        let g = P .group in
-        let e = P .at-is in
-        let l : g < W .slabs =
-        ⊎-elim
-        (λ u. let w = mul-le-mul-right (m * st) u in let z : ⊥ = omega (arith, W .whole, P .len) in absurd z)
-        (λ u. u)
-        (split (W .slabs) g) in
-        omega (arith, times-next g (W .slabs) (m * st) l, W .whole)
-
-    pub advancing-slab : Slab d st m at
-    advancing-slab =
-        record {
-          st-pos = W .st-pos;
-          m-pos = W .m-pos;
-          fits = omega (arith, slab-fits, P .len);
-          few = omega (arith, W .few, P .len);
-          small = λ k. omega (arith, P .lower k, W .small k);
-        }
-
-    pub advancing-more : (d′ : List ℕ) → Both st m at d d′ → Advancing st m d₀ d′ (at + m * st)
-    advancing-more d′ B =
-        let e = P .at-is in
-        record {
-          group = suc (P .group);
-          at-is = omega (arith, suc-mul (P .group) (m * st));
-          len = B .len ∙ P .len;
-          lower = λ k. omega (arith, B .lower k, P .lower k);
-          done = λ g l. ⊎-elim
-              (λ u.
-              subst (λ (x : ℕ). Spread st m x d₀ d′) (e ∙ ap (λ (x : ℕ). x * (m * st)) (let q : P .group ≡ g = omega arith in q))
-              (spread-moved st m at d d′ d₀ d′ (λ k a b. sym (P .rest k a)) (λ k a b. refl) (B .spread)))
-              (λ u.
-              let n = times-next g (P .group) (m * st) u in
-              spread-moved st m (g * (m * st)) d₀ d d₀ d′ (λ k a b. refl)
-              (λ k a b. B .outside k (λ z. let c : ⊥ = omega arith in absurd c)) (P .done g u))
-              (split (P .group) g);
-          rest = λ k l. B .outside k (λ z. l) ∙ P .rest k (omega arith);
-        }
-
-  pub slab-pos : 1 ≤ m * st
-  slab-pos = let p = mul-le-mul (W .m-pos) (W .st-pos) in omega arith
-
-  pub advancing-done : (d : List ℕ) (at : ℕ) → length d ≤ at → Advancing st m d₀ d at → Axis st m d₀ d
-  advancing-done d at h P =
-      record {
-        len = P .len;
-        lower = P .lower;
-        spread = λ g f. P .done g
-            (⊎-elim
-            (λ u. let w = mul-le-mul-right (m * st) u in let b = slab-pos in let z : ⊥ = omega (arith, P .at-is, P .len) in absurd z)
-            (λ u. u)
-            (split (P .group) g));
-      }
+-- every voxel of a line is one of the slab
+pub place-in : (along : Bool) (st m at r q : ℕ) → q < m → r < st → (at ≤ placeOf along st m at r q) × (placeOf along st m at r q < at + m * st)
+place-in true st m at r q h l = (omega arith, omega (arith, times-next r st m l, mul-comm st m))
+place-in false st m at r q h l = (omega arith, omega (arith, times-next q m st h))

@@ -6,17 +6,11 @@ use mathlib.Core.Bool.{Bool, true, false}
 use mathlib.Core.List.{List}
 use Prim.Native.Nat.{ℕ, zero, suc, _+_, _-_, _*_, _≤_, _<_, min}
 use native.Mathlib.Omega.{arith}
-use native.Mathlib.Nat.{mul-le-mul-right, suc-mul}
 use lib.ListN.{length, getD, set}
-use lib.Seq.{getD-set-same}
 use Rattle.loops.specs.InPlace.{Each}
-use Rattle.loops.proofs.Orders.{split}
+use Rattle.loops.proofs.Orders.{split, times-next}
 use Rattle.loops.proofs.InPlace.{each-none, each-more}
-use Rattle.distances.specs.Sweep.{turnOf, positionOf, best, Lowered, Apart, Slab, Positioned, Swept}
-
--- of two multiples
-pub times-next : (a b w : ℕ) → a < b → a * w + w ≤ b * w
-times-next a b w h = let m = mul-le-mul-right w (let l : suc a ≤ b = omega arith in l) in let e = suc-mul a w in omega arith
+use Rattle.sweeps.specs.Sweep.{turnOf, positionOf, best, Lowered, Apart, Slab, Positioned, Swept}
 
 turn-lt : (down : Bool) (m t : ℕ) → t < m → turnOf down m t < m
 turn-lt false m t h = h
@@ -87,9 +81,6 @@ module _ (st m at : ℕ) (down : Bool) where
         first zero h r = refl
         first (suc j) h r = let z : ⊥ = omega arith in absurd z
 
-    pub first-in : positionOf at st m down 0 + st ≤ length d₀
-    first-in = omega (arith, position-in 0 (B .m-pos) .1, B .fits)
-
     pub positioned : (t : ℕ) → t < m → Positioned at st m t
     positioned t h = record { turn = h; fits = omega (arith, B .fits, B .few) }
 
@@ -149,40 +140,6 @@ module _ (st m at : ℕ) (down : Bool) where
     sweeping-done d t h S =
         let hi = S .high in
         record { len = S .len; lower = S .lower; inside = λ j r l u. S .done j r (omega arith) u; outside = S .outside }
-
--- ---- along a row: one voxel at a turn, stored; `last` is the distance of the turn before
-
-set-lowered : (d : List ℕ) (i from v : ℕ) → i < length d → v ≡ min (getD d i 0) (getD d from 0 + 1) → Lowered i from 1 d (set d i v)
-set-lowered d i from v h e =
-    each-more 0 (λ k v. min v (getD d (from + (k - i)) 0 + 1)) i i d d v (omega arith) h (each-none 0 _ i i d (omega arith))
-    (e ∙ ap (λ (x : ℕ). min (getD d i 0) (getD d x 0 + 1)) (let q : from ≡ from + (i - i) = omega arith in q))
-
-pub record Rowing (m at : ℕ) (down : Bool) (d₀ d : List ℕ) (t last : ℕ) : Type 0 where
-  pub last-is : last ≡ getD d (positionOf at 1 m down (t - 1)) 0
-  pub sweeping : Sweeping 1 m at down d₀ d t
-
-module _ (m at : ℕ) (down : Bool) (d₀ : List ℕ) (B : Slab d₀ 1 m at) where
-  pub rowing-start : (i : ℕ) → i ≡ positionOf at 1 m down 0 → Rowing m at down d₀ d₀ 1 (getD d₀ i 0)
-  rowing-start i e = record { last-is = ap (λ (x : ℕ). getD d₀ x 0) e; sweeping = sweeping-start 1 m at down d₀ B }
-
-  module _ (d : List ℕ) (t last : ℕ) (R : Rowing m at down d₀ d t last) (h : t < m) (i : ℕ) (e : i ≡ positionOf at 1 m down t) where
-    pub rowing-in : i < length d
-    rowing-in = omega (arith, turn-in 1 m at down d₀ B d t (R .sweeping) h)
-
-    pub rowing-small : last < 255
-    rowing-small =
-        let q = positionOf at 1 m down (t - 1) in
-        omega (arith, R .last-is, R .sweeping .lower q, B .small q)
-
-    pub rowing-more : (v : ℕ) → v ≡ min (getD d i 0) (last + 1) → Rowing m at down d₀ (set d i v) (t + 1) v
-    rowing-more v q =
-        let p : ℕ → ℕ = positionOf at 1 m down in
-        record {
-          last-is = sym (ap (λ (x : ℕ). getD (set d i v) x 0) (ap p (let z : t + 1 - 1 ≡ t = omega arith in z) ∙ sym e) ∙ getD-set-same d i v 0 rowing-in);
-          sweeping = sweeping-more 1 m at down d₀ B d t (R .sweeping) h (set d i v)
-              (subst (λ (x : ℕ). Lowered x (p (t - 1)) 1 d (set d i v)) e
-              (set-lowered d i (p (t - 1)) v rowing-in (q ∙ ap (λ (x : ℕ). min (getD d i 0) (x + 1)) (R .last-is))));
-        }
 
 -- ---- run by run: `from` is where the run of the turn before starts
 

@@ -1,4 +1,4 @@
--- Sweeps along an axis. Neighbours on it are st apart, and a line has m positions; the m st voxels from `at` on are the st lines of one slab.
+-- Sweeps along an axis. A line has m positions, and the m st voxels from `at` on are the st lines of one slab. Neighbours on a line are st apart.
 -- A sweep visits the positions in turn, upwards or downwards, and each distance becomes at most 1 more than the one before it.
 use mathlib.Core.Path.{_≡_}
 use mathlib.Core.Logic.{_⊎_}
@@ -55,31 +55,21 @@ pub record Swept (st m at : ℕ) (down : Bool) (d d′ : List ℕ) : Type 0 wher
       → getD d′ (positionOf at st m down t + r) 0 ≡ best d (λ j. positionOf at st m down j + r) t
   pub outside : (k : ℕ) → (at ≤ k → at + m * st ≤ k) → getD d′ k 0 ≡ getD d k 0
 
+-- the voxel at position q of line r: a slab's lines are its rows, one after the other, or they are across them, side by side
+abbrev pub placeOf : Bool → ℕ → ℕ → ℕ → ℕ → ℕ → ℕ
+placeOf true st m at r q = at + r * m + q
+placeOf false st m at r q = at + q * st + r
+
 -- on each line of a slab, each voxel gets the least of the distances there, each with the steps to it added
-pub record Spread (st m at : ℕ) (d d′ : List ℕ) : Type 0 where
-  pub near : (q q′ r : ℕ) → q < m → q′ < m → r < st → getD d′ (at + q * st + r) 0 ≤ getD d (at + q′ * st + r) 0 + gap q q′
+pub record Spread (along : Bool) (st m at : ℕ) (d d′ : List ℕ) : Type 0 where
+  pub near : (q q′ r : ℕ) → q < m → q′ < m → r < st
+      → getD d′ (placeOf along st m at r q) 0 ≤ getD d (placeOf along st m at r q′) 0 + gap q q′
   pub some : (q r : ℕ) → q < m → r < st
-      → (q′ : ℕ) × (q′ < m) × (getD d (at + q′ * st + r) 0 + gap q q′ ≤ getD d′ (at + q * st + r) 0)
+      → (q′ : ℕ) × (q′ < m) × (getD d (placeOf along st m at r q′) 0 + gap q q′ ≤ getD d′ (placeOf along st m at r q) 0)
 
 -- both ways through a slab
-pub record Both (st m at : ℕ) (d d′ : List ℕ) : Type 0 where
+pub record Both (along : Bool) (st m at : ℕ) (d d′ : List ℕ) : Type 0 where
   pub len : length d′ ≡ length d
   pub lower : (k : ℕ) → getD d′ k 0 ≤ getD d k 0
-  pub spread : Spread st m at d d′
+  pub spread : Spread along st m at d d′
   pub outside : (k : ℕ) → (at ≤ k → at + m * st ≤ k) → getD d′ k 0 ≡ getD d k 0
-
--- whole slabs, and distances to which 1 can be added
-pub record Whole (d : List ℕ) (st m : ℕ) : Type 0 where
-  pub slabs : ℕ
-  pub some : 1 ≤ slabs
-  pub whole : length d ≡ slabs * (m * st)
-  pub st-pos : 1 ≤ st
-  pub m-pos : 1 ≤ m
-  pub few : length d ≤ 262144
-  pub small : (k : ℕ) → getD d k 0 < 255
-
--- both ways through every slab
-pub record Axis (st m : ℕ) (d d′ : List ℕ) : Type 0 where
-  pub len : length d′ ≡ length d
-  pub lower : (k : ℕ) → getD d′ k 0 ≤ getD d k 0
-  pub spread : (g : ℕ) → g * (m * st) + m * st ≤ length d → Spread st m (g * (m * st)) d d′
