@@ -1,4 +1,4 @@
--- carve: the room for its index, and what it answers.
+-- carve: the room for its queue, and what it answers.
 use mathlib.Core.Path.{_≡_, sym, ap, _∙_}
 use mathlib.Core.List.{List}
 use Prim.Native.Nat.{ℕ, _≤_}
@@ -19,14 +19,15 @@ use Rattle.examining.specs.declared.Tally.{Tally}
 use Rattle.examining.specs.Examining.{Lending, Tallied}
 use Rattle.examining.proofs.Working.{fit-workable}
 
--- a fit grid has a voxel, and no more than the index has room for
+-- a fit grid has a voxel, and no more than the queue has room for
 pub lending :
-    (s : Sides) (dist : List ℤ) (status offsets tree : List ℕ)
+    (s : Sides) (dist : List ℤ) (status offsets tree front : List ℕ)
     → FitVoxels s dist status
     → length offsets ≡ 4096
     → length tree ≡ 1024
-    → Lending s dist status offsets tree
-lending s dist status offsets tree f o t =
+    → length front ≡ 113
+    → Lending s dist status offsets tree front
+lending s dist status offsets tree front f o t p =
     let l = f .lent in
     let e = fit s (l .sides) in
     let n = l .statuses in
@@ -36,9 +37,13 @@ lending s dist status offsets tree f o t =
       work = fit-workable s dist status f;
       room =
           record {
-            lent = record { same = l .distances ∙ sym n; some = omega arith; few = omega arith };
-            stretched = omega arith;
-            grouped = omega arith;
+            index =
+                record {
+                  lent = record { same = l .distances ∙ sym n; some = omega arith; few = omega arith };
+                  stretched = omega arith;
+                  grouped = omega arith;
+                };
+            list = p;
           };
     }
 

@@ -12,14 +12,24 @@ use rules::Carved;
 use rules::Record;
 use rules::Sides;
 
-// Examines pending voxels up to limit times. Their index has room for the largest grid: 12 KB, and nothing on the caller's side.
+// Examines pending voxels up to limit times. Their queue has room for the largest grid: 13 KB, and nothing on the caller's side.
 pub fn carve_all(s: Sides, dist: &[i32], marks: &[u8], status: &mut [u8], limit: u32) -> Tally
     requires { ⌜ FitVoxels s (now dist) (now status) ⌝ }
     ensures { λ r. ⌜ Tallied s (marked (now (marks .entry))) (now (dist .entry)) limit (now (status .entry)) (now (status .exit)) r ⌝ }
 {
     let mut offsets = [0u8; 4096];
     let mut tree = [0u64; 1024];
-    examining::carve(s, dist, marks, status, &mut offsets, &mut tree, limit)
+    let mut front = [0u64; 113];
+    examining::carve(
+        s,
+        dist,
+        marks,
+        status,
+        &mut offsets,
+        &mut tree,
+        &mut front,
+        limit,
+    )
 }
 
 fn carve_fit(given: Record, dist: &[i32], marks: &[u8], status: &mut [u8], limit: u32) -> Carved

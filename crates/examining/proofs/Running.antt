@@ -14,9 +14,10 @@ use Rattle.rules.specs.Status.{isPending, anyPending, testAt, firstOf, goes, ex
 use Rattle.rules.proofs.Latest.{latest-over, carving-face}
 use Rattle.rules.specs.Marks.{Marked}
 use Rattle.rules.specs.Machine.{mayGo, sooner}
-use Rattle.pending.specs.declared.Choice.{Choice}
-use Rattle.pending.specs.declared.Choice.the-variants.{Nothing, At}
-use Rattle.pending.specs.Index.{chosen, Best, Index}
+use Rattle.queue.specs.declared.Choice.{Choice}
+use Rattle.queue.specs.declared.Choice.the-variants.{Nothing, At}
+use Rattle.queue.specs.Queue.{chosen, Best, Queue}
+use Rattle.examining.specs.declared.Step.{Step}
 use Rattle.examining.specs.declared.Count.{Count}
 use Rattle.rules.specs.Neighbours.{Inner}
 use Rattle.last_removal.specs.LastRemoval.{faceAfter}
@@ -79,25 +80,52 @@ no-more examined removed face status =
 
 -- ---- the loop: what remains to be carved gives the same end
 
-pub record Running (s : Sides) (mk : Marked) (dist : List ℤ) (limit : ℕ) (before offsets0 tree0 status offsets tree : List ℕ)
-    (examined removed last : ℕ) : Type 0 where
+pub record Running (s : Sides) (mk : Marked) (dist : List ℤ) (limit : ℕ) (before offsets0 tree0 front0 status offsets tree front : List ℕ)
+    (examined removed last head : ℕ) : Type 0 where
   pub rule : onward examined removed (faceAfter s status removed last) (carving s (mayGo mk dist) (sooner mk dist) (limit - examined) status)
       ≡ carving s (mayGo mk dist) (sooner mk dist) limit before
   pub work : Workable s status
-  pub index : Index mk dist status offsets tree
+  pub queue : Queue mk dist status offsets tree front head
   pub up-to : examined ≤ limit
   pub fewer : removed ≤ examined
   pub inner : (removed ≡ 0 → ⊥) → Inner s last
   pub statuses : length status ≡ length before
   pub stretched : length offsets ≡ length offsets0
-  pub keys : length tree ≡ length tree0
+  pub noded : length tree ≡ length tree0
+  pub placed : length front ≡ length front0
 
-module _ (s : Sides) (mk : Marked) (dist : List ℤ) (limit : ℕ) (before offsets0 tree0 : List ℕ) where
+-- the choice, as a match has it
+pub best-as : {mk : Marked} {dist : List ℤ} {status front : List ℕ} {head : ℕ} {c d : Choice} → c ≡ d → Best mk dist status front head c
+    → Best mk dist status front head d
+best-as {mk} {dist} {status} {front} {head} e b = subst (Best mk dist status front head) e b
+
+-- the front is filled
+pub running-filled :
+    {s : Sides} {mk : Marked} {dist : List ℤ} {limit : ℕ} {before offsets0 tree0 front0 status offsets tree front offsets1 tree1 front1 : List ℕ}
+    {examined removed last head head1 : ℕ} → Running s mk dist limit before offsets0 tree0 front0 status offsets tree front examined removed last head
+    → Queue mk dist status offsets1 tree1 front1 head1 → length offsets1 ≡ length offsets → length tree1 ≡ length tree → length front1 ≡ length front
+    → Running s mk dist limit before offsets0 tree0 front0 status offsets1 tree1 front1 examined removed last head1
+running-filled k Q lo lt lf =
+    record {
+      rule = k .rule;
+      work = k .work;
+      queue = Q;
+      up-to = k .up-to;
+      fewer = k .fewer;
+      inner = k .inner;
+      statuses = k .statuses;
+      stretched = lo ∙ k .stretched;
+      noded = lt ∙ k .noded;
+      placed = lf ∙ k .placed;
+    }
+
+module _ (s : Sides) (mk : Marked) (dist : List ℤ) (limit : ℕ) (before offsets0 tree0 front0 : List ℕ) where
   abbrev rest : ℕ → List ℕ → Progress
   rest n status = carving s (mayGo mk dist) (sooner mk dist) n status
 
-  pub running-start : Index mk dist before offsets0 tree0 → Workable s before → Running s mk dist limit before offsets0 tree0 before offsets0 tree0 0 0 0
-  running-start i w =
+  pub running-start : (head : ℕ) → Queue mk dist before offsets0 tree0 front0 head → Workable s before
+      → Running s mk dist limit before offsets0 tree0 front0 before offsets0 tree0 front0 0 0 0 head
+  running-start head i w =
       let z : limit - 0 ≡ limit = omega arith in
       let p = rest limit before in
       let e : 0 + p .examined ≡ p .examined = omega arith in
@@ -107,24 +135,25 @@ module _ (s : Sides) (mk : Marked) (dist : List ℤ) (limit : ℕ) (before offse
             ap (λ (n : ℕ). onward 0 0 6 (rest n before)) z
             ∙ (λ n. progress (e n) (r n) (carving-face s (mayGo mk dist) (sooner mk dist) limit before n) (p .status));
         work = w;
-        index = i;
+        queue = i;
         up-to = omega arith;
         fewer = omega arith;
         inner = λ n. absurd (n refl);
         statuses = refl;
         stretched = refl;
-        keys = refl;
+        noded = refl;
+        placed = refl;
       }
 
-  module _ (status offsets tree : List ℕ) (examined removed last : ℕ)
-      (k : Running s mk dist limit before offsets0 tree0 status offsets tree examined removed last) where
-    first-is : (c : Choice) → Best mk dist status c → firstOf s (sooner mk dist) (isPending status) ≡ chosen c
+  module _ (status offsets tree front : List ℕ) (examined removed last head : ℕ)
+      (k : Running s mk dist limit before offsets0 tree0 front0 status offsets tree front examined removed last head) where
+    first-is : (c : Choice) → Best mk dist status front head c → firstOf s (sooner mk dist) (isPending status) ≡ chosen c
     first-is c b = sym (b .rule s (sym (k .work .body .statuses .lent)))
 
     abbrev reached : Count
-    reached = record { examined = examined; removed = removed; last = last }
+    reached = record { examined = examined; removed = removed; last = last; head = head }
 
-    ended : rest (limit - examined) status ≡ progress 0 0 6 status → Run s mk dist limit before status offsets tree reached
+    ended : rest (limit - examined) status ≡ progress 0 0 6 status → Run s mk dist limit before status offsets tree front reached
     ended f =
         let face = faceAfter s status removed last in
         record {
@@ -132,29 +161,30 @@ module _ (s : Sides) (mk : Marked) (dist : List ℤ) (limit : ℕ) (before offse
           up-to = k .up-to;
           fewer = k .fewer;
           last = record { statuses = k .work .body .statuses; voxel = k .inner };
-          index = k .index;
+          queue = k .queue;
         }
 
-    pub running-none : Best mk dist status Nothing → Run s mk dist limit before status offsets tree reached
+    pub running-none : Best mk dist status front head Nothing → Run s mk dist limit before status offsets tree front reached
     running-none b = ended (carving-none s (mayGo mk dist) (sooner mk dist) status (limit - examined) (first-is Nothing b))
 
-    pub running-done : limit ≤ examined → Run s mk dist limit before status offsets tree reached
+    pub running-done : limit ≤ examined → Run s mk dist limit before status offsets tree front reached
     running-done h = ended (carving-zero s (mayGo mk dist) (sooner mk dist) status (limit - examined) (omega arith))
 
-    module _ (i : ℕ) (b : Best mk dist status (At i)) where
+    module _ (i : ℕ) (b : Best mk dist status front head (At i)) where
       pub running-below : i < size s
       running-below = let h = b .inside i refl in omega (arith, k .work .body .statuses .lent)
 
       pub running-step :
-          (after offsets1 tree1 : List ℕ) (one now : ℕ)
+          (after offsets1 tree1 front1 : List ℕ) (r : Step) (now : ℕ)
           → examined < limit
-          → Examined s mk dist status after offsets1 tree1 i one
-          → now ≡ latest last one i
+          → Examined s mk dist status after offsets1 tree1 front1 i r
+          → now ≡ latest last (r .removed) i
           → length after ≡ length status
           → length offsets1 ≡ length offsets
           → length tree1 ≡ length tree
-          → Running s mk dist limit before offsets0 tree0 after offsets1 tree1 (examined + 1) (removed + one) now
-      running-step after offsets1 tree1 one now h x y ls lo lt =
+          → length front1 ≡ length front
+          → Running s mk dist limit before offsets0 tree0 front0 after offsets1 tree1 front1 (examined + 1) (removed + r .removed) now (r .head)
+      running-step after offsets1 tree1 front1 r now h x y ls lo lt lf =
           let n : limit - examined ≡ suc (limit - (examined + 1)) = omega arith in
           let m : ℕ = limit - (examined + 1) in
           let free = mayGo mk dist in
@@ -163,7 +193,7 @@ module _ (s : Sides) (mk : Marked) (dist : List ℤ) (limit : ℕ) (before offse
           let waits = b .pending i refl in
           record {
             rule =
-                ap (λ (v : ℕ). onward (examined + 1) (removed + one) (faceAfter s after (removed + one) v) (rest m after)) y
+                ap (λ (v : ℕ). onward (examined + 1) (removed + r .removed) (faceAfter s after (removed + r .removed) v) (rest m after)) y
                 ∙ ap₂ (λ (c : ℕ) (l : List ℕ). onward (examined + 1) (removed + c) (faceAfter s l (removed + c) (latest last c i)) (rest m l))
                 (x .count) (x .status)
                 ∙ ap (λ (f : ℕ). onward (examined + 1) (removed + cond u 1 0) f (rest m (examine s free status i)))
@@ -173,13 +203,14 @@ module _ (s : Sides) (mk : Marked) (dist : List ℤ) (limit : ℕ) (before offse
                 ∙ ap (λ (j : ℕ). onward examined removed face (rest j status)) (sym n)
                 ∙ k .rule;
             work = subst (Workable s) (sym (x .status)) (workable-examine s status (k .work) free i running-below waits);
-            index = x .index;
+            queue = x .queue;
             up-to = omega arith;
             fewer = omega (arith, one-at-most u, x .count, k .fewer);
-            inner = inner one y;
+            inner = inner (r .removed) y;
             statuses = ls ∙ k .statuses;
             stretched = lo ∙ k .stretched;
-            keys = lt ∙ k .keys;
+            noded = lt ∙ k .noded;
+            placed = lf ∙ k .placed;
           }
         where
           inner : (one : ℕ) → now ≡ latest last one i → (removed + one ≡ 0 → ⊥) → Inner s now
@@ -189,15 +220,15 @@ module _ (s : Sides) (mk : Marked) (dist : List ℤ) (limit : ℕ) (before offse
 -- ---- what is still pending
 
 pub tallied :
-    (s : Sides) (mk : Marked) (dist : List ℤ) (limit : ℕ) (before after offsets tree : List ℕ) (c : Count) (p : Bool) (face : ℕ)
+    (s : Sides) (mk : Marked) (dist : List ℤ) (limit : ℕ) (before after offsets tree front : List ℕ) (c : Count) (p : Bool) (face : ℕ)
     → Workable s before
     → length after ≡ length before
-    → Run s mk dist limit before after offsets tree c
+    → Run s mk dist limit before after offsets tree front c
     → p ≡ any (isPending after) (range 0 (length after))
     → face ≡ faceAfter s after (c .removed) (c .last)
     → Tallied s mk dist limit before after (record { examined = c .examined; removed = c .removed; pending = p; face = face })
 unfolding anyPending voxels
-tallied s mk dist limit before after offsets tree c p face w l r e f =
+tallied s mk dist limit before after offsets tree front c p face w l r e f =
     record {
       rule = ap (λ (f : ℕ). progress (c .examined) (c .removed) f after) f ∙ r .rule;
       up-to = r .up-to;

@@ -6,8 +6,8 @@ use mathlib.Core.List.{List}
 use Prim.Native.Nat.{ℕ, suc, _+_, _-_, _/_, _%_, _≤_, _<_}
 use native.Mathlib.Omega.{arith}
 use native.Mathlib.Decide.{ℕ-discrete, decLt}
-use borrow.Author.Tests.{ltb-true, ltb-false, eqb-false, ne-eqb}
-use lib.Dec.{eqb, ltb, lit<}
+use borrow.Author.Tests.{eqb-false, ne-eqb}
+use lib.Dec.{eqb, lit<}
 use lib.IntN.{ℤ}
 use lib.ListN.{length, set, List·getD-eq-default}
 use lib.Seq.{getD-set-same, getD-set-other}
@@ -24,22 +24,15 @@ use Rattle.rules.specs.Machine.{mayGo}
 use Rattle.rules.specs.Fit.{Known, FitVoxels}
 use Rattle.rules.proofs.Topology.Surface.{omit}
 use Rattle.rules.proofs.Topology.Around.{place-low}
-use Rattle.rules.proofs.Topology.Steps.{pending-beyond, length-without, kept-without, pending-without, length-stayed, kept-stayed, pending-stayed}
+use Rattle.rules.proofs.Topology.Steps.{length-without, kept-without, pending-without, length-stayed, kept-stayed, pending-stayed}
 use Rattle.rules.specs.Neighbours.{Inner}
 use Rattle.neighbourhood.specs.Neighbourhood.{Few, around}
 use Rattle.neighbourhood.proofs.Interior.{around-middle, around-apart}
 use Rattle.neighbourhood.proofs.Gathering.{neighbourhood-around}
 use Rattle.neighbourhood.proofs.Bodies.{kept-inner, fit-body}
-use Rattle.pending.specs.Index.{Index, Written}
+use Rattle.queue.specs.Queue.{Queue, Written}
 use Rattle.last_removal.specs.LastRemoval.{faceAfter}
 use Rattle.examining.specs.Examining.{Workable, Examined}
-
-pub pending-below : (status : List ℕ) (i : ℕ) → isPending status i ≡ true → i < length status
-pending-below status i e =
-    elim (two (ltb i (length status))) [
-      | inl t ↦ ltb-true i (length status) t
-      | inr t ↦ not-both (isPending status i) e (pending-beyond status i (ltb-false i (length status) t))
-    ]
 
 known-kept : (x : ℕ) → Known x → pendingByte x ≡ true → keptByte x ≡ true
 unfolding keptByte pendingByte
@@ -178,26 +171,29 @@ module _ (s : Sides) (status : List ℕ) (w : Workable s status) where
 
 -- the byte that was written, as the rule has it
 pub written-as :
-    {m : Marked} {dist : List ℤ} {before after offsets tree : List ℕ} {i x y : ℕ} → Written m dist before after offsets tree i x → x ≡ y → after
-    ≡ set before i y
+    {m : Marked} {dist : List ℤ} {before after offsets tree front : List ℕ} {head i x y : ℕ} → Written m dist before after offsets tree front head i x → x ≡ y
+    → after ≡ set before i y
 written-as {before = before} {i = i} w e = w .status ∙ ap (set before i) e
 
-module _ (s : Sides) (m : Marked) (dist : List ℤ) (before after offsets tree : List ℕ) (i : ℕ) (r : Bool) (e : r ≡ goes s (mayGo m dist) before i) where
-  abbrev then : Bool → List ℕ
-  then t = examinedAs t s (mayGo m dist) before i
+module _ (s : Sides) (m : Marked) (dist : List ℤ) (before after offsets tree front : List ℕ) (head i : ℕ) (r : Bool) (e : r ≡ goes s (mayGo m dist) before i)
+  where
+    abbrev then : Bool → List ℕ
+    then t = examinedAs t s (mayGo m dist) before i
 
-  abbrev one : Bool → ℕ
-  one t = cond t 1 0
+    abbrev one : Bool → ℕ
+    one t = cond t 1 0
 
-  same : (t : Bool) → r ≡ t → t ≡ goes s (mayGo m dist) before i
-  same t f = sym f ∙ e
+    same : (t : Bool) → r ≡ t → t ≡ goes s (mayGo m dist) before i
+    same t f = sym f ∙ e
 
-  pub gone-examined :
-      r ≡ true → after ≡ without s (mayGo m dist) before i → Index m dist after offsets tree → Examined s m dist before after offsets tree i 1
-  unfolding examine
-  gone-examined t w x = record { count = ap one (same true t); status = w ∙ ap then (same true t); index = x }
+    pub gone-examined :
+        r ≡ true → after ≡ without s (mayGo m dist) before i → Queue m dist after offsets tree front head
+        → Examined s m dist before after offsets tree front i (record { removed = 1; head = head })
+    unfolding examine
+    gone-examined t w x = record { count = ap one (same true t); status = w ∙ ap then (same true t); queue = x }
 
-  pub rest-examined :
-      r ≡ false → after ≡ set before i (rested (statusOf before i)) → Index m dist after offsets tree → Examined s m dist before after offsets tree i 0
-  unfolding examine
-  rest-examined t w x = record { count = ap one (same false t); status = w ∙ ap then (same false t); index = x }
+    pub rest-examined :
+        r ≡ false → after ≡ set before i (rested (statusOf before i)) → Queue m dist after offsets tree front head
+        → Examined s m dist before after offsets tree front i (record { removed = 0; head = head })
+    unfolding examine
+    rest-examined t w x = record { count = ap one (same false t); status = w ∙ ap then (same false t); queue = x }

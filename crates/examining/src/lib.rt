@@ -1,12 +1,17 @@
-// Examinations over the index of pending voxels: one that passes is removed, and wakes those around it; one that fails rests.
+// Examinations over the queue of pending voxels: one that passes is removed, and wakes those around it; one that fails rests.
 ghost use Rattle.rules.specs.Marks.{marked};
-ghost use Rattle.pending.specs.Index.{Index};
+ghost use Rattle.queue.specs.Queue.{Queue};
 ghost use Rattle.examining.specs.Examining.{Workable, Examinable, Examined, Run, Lending, Tallied};
-use pending::Choice;
+use queue::Choice;
 use rules::Sides;
 
-// Examines pending voxel i: 1 where it was removed, 0 where it stays. One gathering serves the test and the waking, and one place in the
-// code clears, so that the compiler sets that work in place.
+// Whether the voxel was removed, 1 or 0, and where the front begins now.
+pub struct Step {
+    pub removed: u32,
+    pub head: usize,
+}
+
+// Examines voxel i, the first of the front. One gathering serves the test and the waking.
 fn examine(
     s: Sides,
     dist: &[i32],
@@ -14,29 +19,59 @@ fn examine(
     status: &mut [u8],
     offsets: &mut [u8],
     tree: &mut [u64],
+    front: &mut [u64],
+    head: usize,
     i: usize,
-) -> u32
-    requires { ⌜ Examinable s (marked (now marks)) (now dist) (now status) (now offsets) (now tree) i ⌝ }
+) -> Step
+    requires { ⌜ Examinable s (marked (now marks)) (now dist) (now status) (now offsets) (now tree) (now front) head i ⌝ }
     ensures { λ r. ⌜ Examined s (marked (now (marks .entry))) (now (dist .entry)) (now (status .entry)) (now (status .exit)) (now (offsets .exit))
-        (now (tree .exit)) i r ⌝ }
+        (now (tree .exit)) (now (front .exit)) i r ⌝ }
 {
     let block = neighbourhood::gather(s, status, i);
     let passes = local_test::passes(block);
     let gone = passes & waking::may_go(dist, marks, i);
     let x = status[i];
-    pending::clear(dist, marks, status, offsets, tree, i, status::left(gone, x));
+    let rest = queue::leave(
+        dist,
+        marks,
+        status,
+        offsets,
+        tree,
+        front,
+        head,
+        i,
+        status::left(gone, x),
+    );
     if gone {
-        index_waking::wake_around(s, dist, marks, status, offsets, tree, i, block);
-        return 1;
+        let woken = queue_waking::wake_around(
+            s,
+            dist,
+            marks,
+            status,
+            offsets,
+            tree,
+            front,
+            rest,
+            i,
+            block,
+        );
+        return Step {
+            removed: 1,
+            head: woken,
+        };
     }
-    0
+    Step {
+        removed: 0,
+        head: rest,
+    }
 }
 
-// How many voxels were examined, how many of them removed, and the last of these.
+// How many voxels were examined, how many of them removed, the last of these, and where the front begins.
 pub struct Count {
     pub examined: u32,
     pub removed: u32,
     pub last: usize,
+    pub head: usize,
 }
 
 // Examines pending voxels, the farthest first, up to limit times.
@@ -47,33 +82,40 @@ fn run(
     status: &mut [u8],
     offsets: &mut [u8],
     tree: &mut [u64],
+    front: &mut [u64],
+    first: usize,
     limit: u32,
 ) -> Count
-    requires { ⌜ Index (marked (now marks)) (now dist) (now status) (now offsets) (now tree) × Workable s (now status) ⌝ }
+    requires { ⌜ Queue (marked (now marks)) (now dist) (now status) (now offsets) (now tree) (now front) first × Workable s (now status) ⌝ }
     ensures { λ r. ⌜ Run s (marked (now (marks .entry))) (now (dist .entry)) limit (now (status .entry)) (now (status .exit)) (now (offsets .exit))
-        (now (tree .exit)) r ⌝ }
+        (now (tree .exit)) (now (front .exit)) r ⌝ }
 {
     let mut examined: u32 = 0;
     let mut removed: u32 = 0;
     let mut last: usize = 0;
+    let mut head = first;
     while examined < limit {
-        let next = pending::best(dist, marks, status, offsets, tree);
+        head = refilling::filled(dist, marks, status, offsets, tree, front, head);
+        let next = queue::first(dist, marks, status, offsets, tree, front, head);
         let Choice::At(i) = next else {
             return Count {
                 examined: examined,
                 removed: removed,
                 last: last,
+                head: head,
             };
         };
-        let gone = examine(s, dist, marks, status, offsets, tree, i);
-        last = last_removal::later(last, gone, i);
-        removed += gone;
+        let step = examine(s, dist, marks, status, offsets, tree, front, head, i);
+        last = last_removal::later(last, step.removed, i);
+        removed += step.removed;
+        head = step.head;
         examined += 1;
     }
     Count {
         examined: examined,
         removed: removed,
         last: last,
+        head: head,
     }
 }
 
@@ -85,7 +127,7 @@ pub struct Tally {
     pub face: u32,
 }
 
-// Examines up to limit times, over an index that is made for it in the lent offsets and tree.
+// Examines up to limit times, over a queue that is made for it in the lent offsets, tree and front.
 pub fn carve(
     s: Sides,
     dist: &[i32],
@@ -93,14 +135,15 @@ pub fn carve(
     status: &mut [u8],
     offsets: &mut [u8],
     tree: &mut [u64],
+    front: &mut [u64],
     limit: u32,
 ) -> Tally
-    requires { ⌜ Lending s (now dist) (now status) (now offsets) (now tree) ⌝ }
+    requires { ⌜ Lending s (now dist) (now status) (now offsets) (now tree) (now front) ⌝ }
     ensures { λ r. ⌜ Tallied s (marked (now (marks .entry))) (now (dist .entry)) limit (now (status .entry)) (now (status .exit)) r ⌝ }
 {
-    pending::build(dist, marks, status, offsets, tree);
-    let c = run(s, dist, marks, status, offsets, tree, limit);
-    let left = pending::any_pending(dist, marks, status, offsets, tree);
+    let first = queue::build(dist, marks, status, offsets, tree, front);
+    let c = run(s, dist, marks, status, offsets, tree, front, first, limit);
+    let left = queue::any_pending(dist, marks, status, offsets, tree, front, c.head);
     Tally {
         examined: c.examined,
         removed: c.removed,

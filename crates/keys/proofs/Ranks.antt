@@ -13,6 +13,7 @@ use lib.Signed.{ltZ}
 use mir.Syntax.{w32, w64}
 use mir.Val.{SFits, toZ, ofZ}
 use mir.Facts.{toZ-ofZ}
+use Rattle.prelude.proofs.Bools.{not-both}
 use Rattle.prelude.proofs.Signs.{widened}
 use Rattle.numbers.specs.Signed.{greater}
 use Rattle.rules.specs.Grid.{distanceAt}
@@ -20,7 +21,7 @@ use Rattle.rules.specs.Status.{isPending}
 use Rattle.rules.specs.Marks.{Marked, hurriedMark, marked, unmarked}
 use Rattle.rules.specs.Machine.{farther, sooner}
 use Rattle.rules.proofs.Topology.Steps.{pending-beyond}
-use Rattle.keys.specs.Key.{most, rankOf, hurryOf, rankBy, rankAt, keyOf, keyAt, voxelKey, voxelOf}
+use Rattle.keys.specs.Key.{most, Lent, rankOf, hurryOf, rankBy, rankAt, keyOf, keyAt, voxelKey}
 
 -- ---- a distance raised by 2^31 + 1
 
@@ -137,6 +138,11 @@ module _ (m : Marked) (dist : List ℤ) (i j : ℕ) where
 
 -- ---- the key of a voxel
 
+-- a pending voxel is one of the voxels
+pub pending-inside : (status : List ℕ) (j : ℕ) → isPending status j ≡ true → j < length status
+pending-inside status j e =
+    elim (decLt j (length status)) [ yes h ↦ h | no h ↦ not-both (isPending status j) e (pending-beyond status j (omega arith)) ]
+
 module _ (hurried : ℕ → Bool) (dist : List ℤ) (status : List ℕ) (j : ℕ) where
   -- by its pending bit
   pub key-by : (b : Bool) → isPending status j ≡ b → keyAt hurried dist status j ≡ cond b (voxelKey hurried dist j) 0
@@ -155,12 +161,22 @@ module _ (hurried : ℕ → Bool) (dist : List ℤ) (status : List ℕ) (j : ℕ
       go true e = refl
       go false e = let z = key-by false e in let b : ⊥ = omega arith in absurd b
 
-  -- there is none past the last voxel
-  pub key-past : length status ≤ j → keyAt hurried dist status j ≡ 0
-  key-past h = key-by false (pending-beyond status j h)
+  -- and a pending one has a key
+  pub key-some : j < most → isPending status j ≡ true → 0 < keyAt hurried dist status j
+  key-some h e = let z = key-by true e in omega (arith, by-some hurried (distanceAt dist j) j)
 
-  -- the voxel of a key
-  pub key-voxel : j < most → 0 < keyAt hurried dist status j → voxelOf (keyAt hurried dist status j) ≡ j
-  key-voxel h l =
-      let e = key-by true (key-pending l) in
-      omega (arith, by-some hurried (distanceAt dist j) j)
+-- some of the voxels have their key, and the others none
+pub record Keyed (hurried : ℕ → Bool) (dist : List ℤ) (key : ℕ → ℕ) : Type 0 where
+  pub few : length dist ≤ most
+  pub inside : (j : ℕ) → 0 < key j → j < length dist
+  pub own : (j : ℕ) → 0 < key j → key j ≡ voxelKey hurried dist j
+
+-- those that are pending
+pub keyed : (hurried : ℕ → Bool) (dist : List ℤ) (status : List ℕ) → Lent dist status → Keyed hurried dist (keyAt hurried dist status)
+keyed hurried dist status lent =
+    let same = lent .same in
+    let few = lent .few in
+    record { few = omega arith; inside = inside; own = λ j h. key-by hurried dist status j true (key-pending hurried dist status j h) }
+  where
+    inside : (j : ℕ) → 0 < keyAt hurried dist status j → j < length dist
+    inside j h = omega (arith, lent .same, pending-inside status j (key-pending hurried dist status j h))

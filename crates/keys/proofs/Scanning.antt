@@ -2,7 +2,7 @@
 use mathlib.Core.Path.{_≡_, refl, sym, ap, _∙_, subst}
 use mathlib.Core.Bool.{Bool, true, false, cond}
 use mathlib.Core.List.{List}
-use Prim.Native.Nat.{ℕ, _+_, _-_, _*_, _/_, _%_, _^_, _≤_, _<_, max}
+use Prim.Native.Nat.{ℕ, _+_, _-_, _*_, _%_, _^_, _≤_, _<_, max}
 use native.Mathlib.Nat.{zero-div}
 use native.Mathlib.Omega.{arith}
 use native.Mathlib.Decide.{ℕ-discrete, decLt}
@@ -18,14 +18,28 @@ use Rattle.bits.specs.Bits.{has}
 use Rattle.rules.specs.Grid.{distanceAt}
 use Rattle.rules.specs.Status.{isPending}
 use Rattle.bits.specs.Lowest.{Lowest}
-use Rattle.rules.proofs.Topology.Steps.{pending-beyond}
 use Rattle.keys.specs.Key.{most, Lent, rankBy, keyOf, keyAt, greatest, width, stretchKey, bitKey, Readable}
 use Rattle.keys.proofs.Greatest.{greatest-none, greatest-lift, greatest-moved}
-use Rattle.keys.proofs.Ranks.{by-some, key-by}
+use Rattle.keys.proofs.Ranks.{by-some, pending-inside, key-by}
 
-has-none : (t : ℕ) → has 0 t ≡ false
+pub has-none : (t : ℕ) → has 0 t ≡ false
 unfolding has
 has-none t = ap (λ (x : ℕ). eqb (x % 2) 1) (zero-div (2 ^ t))
+
+-- a bit that is left was there before, and is not the one that was taken
+pub left-over : (m t c : ℕ) → Lowest m t → has (bitAnd m (m - 1)) c ≡ true → (has m c ≡ true) × (t < c)
+left-over m t c L e = go (decLt t c)
+  where
+    old : (c ≡ t → ⊥) → has m c ≡ true
+    old n = sym (L .others c n) ∙ e
+
+    go : Dec (t < c) → (has m c ≡ true) × (t < c)
+    go (yes l) = (old (λ q. omega arith), l)
+    go (no l) =
+        elim (ℕ-discrete c t) [
+          | yes q ↦ not-both (has (bitAnd m (m - 1)) c) e (ap (has (bitAnd m (m - 1))) q ∙ L .gone)
+          | no q ↦ (let z = L .least c (old q) in let b : ⊥ = omega arith in absurd b)
+        ]
 
 -- of two keys the greater is that of the greater rank, and of equal ranks that of the index met first
 leading-key :
@@ -47,7 +61,7 @@ leading-key g b r t at h i u p l e q = go (decLt g r)
         m ∙ ap (λ (x : ℕ). keyOf x (at + b)) (sym k) ∙ ap (λ (x : ℕ). keyOf h (at + x)) (sym j)
 
 -- a key is taken from those that are left
-taken-over : (k r n x y t : ℕ) → max k x ≡ t → x ≡ max y r → max k r ≡ n → max n y ≡ t
+pub taken-over : (k r n x y t : ℕ) → max k x ≡ t → x ≡ max y r → max k r ≡ n → max n y ≡ t
 taken-over k r n x y t e f g = omega arith
 
 greater-small : (g r h : ℕ) → g ≤ 8589934592 → r ≤ 8589934592 → h ≡ max g r → h ≤ 8589934592
@@ -77,22 +91,7 @@ module _ (hurried : ℕ → Bool) (dist : List ℤ) (at set : ℕ) where
   bit-key : (m t : ℕ) (b : Bool) → has m t ≡ b → bitKey hurried dist at m t ≡ cond b (keyOf (rankBy hurried (distanceAt dist t) (at + t)) (at + t)) 0
   bit-key m t b e = ap (λ (b : Bool). cond b (keyOf (rankBy hurried (distanceAt dist t) (at + t)) (at + t)) 0) e
 
-  -- a bit that is left was there before, and is not the one that was taken
   module _ (g b m t r h i : ℕ) (S : Scanning g b m) (L : Lowest m t) where
-    was : (c : ℕ) → has (bitAnd m (m - 1)) c ≡ true → (has m c ≡ true) × (t < c)
-    was c e = go (decLt t c)
-      where
-        old : (c ≡ t → ⊥) → has m c ≡ true
-        old n = sym (L .others c n) ∙ e
-
-        go : Dec (t < c) → (has m c ≡ true) × (t < c)
-        go (yes l) = (old (λ q. omega arith), l)
-        go (no l) =
-            elim (ℕ-discrete c t) [
-              | yes q ↦ not-both (has (bitAnd m (m - 1)) c) e (ap (has (bitAnd m (m - 1))) q ∙ L .gone)
-              | no q ↦ (let z = L .least c (old q) in let b : ⊥ = omega arith in absurd b)
-            ]
-
     pub scanning-step :
         r ≡ rankBy hurried (distanceAt dist t) (at + t) → r ≤ 8589934592 → i ≡ cond (ltb g r) t b → h ≡ max g r → Scanning h i (bitAnd m (m - 1))
     scanning-step e f q k =
@@ -107,8 +106,8 @@ module _ (hurried : ℕ → Bool) (dist : List ℤ) (at set : ℕ) where
           few = few;
           small = greater-small g r h (S .small) f k;
           inside = chosen (decLt g r);
-          left = λ c v u. S .left c v (was c u .0);
-          above = λ c u l. later c (was c u .1) (decLt g r);
+          left = λ c v u. S .left c v (left-over m t c L u .0);
+          above = λ c u l. later c (left-over m t c L u .1) (decLt g r);
           total = taken-over (keyOf g (at + b)) (keyOf r (at + t)) _ _ _ _ (S .total) (x ∙ ap (max _) own) one;
         }
       where
@@ -156,10 +155,7 @@ module _ (hurried : ℕ → Bool) (dist : List ℤ) (status : List ℕ) (at set 
           few = omega arith;
           some = omega arith;
           each = λ t l e. (
-              elim (decLt (at + t) (length status)) [
-                | yes u ↦ omega arith
-                | no u ↦ not-both (isPending status (at + t)) (sym (shown t l) ∙ e) (pending-beyond status (at + t) (omega arith))
-              ]
+              omega (arith, pending-inside status (at + t) (sym (shown t l) ∙ e))
               );
         }
 

@@ -89,11 +89,11 @@ pub fn group_key(dist: &[i32], marks: &[u8], offsets: &[u8], q: usize) -> u64
 
 // Makes the offsets of all stretches.
 pub fn fill_offsets(dist: &[i32], marks: &[u8], status: &[u8], offsets: &mut [u8])
-    requires { ⌜ Lent (now dist) (now status) × (stretches (length (now status)) ≤ length (now offsets)) ⌝ }
+    requires { ⌜ Lent (now dist) (now status) × (stretches (length (now dist)) ≤ length (now offsets)) ⌝ }
     ensures { λ _. ⌜ Offsets (keyAt (marked (now (marks .entry)) .hurried) (now (dist .entry)) (now (status .entry)))
-        (stretches (length (now (status .entry)))) (now (offsets .exit)) ⌝ }
+        (stretches (length (now (dist .entry)))) (now (offsets .exit)) ⌝ }
 {
-    let p = count_stretches(status.len());
+    let p = count_stretches(dist.len());
     let mut k: usize = 0;
     while k < p {
         offsets[k] = offset_of(keys::stretch(dist, marks, status, k));

@@ -1,21 +1,24 @@
--- What a change of one voxel's key does to the index, for any key.
+-- The index for any key: its root is the greatest key, and what a change of one voxel's key, or of one stretch's, does to it.
 use mathlib.Core.Path.{_≡_, refl, sym, ap, _∙_, subst}
+use mathlib.Core.Logic.{_⊎_, inl, inr}
+use mathlib.Core.Bool.{Bool}
 use mathlib.Core.List.{List}
 use Prim.Native.Nat.{ℕ, _+_, _-_, _*_, _/_, _%_, _≤_, _<_, max}
 use native.Mathlib.Omega.{arith}
 use native.Mathlib.Decide.{ℕ-discrete}
+use lib.IntN.{ℤ}
 use lib.ListN.{length, getD, set, length-set}
 use Rattle.keys.specs.Key.{greatest, width, stretches, stretchKey}
-use Rattle.keys.proofs.Greatest.{greatest-same, greatest-raise}
+use Rattle.keys.proofs.Ranks.{Keyed}
+use Rattle.keys.proofs.Greatest.{greatest-same, greatest-le, greatest-of, greatest-raise}
 use Rattle.winners.specs.Tree.{Nodes, Changed}
-use Rattle.offsets.specs.Offsets.{Offset, Offsets, group, groups, groupKey}
-use Rattle.pending.specs.Index.{Indexed}
-use Rattle.offsets.proofs.Offsets.{at-set, offset-on, offset-same}
+use Rattle.winners.proofs.Root.{root-top, root-leaf}
+use Rattle.offsets.specs.Offsets.{offsetOf, Offset, Offsets, heldKey, group, groups, groupKey}
+use Rattle.offsets.proofs.Offsets.{at-set, stretch-of, offset-on, offset-made, offset-same}
+use Rattle.offsets.proofs.Held.{keyed-named, held, held-key, held-group}
+use Rattle.pending.specs.Index.{Indexed, Raising, Raised, Refreshing, Refreshed}
 
--- over the numbers of stretches and of groups, as code counts them
-pub offsets-of : {key : ℕ → ℕ} {p q : ℕ} {offsets : List ℕ} → p ≡ q → Offsets key p offsets → Offsets key q offsets
-offsets-of {key} {p} {q} {offsets} e O = subst (λ (n : ℕ). Offsets key n offsets) e O
-
+-- over the number of groups, as code counts them
 pub indexed :
     (key : ℕ → ℕ) (n : ℕ) (offsets tree : List ℕ) (h : ℕ) → h ≡ groups (stretches n) → Offsets key (stretches n) offsets → Nodes h tree
     → ((q : ℕ) → q < h → getD tree (h + q) 0 ≡ groupKey key q) → Indexed key n offsets tree
@@ -26,84 +29,140 @@ indexed key n offsets tree h count O N leaf =
       leaf = subst (λ (p : ℕ). (q : ℕ) → q < p → getD tree (p + q) 0 ≡ groupKey key q) count leaf;
     }
 
-module _ (key : ℕ → ℕ) (n : ℕ) (offsets tree : List ℕ) (I : Indexed key n offsets tree) (h : ℕ) (count : h ≡ groups (stretches n)) where
-  pub indexed-nodes : Nodes h tree
-  indexed-nodes = subst (λ (q : ℕ). Nodes q tree) (sym count) (I .nodes)
+-- ---- the root
 
-  indexed-leaf : (q : ℕ) → q < h → getD tree (h + q) 0 ≡ groupKey key q
-  indexed-leaf = subst (λ (p : ℕ). (q : ℕ) → q < p → getD tree (p + q) 0 ≡ groupKey key q) (sym count) (I .leaf)
-
--- ---- voxel j alone has another key later
-
-module _ (key later : ℕ → ℕ) (j : ℕ) (same : (i : ℕ) → (i ≡ j → ⊥) → later i ≡ key i) where
-  -- only the voxel's own stretch changes
-  stretch-other : (k : ℕ) → (k ≡ j / width → ⊥) → stretchKey later k ≡ stretchKey key k
+module _ (key : ℕ → ℕ) where
+  key-le-stretch : (j : ℕ) → key j ≤ stretchKey key (j / width)
   unfolding stretchKey
-  stretch-other k n = greatest-same later key (width * k) width (λ i l u. same i (λ e. n (omega arith)))
+  key-le-stretch j = greatest-le key (width * (j / width)) width j (omega arith) (omega arith)
 
-  -- and only its group
-  pub group-other : (q : ℕ) → (q ≡ j / width / group → ⊥) → groupKey later q ≡ groupKey key q
+  stretch-le-group : (k : ℕ) → stretchKey key k ≤ groupKey key (k / group)
   unfolding groupKey
-  group-other q n = greatest-same (stretchKey later) (stretchKey key) (group * q) group (λ k l u. stretch-other k (λ e. n (omega arith)))
+  stretch-le-group k = greatest-le (stretchKey key) (group * (k / group)) group k (omega arith) (omega arith)
 
-  -- once the offset of its stretch is made anew
-  pub offsets-set :
-      (p : ℕ) (offsets : List ℕ) (v : ℕ) → j / width < p → Offset later (j / width) v → Offsets key p offsets
-      → Offsets later p (set offsets (j / width) v)
+  group-of : (q : ℕ) → (groupKey key q ≡ 0) ⊎ ((j : ℕ) × (groupKey key q ≡ key j))
+  unfolding groupKey
+  group-of q =
+      elim (greatest-of (stretchKey key) (group * q) group) [
+        | inl z ↦ inl z
+        | inr w ↦ elim (stretch-of key (w .0)) [ inl z ↦ inl (w .3 ∙ z) | inr v ↦ inr (v .0, w .3 ∙ v .3) ]
+      ]
+
+  module _ (n : ℕ) (offsets tree : List ℕ) (I : Indexed key n offsets tree) where
+    -- no key is greater than the root
+    pub root-greatest : (j : ℕ) → j < n → key j ≤ getD tree 1 0
+    root-greatest j h =
+        omega (
+          arith,
+          key-le-stretch j,
+          stretch-le-group (j / width),
+          I .leaf (j / width / group) (omega arith),
+          root-top (groups (stretches n)) tree (I .nodes) (j / width / group) (omega arith),
+        )
+
+    -- which is one of them, or 0
+    pub root-key : 1 ≤ n → (getD tree 1 0 ≡ 0) ⊎ ((j : ℕ) × (getD tree 1 0 ≡ key j))
+    root-key s =
+        let k = root-leaf (groups (stretches n)) tree (I .nodes) (omega arith) in
+        let e = k .2 ∙ I .leaf (k .0) (k .1) in
+        elim (group-of (k .0)) [ inl z ↦ inl (e ∙ z) | inr w ↦ inr (w .0, e ∙ w .1) ]
+
+-- ---- the keys of one stretch change
+
+module _ (key later : ℕ → ℕ) (k : ℕ) (same : (i : ℕ) → (i / width ≡ k → ⊥) → later i ≡ key i) where
+  stretch-other : (c : ℕ) → (c ≡ k → ⊥) → stretchKey later c ≡ stretchKey key c
+  unfolding stretchKey
+  stretch-other c n = greatest-same later key (width * c) width (λ i l u. same i (λ e. n (omega arith)))
+
+  -- only its group changes
+  group-other : (q : ℕ) → (q ≡ k / group → ⊥) → groupKey later q ≡ groupKey key q
+  unfolding groupKey
+  group-other q n = greatest-same (stretchKey later) (stretchKey key) (group * q) group (λ c l u. stretch-other c (λ e. n (omega arith)))
+
+  -- once its offset is made anew
+  offsets-set : (p : ℕ) (offsets : List ℕ) (v : ℕ) → k < p → Offset later k v → Offsets key p offsets → Offsets later p (set offsets k v)
   offsets-set p offsets v h o O =
-      let z = length-set offsets (j / width) v in
+      let z = length-set offsets k v in
       let r = O .room in
       record {
         room = omega arith;
-        each = λ k u.
-            at-set (λ (x : ℕ). Offset later k x) offsets (j / width) v k (omega arith)
+        each = λ c u.
+            at-set (λ (x : ℕ). Offset later c x) offsets k v c (omega arith)
             (λ q. subst (λ (x : ℕ). Offset later x v) (sym q) o)
-            (λ q. offset-same key k later _ (stretch-other k q) (λ l _. same _ (λ e. q (omega arith))) (O .each k u));
+            (λ q. offset-same key c later _ (stretch-other c q) (λ l _. same _ (λ e. q (omega arith))) (O .each c u));
       }
 
-  module _ (n : ℕ) (offsets tree : List ℕ) (I : Indexed key n offsets tree) (h : ℕ) (count : h ≡ groups (stretches n)) where
+  module _ (n : ℕ) (offsets tree : List ℕ) (I : Indexed key n offsets tree) where
     -- and the leaf of its group, it is the index
-    pub indexed-set :
-        (after grown : List ℕ) (v : ℕ) → Offsets later (stretches n) after → v ≡ groupKey later (j / width / group)
-        → Changed h (j / width / group) v tree grown → Indexed later n after grown
+    indexed-set :
+        (after grown : List ℕ) (v : ℕ) → Offsets later (stretches n) after → v ≡ groupKey later (k / group)
+        → Changed (groups (stretches n)) (k / group) v tree grown → Indexed later n after grown
     indexed-set after grown v O e C =
-        indexed later n after grown h count O (C .nodes)
-        (λ m u.
-        elim (ℕ-discrete m (j / width / group)) [
-          | yes q ↦ ap (λ (x : ℕ). getD grown (h + x) 0) q ∙ C .here ∙ e ∙ ap (groupKey later) (sym q)
-          | no q ↦ C .others m u q ∙ indexed-leaf key n offsets tree I h count m u ∙ sym (group-other m q)
-        ])
+        record {
+          offset = O;
+          nodes = C .nodes;
+          leaf = λ m u.
+              elim (ℕ-discrete m (k / group)) [
+                | yes q ↦ ap (λ (x : ℕ). getD grown (groups (stretches n) + x) 0) q ∙ C .here ∙ e ∙ ap (groupKey later) (sym q)
+                | no q ↦ C .others m u q ∙ I .leaf m u ∙ sym (group-other m q)
+              ];
+        }
 
-  -- ---- its key becomes w, and was w or nothing
+  -- ---- the stretch is made anew
 
-  module _ (w : ℕ) (own : later j ≡ w) (grows : later j ≡ max (key j) w) where
-    stretch-raised : stretchKey later (j / width) ≡ max (stretchKey key (j / width)) w
-    unfolding stretchKey
-    stretch-raised =
-        greatest-raise key later (width * (j / width)) width j w (omega arith) (omega arith) grows (λ i n. sym (same i n))
+  module _ (hurried : ℕ → Bool) (dist : List ℤ) (K : Keyed hurried dist later) (offsets tree : List ℕ) (I : Indexed key (length dist) offsets tree)
+      (w : ℕ) (inside : k < stretches (length dist)) (greatest : w ≡ stretchKey later k)
+    where
+      offsets-now : Offsets later (stretches (length dist)) (set offsets k (offsetOf w))
+      offsets-now =
+          offsets-set (stretches (length dist)) offsets (offsetOf w) inside
+          (offset-made later k (keyed-named hurried dist later K) w (offsetOf w) greatest refl) (I .offset)
 
-    group-raised : groupKey later (j / width / group) ≡ max (groupKey key (j / width / group)) w
-    unfolding groupKey
-    group-raised =
-        greatest-raise (stretchKey key) (stretchKey later) (group * (j / width / group)) group (j / width) w (omega arith) (omega arith)
-        stretch-raised (λ k n. sym (stretch-other k n))
+      pub refreshing : Refreshing dist offsets tree k w
+      refreshing = record { held = held hurried dist later K _ offsets-now; nodes = I .nodes; inside = inside }
 
-    module _ (n : ℕ) (offsets tree : List ℕ) (I : Indexed key n offsets tree) where
-      -- not above its stretch's: nothing changes
-      pub indexed-kept : (0 < key j → later j ≡ key j) → w ≤ stretchKey key (j / width) → Indexed later n offsets tree
-      indexed-kept was h =
+      pub refreshed : (offsets1 tree1 : List ℕ) → Refreshed hurried dist offsets offsets1 tree tree1 k w → Indexed later (length dist) offsets1 tree1
+      refreshed offsets1 tree1 R =
+          indexed-set (length dist) offsets tree I offsets1 tree1 _ (subst (Offsets later (stretches (length dist))) (sym (R .best)) offsets-now)
+          (held-group hurried dist later K _ offsets-now _ _ (omega arith) refl) (R .keys)
+
+-- ---- voxel j, which had no key, has the key w later
+
+module _ (hurried : ℕ → Bool) (dist : List ℤ) (key later : ℕ → ℕ) (K : Keyed hurried dist key) (offsets tree : List ℕ)
+    (I : Indexed key (length dist) offsets tree) (j w : ℕ) (inside : j < length dist)
+  where
+    pub raising : Raising dist offsets tree j
+    raising = record { held = held hurried dist key K offsets (I .offset); nodes = I .nodes; inside = inside }
+
+    module _ (same : (i : ℕ) → (i ≡ j → ⊥) → later i ≡ key i) (none : key j ≡ 0) (own : later j ≡ w) where
+      in-stretch : (i : ℕ) → (i / width ≡ j / width → ⊥) → later i ≡ key i
+      in-stretch i n = same i (λ e. n (ap (λ (x : ℕ). x / width) e))
+
+      stretch-raised : stretchKey later (j / width) ≡ max (stretchKey key (j / width)) w
+      unfolding stretchKey
+      stretch-raised =
+          greatest-raise key later (width * (j / width)) width j w (omega arith) (omega arith) (omega arith) (λ i n. sym (same i n))
+
+      group-raised : groupKey later (j / width / group) ≡ max (groupKey key (j / width / group)) w
+      unfolding groupKey
+      group-raised =
+          greatest-raise (stretchKey key) (stretchKey later) (group * (j / width / group)) group (j / width) w (omega arith) (omega arith)
+          stretch-raised (λ k n. sym (stretch-other key later (j / width) in-stretch k n))
+
+      held-now : heldKey hurried dist offsets (j / width) ≡ stretchKey key (j / width)
+      held-now = held-key hurried dist key K offsets (I .offset) (j / width) (omega arith)
+
+      -- not above its stretch's
+      kept : w ≤ stretchKey key (j / width) → Indexed later (length dist) offsets tree
+      kept h =
           record {
-            offset = record { room = I .offset .room; each = λ k u. offset-same key k later _ (stretch-same k) (λ l p. held _ p) (I .offset .each k u) };
+            offset = record { room = I .offset .room; each = λ k u. offset-same key k later _ (stretch-same k) (λ l p. here _ p) (I .offset .each k u) };
             nodes = I .nodes;
             leaf = λ q u. I .leaf q u ∙ sym (group-same q);
           }
         where
-          held : (i : ℕ) → 0 < key i → later i ≡ key i
-          held i p =
-              elim (ℕ-discrete i j) [
-                | yes e ↦ ap later e ∙ was (subst (λ (x : ℕ). 0 < key x) e p) ∙ ap key (sym e)
-                | no e ↦ same i e
-              ]
+          here : (i : ℕ) → 0 < key i → later i ≡ key i
+          here i p = same i (λ e. omega (arith, ap key e))
 
           stretch-same : (k : ℕ) → stretchKey later k ≡ stretchKey key k
           stretch-same k =
@@ -111,20 +170,22 @@ module _ (key later : ℕ → ℕ) (j : ℕ) (same : (i : ℕ) → (i ≡ j → 
                 | yes e ↦
                     let m : max (stretchKey key (j / width)) w ≡ stretchKey key (j / width) = omega arith in
                     ap (stretchKey later) e ∙ stretch-raised ∙ m ∙ ap (stretchKey key) (sym e)
-                | no e ↦ stretch-other k e
+                | no e ↦ stretch-other key later (j / width) in-stretch k e
               ]
 
           group-same : (q : ℕ) → groupKey later q ≡ groupKey key q
           group-same q = unfold groupKey in greatest-same (stretchKey later) (stretchKey key) (group * q) group (λ k l u. stretch-same k)
 
-      -- above it: the offset is its own, and its key is lifted
-      pub indexed-raised :
-          (v h : ℕ) → stretchKey key (j / width) < w → v ≡ j % width → j < n → h ≡ groups (stretches n) → (grown : List ℕ)
-          → Changed h (j / width / group) (max (getD tree (h + j / width / group) 0) w) tree grown
-          → Indexed later n (set offsets (j / width) v) grown
-      indexed-raised v h less e inside count grown C =
+      pub raised : (offsets1 tree1 : List ℕ) → Raised hurried dist offsets offsets1 tree tree1 j w → Indexed later (length dist) offsets1 tree1
+      raised offsets1 tree1 (inl R) =
+          subst (λ (t : List ℕ). Indexed later (length dist) offsets1 t) (sym (R .keys))
+          (subst (λ (o : List ℕ). Indexed later (length dist) o tree) (sym (R .best)) (kept (omega (arith, R .below, held-now))))
+      raised offsets1 tree1 (inr R) =
+          let less : stretchKey key (j / width) < w = omega (arith, R .above, held-now) in
           let m : max (stretchKey key (j / width)) w ≡ w = omega arith in
-          indexed-set n offsets tree I h count (set offsets (j / width) v) grown _
-          (offsets-set (stretches n) offsets v (omega arith)
-          (offset-on later (j / width) v j (omega arith) (omega arith) (stretch-raised ∙ m ∙ sym own) (omega arith)) (I .offset))
-          (ap (λ (x : ℕ). max x w) (indexed-leaf key n offsets tree I h count (j / width / group) (omega arith)) ∙ sym group-raised) C
+          subst (λ (o : List ℕ). Indexed later (length dist) o tree1) (sym (R .best)) (
+          indexed-set key later (j / width) in-stretch (length dist) offsets tree I _ tree1 _
+          (offsets-set key later (j / width) in-stretch (stretches (length dist)) offsets (j % width) (omega arith)
+          (offset-on later (j / width) (j % width) j (omega arith) (omega arith) (stretch-raised ∙ m ∙ sym own) (omega arith)) (I .offset))
+          (ap (λ (x : ℕ). max x w) (I .leaf (j / width / group) (omega arith)) ∙ sym group-raised) (R .keys)
+          )

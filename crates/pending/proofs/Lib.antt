@@ -1,4 +1,1 @@
 pub mod Indexing
-pub mod Changes
-pub mod Choosing
-pub mod Succession

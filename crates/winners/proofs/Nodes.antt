@@ -6,7 +6,7 @@ use native.Mathlib.Omega.{arith}
 use native.Mathlib.Decide.{ℕ-discrete, decLe}
 use lib.ListN.{length, getD, set, length-set}
 use lib.Seq.{getD-set-same, getD-set-other}
-use Rattle.winners.specs.Tree.{Joined, Nodes, Grown, Changed, Crowning}
+use Rattle.winners.specs.Tree.{Joined, Nodes, Grown, Changed}
 
 -- ---- one node
 
@@ -141,64 +141,6 @@ rising-done p k v t₀ t i g N h R l =
       here = R .leaves (p + k) (omega arith) ∙ getD-set-same t₀ (p + k) v 0 (omega arith);
       others = λ m a n. R .leaves (p + m) (omega arith) ∙ getD-set-other t₀ (p + k) (p + m) v 0 (λ q. n (omega arith));
     }
-
--- ---- replacing leaf k by w, which no other leaf exceeds: no node from i on does
-
-pub record Crowned (p w : ℕ) (t₀ t : List ℕ) (i : ℕ) : Type 0 where
-  pub rising : Rising p t₀ t i w
-  pub leaves : (m : ℕ) → p ≤ m → m < 2 * p → getD t₀ m 0 ≤ w
-  pub low : (m : ℕ) → i ≤ m → m < 2 * p → getD t m 0 ≤ w
-
-pub crowned-start : (p k w : ℕ) (t : List ℕ) → Crowning p k w t → Crowned p w (set t (p + k) w) (set t (p + k) w) (p + k)
-crowned-start p k w t C =
-    record { rising = rising-start p k w t (C .nodes) (C .inside); leaves = leaf; low = λ m l u. leaf m (omega arith) u }
-  where
-    leaf : (m : ℕ) → p ≤ m → m < 2 * p → getD (set t (p + k) w) m 0 ≤ w
-    leaf m l u =
-        let h = C .inside in
-        let r = C .nodes .room in
-        elim (ℕ-discrete m (p + k)) [
-          | yes e ↦ omega (arith, node-at (set t (p + k) w) e, getD-set-same t (p + k) w 0 (omega arith))
-          | no n ↦ (
-              let e : m ≡ p + (m - p) = omega arith in
-              omega (arith, getD-set-other t (p + k) m w 0 n, node-at t e, C .others (m - p) (omega arith) (λ q. n (omega arith)))
-              )
-        ]
-
-module _ (p w : ℕ) (t₀ t : List ℕ) (i : ℕ) (C : Crowned p w t₀ t i) (l : 1 < i) where
-  -- a node past the one above i is a leaf, or has its children from i on
-  past-low : (m : ℕ) → i / 2 < m → m < 2 * p → getD t m 0 ≤ w
-  past-low m a b =
-      elim (decLe p m) [
-        | yes h ↦ omega (arith, C .rising .leaves m h, C .leaves m h b)
-        | no h ↦
-            omega (
-              arith,
-              C .rising .nodes m (omega arith) (omega arith) (λ q. omega arith),
-              C .low (2 * m) (omega arith) (omega arith),
-              C .low (2 * m + 1)
-                  (omega arith) (omega arith),
-            )
-      ]
-
-  pub crowned-step : Crowned p w t₀ (set t (i / 2) w) (i / 2)
-  crowned-step =
-      let r = C .rising .room in
-      let u = C .rising .high in
-      let s : ℕ = i + 1 - 2 * (i % 2) in
-      record {
-        rising = rising-step p t₀ t i w s w (C .rising) l (omega arith) (omega (arith, past-low s (omega arith) (omega arith)));
-        leaves = C .leaves;
-        low = λ m a b.
-            elim (ℕ-discrete m (i / 2)) [
-              | yes e ↦ omega (arith, node-at (set t (i / 2) w) e, getD-set-same t (i / 2) w 0 (omega arith))
-              | no n ↦ omega (arith, getD-set-other t (i / 2) m w 0 n, past-low m (omega arith) b)
-            ];
-      }
-
-pub crowned-done :
-    (p k w : ℕ) (t₀ t : List ℕ) (i : ℕ) → Crowning p k w t₀ → Crowned p w (set t₀ (p + k) w) t i → i ≤ 1 → Changed p k w t₀ t
-crowned-done p k w t₀ t i C R l = rising-done p k w t₀ t i w (C .nodes) (C .inside) (R .rising) l
 
 -- ---- lifting leaf k to w: node i alone may be less than w below it
 

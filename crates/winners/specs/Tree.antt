@@ -23,9 +23,3 @@ pub record Changed (p k v : ℕ) (before after : List ℕ) : Type 0 where
   pub nodes : Nodes p after
   pub here : getD after (p + k) 0 ≡ v
   pub others : (m : ℕ) → m < p → (m ≡ k → ⊥) → getD after (p + m) 0 ≡ getD before (p + m) 0
-
--- w is to be leaf k, and no other leaf exceeds it
-pub record Crowning (p k w : ℕ) (tree : List ℕ) : Type 0 where
-  pub nodes : Nodes p tree
-  pub inside : k < p
-  pub others : (m : ℕ) → m < p → (m ≡ k → ⊥) → getD tree (p + m) 0 ≤ w

@@ -2,7 +2,7 @@
 ghost use mathlib.Core.Path.{_≡_};
 ghost use Prim.Native.Nat.{_+_, _*_, _%_, _≤_, _<_, max};
 ghost use lib.ListN.{length, getD};
-ghost use Rattle.winners.specs.Tree.{Nodes, Grown, Changed, Crowning};
+ghost use Rattle.winners.specs.Tree.{Nodes, Grown, Changed};
 
 // Makes the inner nodes of a tree with p leaves.
 pub fn join_nodes(tree: &mut [u64], p: usize)
@@ -35,19 +35,6 @@ pub fn replace(tree: &mut [u64], p: usize, k: usize, v: u64)
         g = numbers::greater_u64(g, tree[sibling(i)]);
         i /= 2;
         tree[i] = g;
-    }
-}
-
-// Leaf k becomes w, which no other leaf exceeds: so do the nodes above it.
-pub fn crown(tree: &mut [u64], p: usize, k: usize, w: u64)
-    requires { ⌜ Crowning p k w (now tree) ⌝ }
-    ensures { λ _. ⌜ Changed p k w (now (tree .entry)) (now (tree .exit)) ⌝ }
-{
-    let mut i = p + k;
-    tree[i] = w;
-    while 1 < i {
-        i /= 2;
-        tree[i] = w;
     }
 }
 

@@ -1,4 +1,5 @@
--- `examining::carve` meets its contract: the index is made, then the examinations, then a look at what is left and at the last removal.
+-- `examining::carve` meets its contract: the queue is made, then the examinations, then a look at what is left and at the last removal.
+use mathlib.Core.Path.{_∙_}
 use borrow.Author.Needs.{needs}
 use Rattle.rules.specs.Marks.{marked}
 use Rattle.examining.proofs.Running.{tallied}
@@ -6,14 +7,20 @@ use Rattle.examining.proofs.carve.Statement.{statement}
 use Rattle.examining.proofs.carve.Tie as tie
 
 abbrev start : tie.After-build → tie.Start
-start c = let k = c .before .before .before in k .before .before .before .before .before
+start c = let k = c .before .before .before .before .before in k .before .before .before .before .before
 
 -- from a call back to the one before it
 abbrev built : tie.After-run → tie.After-build
-built c = let k = c .before .before .before in k .before .before .before .before .before
+built c =
+    let k = c .before .before .before .before in
+    let l = k .before .before .before .before in
+    l .before .before .before
 
 abbrev ran : tie.After-any-pending → tie.After-run
-ran c = let k = c .before .before .before in k .before .before .before .before .before .before .before
+ran c =
+    let k = c .before .before .before .before in
+    let l = k .before .before .before .before in
+    l .before .before .before .before .before
 
 build-requires : tie.Need-build-requires
 build-requires c κs = search needs
@@ -25,16 +32,21 @@ any-pending-requires : tie.Need-any-pending-requires
 any-pending-requires c κs = search needs
 
 last-face-requires : tie.Need-last-face-requires
-last-face-requires c κs = ran (c .before) .run .ensures .last
+last-face-requires c κs = search needs
 
 same-length : tie.Need-same-length
 same-length c = search needs
 
 same-length-2 : tie.Need-same-length-2
-same-length-2 c = search needs
+same-length-2 c =
+    let r = ran (c .before .before) in
+    r .run .kept .1 .1 .1 .1 .0 ∙ built r .build .kept .1 .1 .1 .0
 
 same-length-3 : tie.Need-same-length-3
 same-length-3 c = search needs
+
+same-length-4 : tie.Need-same-length-4
+same-length-4 c = search needs
 
 returns : tie.Need-returns
 returns c =
@@ -42,7 +54,7 @@ returns c =
     let r = ran p in
     let s = start (built r) in
     let a = s .args in
-    tallied (a .s) (marked (a .marks .now)) (a .dist .now) (a .limit) (a .status .now) _ _ _ _ (p .any-pending .result) _ (s .pre .work)
+    tallied (a .s) (marked (a .marks .now)) (a .dist .now) (a .limit) (a .status .now) _ _ _ _ _ (p .any-pending .result) _ (s .pre .work)
     (r .run .kept .1 .1 .1 .0) (r .run .ensures)
     (p .any-pending .ensures) (c .last-face .ensures)
 
@@ -57,4 +69,5 @@ carve-spec =
     same-length
     same-length-2
     same-length-3
+    same-length-4
     returns)

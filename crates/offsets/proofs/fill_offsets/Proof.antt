@@ -9,13 +9,14 @@ use Rattle.rules.specs.Marks.{marked}
 use Rattle.keys.specs.Key.{keyAt, stretches, stretchKey}
 use Rattle.offsets.specs.Offsets.{offsetOf}
 use Rattle.offsets.proofs.Offsets.{Filling, filling-start, filling-step, offset-made}
-use Rattle.offsets.proofs.Held.{key-named}
+use Rattle.keys.proofs.Ranks.{keyed}
+use Rattle.offsets.proofs.Held.{keyed-named}
 use Rattle.offsets.proofs.fill_offsets.Statement.{statement}
 use Rattle.offsets.proofs.fill_offsets.Tie as tie
 
 abbrev Inv-loop : tie.InvT-loop
 Inv-loop dist marks status offsets₀ p k₀ offsets k =
-    (p ≡ stretches (length status)) × Filling (λ m. offsetOf (stretchKey (keyAt (marked marks .hurried) dist status) m)) 0 p offsets₀ offsets k
+    (p ≡ stretches (length dist)) × Filling (λ m. offsetOf (stretchKey (keyAt (marked marks .hurried) dist status) m)) 0 p offsets₀ offsets k
 
 abbrev μ-loop : tie.MeasureT-loop
 μ-loop dist marks status offsets₀ p k₀ offsets k = p - k
@@ -69,7 +70,8 @@ returns c =
     record {
       room = omega (arith, s .pre .1, i .1 .same);
       each = λ k u.
-          offset-made (keyAt (marked (s .args .marks .now) .hurried) (s .args .dist .now) (s .args .status .now)) k (key-named _ _ _ (s .pre .0)) _ _ refl
+          offset-made (keyAt (marked (s .args .marks .now) .hurried) (s .args .dist .now) (s .args .status .now)) k
+          (keyed-named _ _ _ (keyed _ _ _ (s .pre .0))) _ _ refl
           (ap (λ (x : ℕ). getD (l .loop .offsets) x 0) (sym (zero-add k)) ∙ i .1 .filled k (omega (arith, c .loop-test .left, i .0)));
     }
 

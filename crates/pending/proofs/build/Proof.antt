@@ -1,11 +1,11 @@
 -- `build` meets its contract: the offsets, the leaves from them, and the nodes above.
-use mathlib.Core.Path.{ap, _∙_}
-use Prim.Native.Nat.{ℕ, _+_}
+use mathlib.Core.Path.{_∙_}
+use Prim.Native.Nat.{_+_}
 use native.Mathlib.Omega.{arith}
 use lib.ListN.{length}
 use Rattle.rules.specs.Marks.{marked}
-use Rattle.keys.specs.Key.{keyAt, stretches}
-use Rattle.offsets.specs.Offsets.{groups}
+use Rattle.keys.specs.Key.{keyAt}
+use Rattle.keys.proofs.Ranks.{keyed}
 use Rattle.offsets.proofs.Held.{held, held-group}
 use Rattle.pending.proofs.Indexing.{indexed}
 use borrow.Author.Needs.{needs}
@@ -25,7 +25,7 @@ fill-leaves-requires c κs =
     let s = g .before .before .before .before .before in
     let lent = s .pre .lent in
     record {
-      held = held _ _ _ lent _ (f .fill-offsets .ensures);
+      held = held _ _ _ (keyed _ _ _ lent) _ (f .fill-offsets .ensures);
       count = g .count-groups .ensures;
       room = omega (arith, s .pre .grouped, g .count-groups .ensures, lent .same);
     }
@@ -53,10 +53,10 @@ returns c =
     record {
       lent = lent;
       index =
-          indexed (keyAt (marked (s .args .marks .now) .hurried) (s .args .dist .now) (s .args .status .now)) (length (s .args .status .now)) _ _ h
-          (e ∙ ap (λ (n : ℕ). groups (stretches n)) (lent .same)) O (j .join-nodes .ensures .nodes)
+          indexed (keyAt (marked (s .args .marks .now) .hurried) (s .args .dist .now) (s .args .status .now)) (length (s .args .dist .now)) _ _ h
+          e O (j .join-nodes .ensures .nodes)
           (λ q u.
-          j .join-nodes .ensures .leaves (h + q) (omega arith) ∙ held-group _ _ _ lent _ O q _ (omega (arith, e)) (l .fill-leaves .ensures q u));
+          j .join-nodes .ensures .leaves (h + q) (omega arith) ∙ held-group _ _ _ (keyed _ _ _ lent) _ O q _ (omega (arith, e)) (l .fill-leaves .ensures q u));
     }
 
 pub build-spec : {M : Type 1} → statement M

@@ -1,0 +1,4 @@
+pub mod Changes
+pub mod Queuing
+pub mod Steps
+pub mod Choosing
