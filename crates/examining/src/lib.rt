@@ -1,6 +1,8 @@
 // Examinations over the queue of pending voxels: one that passes is removed, and wakes those around it; one that fails rests.
 ghost use Rattle.rules.specs.Marks.{marked};
+ghost use Prim.Native.Nat.{_*_};
 ghost use Rattle.queue.specs.Queue.{Queue};
+ghost use Rattle.queue_waking.specs.QueueWaking.{Near};
 ghost use Rattle.examining.specs.Examining.{Workable, Examinable, Examined, Run, Lending, Tallied};
 use queue::Choice;
 use rules::Sides;
@@ -21,9 +23,11 @@ fn examine(
     tree: &mut [u64],
     front: &mut [u64],
     head: usize,
+    near: &[usize; 27],
     i: usize,
 ) -> Step
-    requires { ⌜ Examinable s (marked (now marks)) (now dist) (now status) (now offsets) (now tree) (now front) head i ⌝ }
+    requires { ⌜ Examinable s (marked (now marks)) (now dist) (now status) (now offsets) (now tree) (now front) head i
+        × Near (s .a) (s .a * s .b) (now near) ⌝ }
     ensures { λ r. ⌜ Examined s (marked (now (marks .entry))) (now (dist .entry)) (now (status .entry)) (now (status .exit)) (now (offsets .exit))
         (now (tree .exit)) (now (front .exit)) i r ⌝ }
 {
@@ -52,6 +56,7 @@ fn examine(
             tree,
             front,
             rest,
+            near,
             i,
             block,
         );
@@ -84,9 +89,11 @@ fn run(
     tree: &mut [u64],
     front: &mut [u64],
     first: usize,
+    near: &[usize; 27],
     limit: u32,
 ) -> Count
-    requires { ⌜ Queue (marked (now marks)) (now dist) (now status) (now offsets) (now tree) (now front) first × Workable s (now status) ⌝ }
+    requires { ⌜ Queue (marked (now marks)) (now dist) (now status) (now offsets) (now tree) (now front) first × Workable s (now status)
+        × Near (s .a) (s .a * s .b) (now near) ⌝ }
     ensures { λ r. ⌜ Run s (marked (now (marks .entry))) (now (dist .entry)) limit (now (status .entry)) (now (status .exit)) (now (offsets .exit))
         (now (tree .exit)) (now (front .exit)) r ⌝ }
 {
@@ -105,7 +112,7 @@ fn run(
                 head: head,
             };
         };
-        let step = examine(s, dist, marks, status, offsets, tree, front, head, i);
+        let step = examine(s, dist, marks, status, offsets, tree, front, head, near, i);
         last = last_removal::later(last, step.removed, i);
         removed += step.removed;
         head = step.head;
@@ -142,7 +149,19 @@ pub fn carve(
     ensures { λ r. ⌜ Tallied s (marked (now (marks .entry))) (now (dist .entry)) limit (now (status .entry)) (now (status .exit)) r ⌝ }
 {
     let first = queue::build(dist, marks, status, offsets, tree, front);
-    let c = run(s, dist, marks, status, offsets, tree, front, first, limit);
+    let near = queue_waking::offsets_near(s.a, s.a * s.b);
+    let c = run(
+        s,
+        dist,
+        marks,
+        status,
+        offsets,
+        tree,
+        front,
+        first,
+        &near,
+        limit,
+    );
     let left = queue::any_pending(dist, marks, status, offsets, tree, front, c.head);
     Tally {
         examined: c.examined,

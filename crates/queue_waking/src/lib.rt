@@ -1,5 +1,5 @@
 // Waking voxels with the queue of pending voxels kept: each that wakes enters it.
-ghost use Prim.Native.Nat.{_*_, _<_};
+ghost use Prim.Native.Nat.{_*_, _≤_, _<_};
 ghost use lib.ListN.{length};
 ghost use Rattle.rules.specs.Marks.{marked};
 ghost use Rattle.rules.specs.Machine.{mayGo};
@@ -8,8 +8,22 @@ ghost use Rattle.touched_cells.specs.Block.{Rows, codeIn};
 ghost use Rattle.neighbourhood.specs.Neighbourhood.{firstAround};
 ghost use Rattle.waking.specs.Waking.{idleBit, Only, AtBits, fromVoxel};
 ghost use Rattle.queue.specs.Queue.{Queue};
-ghost use Rattle.queue_waking.specs.QueueWaking.{CallableQueued, WokenQueued, Leaving};
+ghost use Rattle.queue_waking.specs.QueueWaking.{Near, CallableQueued, WokenQueued, Leaving};
 use rules::Sides;
+
+// How far each of the 27 positions lies from the first one: reckoned once for all examinations.
+pub fn offsets_near(a: usize, l: usize) -> [usize; 27]
+    requires { ⌜ (a ≤ 64) × (l ≤ 4096) ⌝ }
+    ensures { λ r. ⌜ Near a l r ⌝ }
+{
+    let mut near = [0usize; 27];
+    let mut p: usize = 0;
+    while p < 27 {
+        near[p] = waking::offset(a, l, p);
+        p += 1;
+    }
+    near
+}
 
 fn wake_one(
     dist: &[i32],
@@ -32,7 +46,7 @@ fn wake_one(
     entering::enter(dist, marks, status, offsets, tree, front, head, j)
 }
 
-// Wakes the voxels at the positions of the set bits, from voxel at on.
+// Wakes the voxels at the positions of the set bits, from voxel at on. Rows are a long, layers l, which the contract alone asks.
 fn wake(
     dist: &[i32],
     marks: &[u8],
@@ -41,12 +55,13 @@ fn wake(
     tree: &mut [u64],
     front: &mut [u64],
     head: usize,
+    near: &[usize; 27],
     a: usize,
     l: usize,
     at: usize,
     idle: u64,
 ) -> usize
-    requires { ⌜ CallableQueued (marked (now marks)) (now dist) (now status) (now offsets) (now tree) (now front) head a l at idle ⌝ }
+    requires { ⌜ CallableQueued (marked (now marks)) (now dist) (now status) (now offsets) (now tree) (now front) (now near) head a l at idle ⌝ }
     ensures { λ r. ⌜
         WokenQueued (AtBits (mayGo (marked (now (marks .entry))) (now (dist .entry))) idle (fromVoxel a l at)) (marked (now (marks .entry)))
         (now (dist .entry)) (now (status .entry)) (now (status .exit)) (now (offsets .exit)) (now (tree .exit)) (now (front .exit)) r ⌝ }
@@ -63,7 +78,7 @@ fn wake(
             tree,
             front,
             first,
-            at + waking::offset(a, l, p),
+            at + near[p],
         );
         m = m & (m - 1);
     }
@@ -80,10 +95,12 @@ pub fn wake_around(
     tree: &mut [u64],
     front: &mut [u64],
     head: usize,
+    near: &[usize; 27],
     i: usize,
     block: [[u8; 3]; 3],
 ) -> usize
-    requires { ⌜ Leaving s (marked (now marks)) (now dist) (now status) (now offsets) (now tree) (now front) head i × Rows block ⌝ }
+    requires { ⌜ Leaving s (marked (now marks)) (now dist) (now status) (now offsets) (now tree) (now front) head i × Rows block
+        × Near (s .a) (s .a * s .b) (now near) ⌝ }
     ensures { λ r. ⌜
         WokenQueued
         (AtBits (mayGo (marked (now (marks .entry))) (now (dist .entry))) (bits 54 (idleBit (codeIn block)))
@@ -101,6 +118,7 @@ pub fn wake_around(
         tree,
         front,
         head,
+        near,
         s.a,
         s.a * s.b,
         at,

@@ -27,10 +27,10 @@ tested c = c .before .before
 
 -- the voxel lies off the border
 inner : (c : tie.Start) → Inner (c .args .s) (c .args .i)
-inner c = let p = c .pre in pending-inner (c .args .s) (c .args .status .now) (p .work) (c .args .i) (p .below) (p .pending)
+inner c = let p = c .pre .0 in pending-inner (c .args .s) (c .args .status .now) (p .work) (c .args .i) (p .below) (p .pending)
 
 gather-requires : tie.Need-gather-requires
-gather-requires c κs = let s = c .before .before .before .before .before .before in (inner s, s .pre .work .body .statuses)
+gather-requires c κs = let s = c .before .before .before .before .before .before in (inner s, s .pre .0 .work .body .statuses)
 
 passes-requires : tie.Need-passes-requires
 passes-requires c κs = c .gather .ensures .rows
@@ -47,7 +47,7 @@ passing c =
 
 may-go-requires : tie.Need-may-go-requires
 may-go-requires c κs =
-    let p = start (c .before) .pre in
+    let p = start (c .before) .pre .0 in
     omega (arith, p .below, p .queue .lent .same, p .work .body .statuses .lent)
 
 -- it goes, as the rule says
@@ -75,7 +75,7 @@ left-requires : tie.Need-left-requires
 unfolding isPending
 left-requires c κs =
     let p = c .before .before .before .before .before in
-    start (tested p) .pre .pending
+    start (tested p) .pre .0 .pending
 
 leave-requires : tie.Need-leave-requires
 unfolding isPending
@@ -85,11 +85,11 @@ leave-requires c κs =
     let s = start (tested p) in
     let a = s .args in
     record {
-      queue = s .pre .queue;
-      first = s .pre .first;
-      pending = s .pre .pending;
+      queue = s .pre .0 .queue;
+      first = s .pre .0 .first;
+      pending = s .pre .0 .pending;
       idle = ap pendingByte (c .left .ensures)
-          ∙ left-idle (p .before .passes .result && p .may-go .result) (statusOf (a .status .now) (a .i)) (s .pre .pending);
+          ∙ left-idle (p .before .passes .result && p .may-go .result) (statusOf (a .status .now) (a .i)) (s .pre .0 .pending);
     }
 
 wake-around-requires : tie.Need-wake-around-requires
@@ -98,8 +98,9 @@ wake-around-requires c κs =
     let k = t .before .before .before in
     let g = tested (asked k) in
     let s = start g in (
-      record { queue = k .leave .ensures .queue; statuses = k .leave .kept .1 .1 .0 ∙ s .pre .work .body .statuses .lent; voxel = inner s },
+      record { queue = k .leave .ensures .queue; statuses = k .leave .kept .1 .1 .0 ∙ s .pre .0 .work .body .statuses .lent; voxel = inner s },
       g .gather .ensures .rows,
+      s .pre .1,
     )
 
 same-length : tie.Need-same-length
@@ -126,7 +127,7 @@ returns c =
     let a = s .args in
     let byte = k .before .left .ensures ∙ ap (λ (b : Bool). cond b 0 (rested (statusOf (a .status .now) (a .i)))) (t .if1 .taken) in
     gone-examined (a .s) (marked (a .marks .now)) (a .dist .now) (a .status .now) _ _ _ _ _ (a .i) _ (going p) (t .if1 .taken)
-    (removed-from (a .s) (mayGo (marked (a .marks .now)) (a .dist .now)) (a .status .now) (a .i) (inner s) (s .pre .work .body .statuses .lent)
+    (removed-from (a .s) (mayGo (marked (a .marks .now)) (a .dist .now)) (a .status .now) (a .i) (inner s) (s .pre .0 .work .body .statuses .lent)
     (ap (λ (x : ℕ). bits 54 (idleBit x)) (g .gather .ensures .code)) refl (written-as (k .leave .ensures) byte)
     (w .wake-around .ensures .woken)) (w .wake-around .ensures .queue)
 

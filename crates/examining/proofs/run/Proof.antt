@@ -12,11 +12,11 @@ use Rattle.examining.proofs.run.Statement.{statement}
 use Rattle.examining.proofs.run.Tie as tie
 
 abbrev Inv-loop : tie.InvT-loop
-Inv-loop s dist marks status₀ offsets₀ tree₀ front₀ first limit examined₀ removed₀ last₀ head₀ status offsets tree front examined removed last head =
+Inv-loop s dist marks status₀ offsets₀ tree₀ front₀ first near limit examined₀ removed₀ last₀ head₀ status offsets tree front examined removed last head =
     Running s (marked marks) dist limit status₀ offsets₀ tree₀ front₀ status offsets tree front examined removed last head
 
 abbrev μ-loop : tie.MeasureT-loop
-μ-loop s dist marks status₀ offsets₀ tree₀ front₀ first limit examined₀ removed₀ last₀ head₀ status offsets tree front examined removed last head =
+μ-loop s dist marks status₀ offsets₀ tree₀ front₀ first near limit examined₀ removed₀ last₀ head₀ status offsets tree front examined removed last head =
     limit - examined
 
 loop-holds : tie.Need-loop-holds Inv-loop μ-loop
@@ -94,15 +94,17 @@ examine-requires c κs =
     let b = best-as (x .next .given .1) (x .before .before .first .ensures) in
     let k =
     running-filled (l .loop .inv) (f .filled .ensures .queue) (f .filled .kept .1 .1 .1 .0) (f .filled .kept .1 .1 .1 .1 .0)
-    (f .filled .kept .1 .1 .1 .1 .1 .0) in
-    record {
-      queue = k .queue;
-      work = k .work;
-      below = running-below (a .s) (marked (a .marks .now)) (a .dist .now) (a .limit) (a .status .now) (a .offsets .now) (a .tree .now)
-          (a .front .now) (l .loop .status) _ _ _ (l .loop .examined) (l .loop .removed) (l .loop .last) _ k _ b;
-      pending = b .pending _ refl;
-      first = b .first _ refl;
-    }
+    (f .filled .kept .1 .1 .1 .1 .1 .0) in (
+      record {
+        queue = k .queue;
+        work = k .work;
+        below = running-below (a .s) (marked (a .marks .now)) (a .dist .now) (a .limit) (a .status .now) (a .offsets .now) (a .tree .now)
+            (a .front .now) (l .loop .status) _ _ _ (l .loop .examined) (l .loop .removed) (l .loop .last) _ k _ b;
+        pending = b .pending _ refl;
+        first = b .first _ refl;
+      },
+      start l .pre .2,
+    )
 
 abbrev examined-at : tie.After-struct-known Inv-loop μ-loop → tie.After-examine Inv-loop μ-loop
 examined-at c =

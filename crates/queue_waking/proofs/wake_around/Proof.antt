@@ -3,6 +3,7 @@ use mathlib.Core.Path.{sym, subst, subst₂}
 use Prim.Native.Nat.{ℕ, _*_, _^_, _<_}
 use native.Mathlib.Omega.{arith}
 use borrow.Author.Needs.{needs}
+use Rattle.rules.specs.Marks.{marked}
 use Rattle.touched_cells.specs.Block.{codeIn}
 use Rattle.neighbourhood.specs.Neighbourhood.{Room}
 use Rattle.neighbourhood.proofs.Interior.{layer-small, room}
@@ -31,6 +32,7 @@ wake-requires c κs =
     let s = start d in
     let a = s .args in
     record {
+      near-by = s .pre .2;
       queue = s .pre .0 .queue;
       bits =
           record {
@@ -58,7 +60,7 @@ returns c =
     let w = w-back .before .before .before .before in
     let d = w .before .before .before .before .before .before in
     let a = start d .args in
-    woken-at (a .s .a) (a .s .a * a .s .b) (d .idle-bits .ensures) (d .before .first-around .ensures) (w .wake .ensures)
+    woken-at {mk = marked (a .marks .now)} {dist = a .dist .now} (a .s .a) (a .s .a * a .s .b) (d .idle-bits .ensures) (d .before .first-around .ensures) (w .wake .ensures)
 
 pub wake-around-spec : {M : Type 1} → statement M
 wake-around-spec =
