@@ -14,7 +14,8 @@ use Rattle.bits.specs.Bits.{has}
 use Rattle.bits.specs.Lowest.{Lowest}
 use Rattle.keys.specs.Key.{greatest, width, stretchKey}
 use Rattle.keys.proofs.Greatest.{greatest-none, greatest-lift, greatest-moved}
-use Rattle.keys.proofs.Scanning.{has-none, left-over, taken-over}
+use Rattle.masks.proofs.Crossing.{has-none}
+use Rattle.keys.proofs.Scanning.{left-over, taken-over}
 use Rattle.front.specs.Front.{lead, upTo, Parted}
 
 module _ (key : ℕ → ℕ) (floor j : ℕ) where

@@ -2,29 +2,25 @@
 use mathlib.Core.Path.{_≡_, refl, sym, ap, _∙_, subst}
 use mathlib.Core.Bool.{Bool, true, false, cond}
 use mathlib.Core.List.{List}
-use Prim.Native.Nat.{ℕ, _+_, _-_, _*_, _%_, _^_, _≤_, _<_, max}
-use native.Mathlib.Nat.{zero-div}
+use Prim.Native.Nat.{ℕ, _+_, _-_, _*_, _≤_, _<_, max}
 use native.Mathlib.Omega.{arith}
 use native.Mathlib.Decide.{ℕ-discrete, decLt}
 use borrow.Author.Tests.{lt-ltb, le-ltb}
 use borrow.Rule.Slice.PartAt.{part-to-end}
-use lib.Dec.{eqb, ltb}
+use lib.Dec.{ltb}
 use lib.IntN.{ℤ, pos}
 use lib.ListN.{length, take, drop, length-drop}
 use lib.Seq.{getD-drop}
 use lib.Bits.{bitAnd}
 use Rattle.prelude.proofs.Bools.{not-both}
 use Rattle.bits.specs.Bits.{has}
+use Rattle.masks.proofs.Crossing.{has-none}
 use Rattle.rules.specs.Grid.{distanceAt}
 use Rattle.rules.specs.Status.{isPending}
 use Rattle.bits.specs.Lowest.{Lowest}
 use Rattle.keys.specs.Key.{most, Lent, rankBy, keyOf, keyAt, greatest, width, stretchKey, bitKey, Readable}
 use Rattle.keys.proofs.Greatest.{greatest-none, greatest-lift, greatest-moved}
 use Rattle.keys.proofs.Ranks.{by-some, pending-inside, key-by}
-
-pub has-none : (t : ℕ) → has 0 t ≡ false
-unfolding has
-has-none t = ap (λ (x : ℕ). eqb (x % 2) 1) (zero-div (2 ^ t))
 
 -- a bit that is left was there before, and is not the one that was taken
 pub left-over : (m t c : ℕ) → Lowest m t → has (bitAnd m (m - 1)) c ≡ true → (has m c ≡ true) × (t < c)

@@ -3,7 +3,7 @@ use mathlib.Core.Path.{_≡_, refl, sym, ap, ap₂, _∙_, subst}
 use mathlib.Core.Bool.{Bool, true, false, not, cond, _&&_, _||_, true≢false}
 use mathlib.Core.Logic.{_⊎_, inl, inr}
 use Prim.Native.Nat.{ℕ, zero, suc, _+_, _-_, _*_, _/_, _%_, _^_, _≤_, _<_}
-use native.Mathlib.Nat.{lt-of-le-of-lt, mul-one, mod-lt, mod-eq-of-lt, mul-le-mul-right}
+use native.Mathlib.Nat.{lt-of-le-of-lt, mul-one, mod-lt, mod-eq-of-lt, mul-le-mul-right, zero-div}
 use native.Mathlib.Omega.{arith}
 use borrow.Author.Tests.{eqb-true, ltb-true, leb-true}
 use lib.Dec.{eqb, leb, ltb, lit<}
@@ -13,6 +13,10 @@ use Rattle.prelude.proofs.Bools.{and-true, or-zero, and-zero, and-one, not-true
 use Rattle.bits.specs.Bits.{has, bits}
 use Rattle.bits.proofs.Bits.{has-shr, has-shl, has-and, has-or, has-bits, bits-has, bits-xor, below, allBelow, unlike}
 use Rattle.masks.specs.Bits.{crossed, partner}
+
+pub has-none : (t : ℕ) → has 0 t ≡ false
+unfolding has
+has-none t = ap (λ (x : ℕ). eqb (x % 2) 1) (zero-div (2 ^ t))
 
 -- ---- eight numbers, of each the bit 1 of every byte, side by side
 

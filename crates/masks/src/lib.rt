@@ -61,12 +61,16 @@ fn exchange(x: u64, mask: u64, s: u64) -> u64
     x ^ t ^ t << s
 }
 
-// The pending voxels of a whole stretch, by their bits: the transpose of an eight by eight matrix of bits (Warren, Hacker's Delight, 7-3).
+// The pending voxels of a whole stretch, by their bits: the transpose of an eight by eight matrix of bits (Warren, Hacker's Delight, 7-3). Of
+// a stretch with none, as those beyond the box around S are, nothing is transposed.
 fn whole(status: &[u8], at: usize) -> u64
     requires { ⌜ at + 64 ≤ length (now status) ⌝ }
     ensures { λ r. ⌜ ((t : ℕ) → t < 64 → has r t ≡ isPending (now (status .entry)) (at + t)) ⌝ }
 {
     let x = across(status, at);
+    if x == 0 {
+        return 0;
+    }
     exchange(
         exchange(exchange(x, 0x00AA00AA00AA00AA, 7), 0x0000CCCC0000CCCC, 14),
         0x00000000F0F0F0F0,
