@@ -116,12 +116,14 @@ any-negative-requires : tie.Need-any-negative-requires
 any-negative-requires c κs = search needs
 
 -- what the last scan decides
-decided : (c : tie.After-any-negative) (t : Bool) → c .any-negative .result ≡ t
-    → let a = begun (counted (ranged (c .before .before .before .before))) .args in
+abbrev in-range : tie.After-any-negative → tie.Else3
+in-range c = c .before .before .before .before
+
+decided : (c : tie.After-any-negative) (t : Bool) → c .any-negative .result ≡ t → let a = begun (counted (ranged (in-range c))) .args in
     turns (a .sides) (a .values .now) (a .marks .now) false false false false t ≡ firstFailing (givenChecks (a .sides) (a .values .now) (a .marks .now))
 decided c t e =
     let b = c .before .before in
-    let r = b .before .before in
+    let r = in-range c in
     let l = ranged r in
     let a = begun (counted l) .args in
     let n = counted l .voxel-count in

@@ -22,10 +22,10 @@ returns c =
     let a = f .before .before .before .args in
     sides-refused (a .sides) (a .values .now) (a .marks .now) _ [] (sym (f .fit-sides .ensures) ∙ not-true _ (c .if1 .taken))
 
-abbrev begun : tie.After-voxel-count → tie.Start
-begun c = c .before .before .before .before .before
+abbrev begun : tie.Else1 → tie.Start
+begun c = c .before .before .before .before
 
-fits : (c : tie.Else1) → fitSides (c .before .before .before .before .args .sides) ≡ true
+fits : (c : tie.Else1) → fitSides (begun c .args .sides) ≡ true
 fits c = sym (c .before .fit-sides .ensures) ∙ not-false _ (c .if1 .left)
 
 voxel-count-requires : tie.Need-voxel-count-requires
@@ -34,7 +34,7 @@ voxel-count-requires c κs = fits c
 returns-2 : tie.Need-returns-2
 returns-2 c =
     let n = c .before in
-    let a = begun n .args in
+    let a = begun (n .before) .args in
     let e = n .voxel-count .ensures .0 in
     others-refused (a .sides) (a .values .now) (a .marks .now) _ [] (fits (n .before))
     (ap (λ (t : Bool). t && eqb (length (a .status .now)) (size (a .sides)))
@@ -43,20 +43,20 @@ returns-2 c =
 returns-3 : tie.Need-returns-3
 returns-3 c =
     let n = c .before .before in
-    let a = begun n .args in
+    let a = begun (n .before) .args in
     let e = n .voxel-count .ensures .0 in
     let d = eqb (length (a .dist .now)) (size (a .sides)) in
     others-refused (a .sides) (a .values .now) (a .marks .now) _ [] (fits (n .before))
     (ap (λ (t : Bool). d && t) (ne-eqb (length (a .status .now)) (size (a .sides)) (λ q. let z : ⊥ = omega (arith, c .if3 .taken) in z)) ∙ and-zero d)
 
 given-refusal-requires : tie.Need-given-refusal-requires
-given-refusal-requires c κs = let n = c .before .before in (fits (n .before), begun n .pre)
+given-refusal-requires c κs = let e = c .before .before .before in (fits e, begun e .pre)
 
 returns-4 : tie.Need-returns-4
 returns-4 c =
     let l = c .before in
     let n = l .before .before in
-    let a = begun n .args in
+    let a = begun (n .before) .args in
     let e = n .voxel-count .ensures .0 in
     let d : length (a .dist .now) ≡ size (a .sides) = omega (arith, l .before .if2 .left) in
     let t : length (a .status .now) ≡ size (a .sides) = omega (arith, l .if3 .left) in

@@ -23,11 +23,8 @@ add-far-2 c = let s = c .before .before .before in omega (arith, fits s .a-high,
 cast-far : tie.Need-cast-far
 cast-far c = let s = c .before .before .before in record { fits = omega (arith, fits s .a-high, fits s .b-high, fits s .c-high) }
 
-abbrev lent : tie.After-struct-known → tie.Start
-lent c = c .before .before
-
 abbrev begun : tie.After-find → tie.Start
-begun c = lent (c .before .before .before .before)
+begun c = c .before .before .before .before .before .before
 
 abbrev after-find : tie.After-measure-arg → tie.After-find
 after-find c = c .before .before .before .before

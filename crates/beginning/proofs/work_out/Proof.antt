@@ -7,17 +7,20 @@ use Rattle.beginning.proofs.work_out.Tie as tie
 abbrev begun : tie.After-work-distances → tie.Start
 begun c = c .before .before .before .before
 
+abbrev measured : tie.After-enclose-arg → tie.After-work-distances
+measured c = c .before .before .before .before
+
 work-distances-requires : tie.Need-work-distances-requires
 work-distances-requires c κs = search needs
 
 enclose-requires : tie.Need-enclose-requires
 enclose-requires c κs =
-    let w = c .before .before .before .before in
+    let w = measured c in
     let s = begun w in
     enclosed (s .args .sides) (s .args .values .now) (s .pre .grid) _ (w .work-distances .ensures .steps)
 
 settle-requires : tie.Need-settle-requires
-settle-requires c κs = let g = begun (c .before .before .before .before .before .before) .pre .grid in search needs
+settle-requires c κs = let g = begun (measured (c .before .before)) .pre .grid in search needs
 
 same-length : tie.Need-same-length
 same-length c = search needs
@@ -29,7 +32,7 @@ returns : tie.Need-returns
 returns c =
     let t = c .before .before in
     let e = t .before .before in
-    let w = e .before .before .before .before .before in
+    let w = measured (e .before) in
     let s = begun w in
     record {
       distances = w .work-distances .ensures .distances;

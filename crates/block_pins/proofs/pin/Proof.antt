@@ -24,6 +24,9 @@ abbrev μ-loop : tie.MeasureT-loop
 abbrev begun : tie.After-struct-known2 Inv-loop μ-loop → tie.Start Inv-loop μ-loop
 begun c = c .before .before .before .before
 
+abbrev turned : tie.After-slice-known2 Inv-loop μ-loop → tie.In-loop Inv-loop μ-loop
+turned c = c .before .before .before .before
+
 mul-rows : tie.Need-mul-rows Inv-loop μ-loop
 mul-rows c = let s = begun c in omega (arith, rows-low (s .args .s) (s .pre .half-sides))
 
@@ -48,7 +51,7 @@ pin-row-requires c κs =
 
 add-row : tie.Need-add-row Inv-loop μ-loop
 add-row c =
-    let t = c .before .before .before .before in
+    let t = turned c in
     let s = begun (t .before .before) in
     omega (arith, t .loop-test .taken, rows-low (s .args .s) (s .pre .half-sides))
 
@@ -57,7 +60,7 @@ loop-less c = search needs
 
 loop-again : tie.Need-loop-again Inv-loop μ-loop
 loop-again c =
-    let t = c .before .before .before .before in
+    let t = turned c in
     let l = t .before in
     let a = begun (l .before) .args in (
       omega (arith, t .loop-test .taken),

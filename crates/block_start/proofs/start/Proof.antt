@@ -8,9 +8,12 @@ use Rattle.block_start.proofs.start.Tie as tie
 label-requires : tie.Need-label-requires
 label-requires c κs = search needs
 
+abbrev seeded : tie.After-enclose-arg → tie.After-label
+seeded c = c .before .before .before
+
 enclose-requires : tie.Need-enclose-requires
 enclose-requires c κs =
-    let l = c .before .before .before in
+    let l = seeded c in
     let s = l .before .before .before in
     labelled (s .args .h) (s .args .blocks .now) _ (s .pre) (s .args .status .now) (l .label .last .0) refl (l .label .ensures)
 
@@ -24,7 +27,7 @@ returns : tie.Need-returns
 returns c =
     let t = c .before .before in
     let e = t .before .before in
-    let l = e .before .before .before .before in
+    let l = seeded (e .before) in
     let s = l .before .before .before in
     started (s .args .h) (s .args .blocks .now) _ (s .pre) (s .args .status .now) (l .label .last .0) refl (l .label .ensures)
     (e .enclose .result) (e .enclose .ensures) _ (t .settle .ensures)

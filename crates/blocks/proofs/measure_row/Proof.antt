@@ -27,8 +27,11 @@ begun c = c .before
 few : (c : tie.After-struct-known Inv-loop μ-loop) → let a = begun c .args in Small (a .s) (length (a .dist .now)) (length (a .blocks .now)) (a .row)
 few c = let s = begun c in small _ _ _ _ (s .pre)
 
+abbrev placed : tie.After-struct-known5 Inv-loop μ-loop → tie.After-struct-known Inv-loop μ-loop
+placed c = c .before .before .before .before
+
 abbrev known : tie.After-struct-known7 Inv-loop μ-loop → tie.After-struct-known Inv-loop μ-loop
-known c = c .before .before .before .before .before .before
+known c = placed (c .before .before)
 
 mul-first : tie.Need-mul-first Inv-loop μ-loop
 mul-first c = let m = few c in search needs
@@ -49,13 +52,13 @@ mul-from-2 : tie.Need-mul-from-2 Inv-loop μ-loop
 mul-from-2 c = let m = few (c .before .before .before) in search needs
 
 mul-from-3 : tie.Need-mul-from-3 Inv-loop μ-loop
-mul-from-3 c = let m = few (c .before .before .before .before) in search needs
+mul-from-3 c = let m = few (placed c) in search needs
 
 add-from : tie.Need-add-from Inv-loop μ-loop
-add-from c = let m = few (c .before .before .before .before) in search needs
+add-from c = let m = few (placed c) in search needs
 
 mul-from-4 : tie.Need-mul-from-4 Inv-loop μ-loop
-mul-from-4 c = let m = few (c .before .before .before .before .before) in search needs
+mul-from-4 c = let m = few (placed (c .before)) in search needs
 
 mul-l : tie.Need-mul-l Inv-loop μ-loop
 mul-l c = let m = few (known c) in search needs

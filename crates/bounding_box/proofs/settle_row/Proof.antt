@@ -10,14 +10,11 @@ use borrow.Author.Needs.{needs}
 use Rattle.bounding_box.proofs.settle_row.Statement.{statement}
 use Rattle.bounding_box.proofs.settle_row.Tie as tie
 
-abbrev in-box : tie.After-rim → tie.Then1
-in-box c = c .before .before .before .before
-
-abbrev begun : tie.After-struct-known4 → tie.Start
-begun c = c .before .before .before .before .before
+abbrev in-box : tie.After-struct-known10 → tie.Then1
+in-box c = c .before .before .before
 
 abbrev tested : tie.After-struct-known8 → tie.Start
-tested c = begun (c .before .before .before .before)
+tested c = c .before .before .before .before .before .before .before .before .before
 
 mul-first : tie.Need-mul-first
 mul-first c = search needs
@@ -35,14 +32,14 @@ add-box-row : tie.Need-add-box-row
 add-box-row c = search needs
 
 add-box-row-2 : tie.Need-add-box-row-2
-add-box-row-2 c = let s = tested (c .before .before .before .before) in omega (arith, s .pre .0 .last, s .pre .0 .few, s .pre .1 .x-in)
+add-box-row-2 c = let s = tested (in-box c .before) in omega (arith, s .pre .0 .last, s .pre .0 .few, s .pre .1 .x-in)
 
 rim-requires : tie.Need-rim-requires
 rim-requires c κs = search needs
 
 box-row-requires : tie.Need-box-row-requires
 box-row-requires c κs =
-    let s = tested (in-box c .before) in
+    let s = tested (in-box (c .before) .before) in
     record {
       low-in = omega arith;
       order = omega (arith, s .pre .1 .x-order);
@@ -58,7 +55,7 @@ returns : tie.Need-returns
 returns c =
     let e = c .before .before in
     let r = e .before in
-    let t = in-box r in
+    let t = in-box (r .before) in
     let a = tested (t .before) .args in
     let first = a .sides .a * a .row in
     each-as 0 (rowStatus (first + a .b .x0) (first + a .b .x1) (r .rim .result)) (λ k d. statusIn (a .b) (voxel (a .sides) k) d)

@@ -52,21 +52,24 @@ returns-3 c = refused (c .before .before) (λ d t b u. let z : ⊥ = omega (arit
 returns-4 : tie.Need-returns-4
 returns-4 c = refused (c .before .before .before) (λ d t b u. let z : ⊥ = omega (arith, c .if4 .taken) in z)
 
+abbrev counted : tie.Else4 → tie.After-voxel-count
+counted c = c .before .before .before
+
 returns-5 : tie.Need-returns-5
-returns-5 c = refused (c .before .before .before .before) (λ d t b u. let z : ⊥ = omega (arith, c .if5 .taken) in z)
+returns-5 c = refused (counted (c .before)) (λ d t b u. let z : ⊥ = omega (arith, c .if5 .taken) in z)
 
 -- past the lengths
-abbrev counted : tie.Else5 → tie.After-voxel-count
-counted c = c .before .before .before .before
+abbrev fit : tie.Else5 → tie.Else1
+fit c = counted (c .before) .before
 
 abbrev lent : tie.Else5 → tie.Start
-lent c = begun (counted c .before)
+lent c = begun (fit c)
 
 right : (c : tie.Else5) → let a = lent c .args in (l : FourBuffers) → Lengths l (a .dist) (a .status) (a .block-dist) (a .block-status)
     → Lengths l (size (a .sides)) (size (a .sides)) (size (a .sides) / 8) (size (a .sides) / 8)
 right c l L =
-    let e = counted c .voxel-count .ensures .0 in
     let b = c .before in
+    let e = counted b .voxel-count .ensures .0 in
     let t = b .before in
     record {
       dist-len = omega (arith, L .dist-len, t .before .if2 .left);
@@ -76,7 +79,7 @@ right c l L =
     }
 
 given-refusal-requires : tie.Need-given-refusal-requires
-given-refusal-requires c κs = (fits (counted c .before), lent c .pre)
+given-refusal-requires c κs = (fits (fit c), lent c .pre)
 
 returns-6 : tie.Need-returns-6
 returns-6 c =
@@ -84,7 +87,7 @@ returns-6 c =
     let g = c .before in
     let e = g .before in
     let a = lent e .args in
-    number-given (a .sides) (a .values .now) (a .marks .now) l (fits (counted e .before)) (right e l L) _ (g .given-refusal .ensures)
+    number-given (a .sides) (a .values .now) (a .marks .now) l (fits (fit e)) (right e l L) _ (g .given-refusal .ensures)
     (λ z. let y : ⊥ = omega (arith, c .if6 .taken) in y)
 
 unfit-requires : tie.Need-unfit-requires
@@ -92,7 +95,7 @@ unfit-requires c κs =
     let g = c .before in
     let e = g .before in
     let a = lent e .args in
-    sized (a .sides) (a .values .now) (a .marks .now) (fits (counted e .before)) _ (g .given-refusal .ensures) (omega (arith, c .if6 .left))
+    sized (a .sides) (a .values .now) (a .marks .now) (fits (fit e)) _ (g .given-refusal .ensures) (omega (arith, c .if6 .left))
 
 returns-7 : tie.Need-returns-7
 returns-7 c =
@@ -102,7 +105,7 @@ returns-7 c =
     let g = k .before in
     let e = g .before in
     let a = lent e .args in
-    number-31 (a .sides) (a .values .now) (a .marks .now) l (fits (counted e .before)) (right e l L) _ (g .given-refusal .ensures)
+    number-31 (a .sides) (a .values .now) (a .marks .now) l (fits (fit e)) (right e l L) _ (g .given-refusal .ensures)
     (omega (arith, k .if6 .left)) (sym (u .unfit .ensures) ∙ c .if7 .taken)
 
 returns-8 : tie.Need-returns-8
@@ -113,7 +116,7 @@ returns-8 c =
     let g = k .before in
     let e = g .before in
     let a = lent e .args in
-    number-0 (a .sides) (a .values .now) (a .marks .now) l (fits (counted e .before)) (right e l L) _ (g .given-refusal .ensures)
+    number-0 (a .sides) (a .values .now) (a .marks .now) l (fits (fit e)) (right e l L) _ (g .given-refusal .ensures)
     (omega (arith, k .if6 .left)) (sym (u .unfit .ensures) ∙ c .if7 .left)
 
 pub refusal-spec : {M : Type 1} → statement M

@@ -37,11 +37,13 @@ marked-at c =
     let s = begun t in
     marked-start (s .args .h) (s .args .dist .now) _ (s .pre .0) (s .args .pins .now) _ _ (t .start .ensures) (c .mark-statuses .ensures)
 
+abbrev marked-then : tie.After-voxel-count → tie.After-mark-statuses
+marked-then c = c .before .before .before
+
 carve-all-requires : tie.Need-carve-all-requires
 carve-all-requires c κs =
-    let m = c .before .before .before .before in
-    let t = started m in
-    let s = begun t in
+    let m = marked-then (c .before) in
+    let s = begun (started m) in
     fit-start (s .args .h) (s .args .dist .now) _ (s .pre .0) (s .args .pins .now) _ (marked-at m)
 
 same-length : tie.Need-same-length
@@ -51,7 +53,7 @@ returns : tie.Need-returns
 returns c =
     let e = c .before .before in
     let v = e .before .before in
-    let m = v .before .before .before in
+    let m = marked-then v in
     let s = begun (started m) in
     ran (s .args .h) (s .args .dist .now) _ (s .pre .0) (s .args .pins .now) _ _ _ (e .carve-all .result) (marked-at m)
     (e .carve-all .ensures) (omega (arith, v .voxel-count .ensures .0))

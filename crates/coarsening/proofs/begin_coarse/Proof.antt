@@ -118,10 +118,13 @@ same-length-3 c = search needs
 same-length-4 : tie.Need-same-length-4
 same-length-4 c = search needs
 
+abbrev done : tie.After-ready → tie.After-work-out
+done c = c .before .before .before .before .before .before .before
+
 returns-2 : tie.Need-returns-2
 unfolding beginCoarse
 returns-2 c =
-    let w = c .before .before .before .before .before .before .before in
+    let w = done c in
     let u = handed (w .before) in
     let n = u .before in
     let r = n .before in

@@ -35,11 +35,14 @@ shared-slice-copy-out-d c = search needs
 byte-requires : tie.Need-byte-requires
 byte-requires c κs = search needs
 
+abbrev begun : tie.After-d → tie.Start
+begun c = c .before .before .before .before .before .before
+
 returns : tie.Need-returns
 unfolding isKept isInside
 returns c =
     let d = c .before in
-    let a = d .before .before .before .before .before .before .args in
+    let a = begun d .args in
     let at = statusOf (a .blocks .now) in
     let w : ℤ = distanceAt (a .dist .now) (a .i) in
     let e : toZ w32 (ofZ w32 w) ≡ w = toZ-ofZ (sfits-of (d .d .given)) in

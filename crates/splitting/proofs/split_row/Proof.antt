@@ -15,7 +15,7 @@ abbrev begun : tie.After-struct-known → tie.Start
 begun c = c .before .before .before
 
 abbrev tested : tie.After-struct-known5 → tie.Start
-tested c = begun (c .before .before .before .before)
+tested c = c .before .before .before .before .before .before .before
 
 mul-first : tie.Need-mul-first
 mul-first c = let R = begun c .pre .1 in search needs
@@ -66,21 +66,24 @@ block-row-requires-2 c κs =
     let R = tested (c .before .before .before) .pre .1 in
     record { a-few = R .a-high; b-few = R .b-high; y-few = omega (arith, R .y-in, R .b-high, c .across .ensures); z-few = omega (arith, R .z-in, R .c-high) }
 
+abbrev inner : tie.After-block-row2 → tie.Else1
+inner c = c .before .before .before
+
 across-requires-2 : tie.Need-across-requires-2
-across-requires-2 c κs = let R = tested (c .before .before .before .before) .pre .1 in let i = off-ends (c .before .before .before) in search needs
+across-requires-2 c κs = let e = inner c in let R = tested (e .before) .pre .1 in let i = off-ends e in search needs
 
 block-row-requires-3 : tie.Need-block-row-requires-3
 block-row-requires-3 c κs =
-    let R = tested (c .before .before .before .before .before) .pre .1 in
+    let R = tested (inner (c .before) .before) .pre .1 in
     record { a-few = R .a-high; b-few = R .b-high; y-few = omega (arith, R .y-in, R .b-high); z-few = omega (arith, R .z-in, R .c-high, c .across2 .ensures) }
 
 -- the three rows of blocks
 module _ (c : tie.After-block-row3) where
-  abbrev own : tie.After-block-row
-  own = c .before .before .before .before
-
   abbrev beside : tie.After-block-row2
   beside = c .before .before
+
+  abbrev own : tie.After-block-row
+  own = beside .before .before
 
   abbrev start : tie.Start
   start = tested (own .before .before)
