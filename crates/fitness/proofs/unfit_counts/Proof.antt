@@ -27,12 +27,13 @@ mul-result-2 c = search needs
 returns : tie.Need-returns
 unfolding unfitCounts
 returns c =
-    let s = c .before .before .before .before .before .before in
+    let m = c .before .before .before in
+    let s = m .before .before .before in
     let r = s .args .given in
-    let f : SFits w32 (r .euler) = search (needs, c .before .before .before .before .struct-told .given) in
+    let f : SFits w32 (r .euler) = search (needs, m .before .struct-told .given) in
     ap₂
     (λ (n e : ℕ). ltb (r .allowed) (r .openings) || (ltb n (r .removals) || (ltb (27 * n) (r .examinations) || ltb (8 * n) e)))
-    (s .pre .0) (c .before .before .before .magnitude .ensures .0 ∙ ap natAbs (toZ-ofZ f))
+    (s .pre .0) (m .magnitude .ensures .0 ∙ ap natAbs (toZ-ofZ f))
 
 pub unfit-counts-spec : {M : Type 1} → statement M
 unfit-counts-spec =

@@ -14,16 +14,18 @@ use Rattle.layers.proofs.Reading.{readable}
 use Rattle.layers.proofs.answer_at.Statement.{statement}
 use Rattle.layers.proofs.answer_at.Tie as tie
 
-fits : (c : tie.Else1) → fitSides (c .before .before .before .args .sides) ≡ true
+abbrev begun : tie.Else1 → tie.Start
+begun c = c .before .before .before
+
+fits : (c : tie.Else1) → fitSides (begun c .args .sides) ≡ true
 fits c = sym (c .before .fit-sides .ensures) ∙ not-false _ (c .if1 .left)
 
 -- the number, with the check of the sides before it
-number : (c : tie.After-layer-refusal) →
-    let a = c .before .before .before .before .args in
+number : (c : tie.After-layer-refusal) → let a = begun (c .before) .args in
     c .layer-refusal .result ≡ firstFailing (readLayerChecks (a .sides) (a .file .now) (a .start))
 number c = c .layer-refusal .ensures ∙ sym (holds-first 1 _ _ (ap not (fits (c .before))))
 
-right : (c : tie.Else2) → let a = c .before .before .before .before .before .args in Readable (a .sides) (a .file .now) (a .start)
+right : (c : tie.Else2) → let a = begun (c .before .before) .args in Readable (a .sides) (a .file .now) (a .start)
 right c = readable _ _ _ (fits (c .before .before)) (all-hold _ refl (sym (c .before .layer-refusal .ensures) ∙ c .if2 .left))
 
 fit-sides-requires : tie.Need-fit-sides-requires

@@ -74,9 +74,12 @@ part-fill-layer-start c = search needs
 part-fill-layer-end : tie.Need-part-fill-layer-end
 part-fill-layer-end c = let n = c .before .before in omega (arith, room n, start n .pre .1)
 
+abbrev measured : tie.After-fill-layer-arg → tie.After-area
+measured c = c .before .before .before
+
 fill-layer-requires : tie.Need-fill-layer-requires
 fill-layer-requires c κs =
-    let n = c .before .before .before in
+    let n = measured c in
     let l = found n .layer-at .result in
     let p = lies (found n) in
     let count : ℕ = n .area .result in
@@ -90,7 +93,7 @@ same-length c = search needs
 returns : tie.Need-returns
 returns c =
     let f = c .before in
-    let n = f .before .before .before .before in
+    let n = measured (f .before) in
     let a = start n .args in
     let values = values-from _ _ _ _ _ (f .fill-layer .ensures) (part (found n)) in (
       withLayer-middle (a .sides) (a .file .now) (a .values .now) _ _ _ (n .area .ensures .0) (lies (found n) .z-below) (start n .pre .1) values

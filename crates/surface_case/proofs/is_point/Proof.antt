@@ -16,9 +16,12 @@ enum-told c = search needs
 enum-told-2 : tie.Need-enum-told-2
 enum-told-2 c = search needs
 
+abbrev crossed : tie.After-struct-known3 → tie.After-c
+crossed c = c .before .before .before .before
+
 returns : tie.Need-returns
 returns c =
-    let k = c .before .before .before .before in
+    let k = crossed c in
     let a = k .before .before .args in
     ap (λ (o : Crossed). isPoint (a .x) (a .y) (a .z) (crossedAnswer o)) (sym (k .c .given .1))
 

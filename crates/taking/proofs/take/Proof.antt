@@ -25,6 +25,9 @@ checks c = takeChecks (c .args .marks .now) (c .args .index) (lent-to c)
 take-refusal-requires : tie.Need-take-refusal-requires
 take-refusal-requires c κs = search needs
 
+abbrev begun : tie.After-take-refusal → tie.Start
+begun c = c .before .before .before .before
+
 same-length : tie.Need-same-length
 same-length c = search needs
 
@@ -32,17 +35,15 @@ returns : tie.Need-returns
 unfolding machine.take
 returns c =
     let r = c .before in
-    let s = r .before .before .before .before in
-    let g = lent-to s in
-    call-refused (untouched (lentTo g)) (worked s) (checks s) _ (r .take-refusal .ensures) (c .if1 .taken)
+    let s = begun r in
+    call-refused (untouched (lentTo (lent-to s))) (worked s) (checks s) _ (r .take-refusal .ensures) (c .if1 .taken)
 
 take-fit-requires : tie.Need-take-fit-requires
 take-fit-requires c κs =
     let e = c .before in
     let r = e .before in
-    let s = r .before .before .before .before in
-    let g = lent-to s in
-    takeable g (s .args .marks .now) (s .args .index) (held-none (checks s) _ (r .take-refusal .ensures) refl (e .if1 .left))
+    let s = begun r in
+    takeable (lent-to s) (s .args .marks .now) (s .args .index) (held-none (checks s) _ (r .take-refusal .ensures) refl (e .if1 .left))
 
 same-length-2 : tie.Need-same-length-2
 same-length-2 c = search needs
@@ -53,10 +54,8 @@ returns-2 c =
     let f = c .before .before in
     let e = f .before .before in
     let r = e .before in
-    let s = r .before .before .before .before in
-    let g = lent-to s in
-    call-done (untouched (lentTo g)) (worked s) (checks s) _ (r .take-refusal .ensures) refl (e .if1 .left) _
-    (f .take-fit .ensures)
+    let s = begun r in
+    call-done (untouched (lentTo (lent-to s))) (worked s) (checks s) _ (r .take-refusal .ensures) refl (e .if1 .left) _ (f .take-fit .ensures)
 
 pub take-spec : {M : Type 1} → statement M
 take-spec =

@@ -10,22 +10,24 @@ use Rattle.taking.proofs.take_fit.Tie as tie
 abbrev lent-to : tie.Start → State
 lent-to c = state (c .args .given) (c .args .dist .now) (c .args .status .now)
 
+abbrev begun : tie.After-groups-at-arg → tie.Start
+begun c = c .before .before .before .before
+
 groups-at-requires : tie.Need-groups-at-requires
 groups-at-requires c κs =
-    let s = c .before .before .before .before in
+    let s = begun c in
     let r = take-removable (s .args .marks .now) (s .args .index) (lent-to s) (s .pre) in
     (r .voxel, r .statuses)
 
 remove-requires : tie.Need-remove-requires
 remove-requires c κs =
-    let s = c .before .before .before .before .before .before in
+    let s = begun (c .before .before) in
     take-removable (s .args .marks .now) (s .args .index) (lent-to s) (s .pre)
 
 counted-requires : tie.Need-counted-requires
 counted-requires c κs =
     let r = c .before .before in
-    let s-back = r .before .before .before in
-    let s = s-back .before .before .before .before in
+    let s = begun (r .before .before .before) in
     countable-still (lent-to s) (s .pre .marking .working .fit)
 
 same-length : tie.Need-same-length
@@ -35,7 +37,7 @@ returns : tie.Need-returns
 returns c =
     let r = c .before .before .before in
     let t = r .before .before in
-    let s = t .before .before .before .before .before in
+    let s = begun (t .before) in
     taken-is (mayGo (marked (s .args .marks .now)) (lent-to s .dist)) (lent-to s) (s .args .index) (t .groups-at .result) _ _ (t .groups-at .ensures)
     (c .counted .ensures) (r .remove .ensures)
 

@@ -85,10 +85,13 @@ returns-4 c =
     let e = o .before .before in
     simp (within (voxel e), kept e, outer o, ← p .pinned .ensures, c .if4 .taken)
 
+-- where the voxel may go, by its distance and its mark
+abbrev tested : tie.After-s → tie.Else2
+tested c = c .before .before .before .before .before
+
 passes-at-requires : tie.Need-passes-at-requires
 passes-at-requires c κs =
-    let q = c .before in
-    let e = q .before .before .before .before in
+    let e = tested c in
     let b = voxel e in
     let s = entry b in
     let r = kept-removable (lent-to s) (s .pre .fit) (s .args .index) (below b) (kept e) in

@@ -17,14 +17,16 @@ use Rattle.tallies.proofs.tally_after.Tie as tie
 add-t8 : tie.Need-add-t8
 add-t8 c = search needs
 
-euler-fits : (c : tie.After-struct-told) → SFits w32 (c .before .before .before .before .args .t .euler)
+abbrev begun : tie.After-struct-told → tie.Start
+begun c = c .before .before .before .before
+
+euler-fits : (c : tie.After-struct-told) → SFits w32 (begun c .args .t .euler)
 euler-fits c = search needs
 
 returns : tie.Need-returns
 returns c =
-    let o = c .before .before in
-    let a = o .before .before .args in
-    tally-ordinary (a .s) (a .status .now) (a .i) (a .t) _ refl (a .opens) (not-true _ (o .if1 .taken)) refl (toZ-ofZ (euler-fits c)) refl
+    let a = begun c .args in
+    tally-ordinary (a .s) (a .status .now) (a .i) (a .t) _ refl (a .opens) (not-true _ (c .before .before .if1 .taken)) refl (toZ-ofZ (euler-fits c)) refl
 
 groups-at-requires : tie.Need-groups-at-requires
 groups-at-requires c κs = search needs

@@ -14,12 +14,17 @@ put-word-requires c κs = search needs
 same-length : tie.Need-same-length
 same-length c = search needs
 
+abbrev begun : tie.After-put-number → tie.Start
+begun c = c .before .before .before .before
+
+abbrev numbered : tie.After-put-word → tie.After-put-number
+numbered c = c .before .before .before .before
+
 returns : tie.Need-returns
 returns c =
     let w = c .before .before in
-    let n = w .before .before .before .before in
-    let a = n .before .before .before .before .args in
-    written-then (λ t. a .name .now ++ t) (search needs) (n .put-number .ensures) (w .put-word .ensures)
+    let n = numbered w in
+    written-then (λ t. begun n .args .name .now ++ t) (search needs) (n .put-number .ensures) (w .put-word .ensures)
 
 pub put-field-spec : {M : Type 1} → statement M
 put-field-spec = tie.close (tie.spec put-number-requires put-word-requires same-length returns)

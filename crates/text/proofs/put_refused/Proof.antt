@@ -22,10 +22,13 @@ put-field-requires c κs = search needs
 same-length : tie.Need-same-length
 same-length c = search needs
 
+abbrev spelt : tie.After-put-field → tie.After-put
+spelt c = c .before .before .before .before .before
+
 returns : tie.Need-returns
 returns c =
     let f = c .before .before in
-    let p = f .before .before .before .before .before in
+    let p = spelt f in
     let s = p .before .before .before in
     let room : 160 ≤ length (s .args .out .now) = omega (arith, s .pre) in
     refused-text (s .args .n) (s .pre) (written-then (λ t. refusedWord ++ number (s .args .n) t) room (p .put .ensures) (f .put-field .ensures))

@@ -25,11 +25,13 @@ put-requires c κs = search needs
 loop-less : tie.Need-loop-less Inv-loop μ-loop
 loop-less c = search needs
 
+abbrev turned : tie.After-put Inv-loop μ-loop → tie.At-loop Inv-loop μ-loop
+turned c = c .before .before .before .before
+
 loop-again : tie.Need-loop-again Inv-loop μ-loop
 loop-again c =
     let p = c .before .before in
-    let l = p .before .before .before .before in
-    spelt-next _ _ _ _ _ _ _ _ (search needs) (search needs) (p .put .kept .0) (l .loop .inv) (p .put .ensures)
+    spelt-next _ _ _ _ _ _ _ _ (search needs) (search needs) (p .put .kept .0) (turned p .loop .inv) (p .put .ensures)
 
 same-length : tie.Need-same-length Inv-loop μ-loop
 same-length c = search needs

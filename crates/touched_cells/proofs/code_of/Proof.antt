@@ -22,15 +22,17 @@ layer-code-requires-2 c κs = c .before .before .before .pre .few 1
 array-copy-out-layer-code-3 : tie.Need-array-copy-out-layer-code-3
 array-copy-out-layer-code-3 c = search needs
 
+abbrev begun : tie.After-layer-code2 → tie.Start
+begun c = c .before .before .before .before
+
 layer-code-requires-3 : tie.Need-layer-code-requires-3
-layer-code-requires-3 c κs = c .before .before .before .before .before .pre .few 2
+layer-code-requires-3 c κs = begun (c .before) .pre .few 2
 
 returns : tie.Need-returns
 unfolding bits layerBit blockBit
 returns c =
     let l2 = c .before .before in
-    let l1 = l2 .before .before in
-    three 64 18 (blockBit (l1 .before .before .args .t1)) (lit≤ tt) (l1 .layer-code .ensures) (l2 .layer-code2 .ensures) (c .layer-code3 .ensures)
+    three 64 18 (blockBit (begun l2 .args .t1)) (lit≤ tt) (l2 .before .before .layer-code .ensures) (l2 .layer-code2 .ensures) (c .layer-code3 .ensures)
 
 pub code-of-spec : {M : Type 1} → statement M
 code-of-spec =

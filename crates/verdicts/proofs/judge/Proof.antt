@@ -56,9 +56,12 @@ restored c = c .put-back .ensures ∙ judged c .walk .ensures .back
 fits : (c : tie.After-walk) → SFits w32 (c .walk .result .euler)
 fits c = search needs
 
+abbrev back : tie.After-struct-known2 → tie.After-put-back
+back c = c .before .before .before
+
 returns-2 : tie.Need-returns-2
 returns-2 c =
-    let p = c .before .before .before .before in
+    let p = back (c .before) in
     let w = judged p in
     let e = fit w in
     let r = e .before in
@@ -70,7 +73,7 @@ same-length-3 c = search needs
 returns-3 : tie.Need-returns-3
 returns-3 c =
     let x = c .before in
-    let p = x .before .before .before .before in
+    let p = back (x .before) in
     let w = judged p in
     let e = fit w in
     let r = e .before in

@@ -31,15 +31,17 @@ mul-if1 c = let h = c .before .loop .inv .turn .listed .whole in search needs
 entry-refusal-requires : tie.Need-entry-refusal-requires Inv-loop μ-loop
 entry-refusal-requires c κs = c .before .before .before .loop .inv .turn
 
+abbrev turned : tie.After-entry-refusal Inv-loop μ-loop → tie.At-loop Inv-loop μ-loop
+turned c = c .before .before .before .before
+
 same-length : tie.Need-same-length Inv-loop μ-loop
-same-length c = c .before .before .before .before .before .before .loop .inv .same
+same-length c = turned (c .before .before) .loop .inv .same
 
 returns : tie.Need-returns Inv-loop μ-loop
 returns c =
     let y = c .before in
     let n = y .before in
-    let t = n .before .before in
-    walking-refused _ _ _ _ _ _ _ (t .before .before .loop .inv) (t .if1 .taken) _ (n .entry-refusal .ensures) (y .if2 .taken) _ refl (omega arith)
+    walking-refused _ _ _ _ _ _ _ (turned n .loop .inv) (n .before .before .if1 .taken) _ (n .entry-refusal .ensures) (y .if2 .taken) _ refl (omega arith)
 
 long : (c : tie.At-loop Inv-loop μ-loop) → length (start c .args .list .now) < 2 ^ 64
 long c = search needs
@@ -48,9 +50,8 @@ step-requires : tie.Need-step-requires Inv-loop μ-loop
 step-requires c κs =
     let e = c .before in
     let n = e .before in
-    let t = n .before .before in
-    let l = t .before .before in
-    walking-step _ _ _ _ _ _ _ (l .loop .inv) (t .if1 .taken) _ (n .entry-refusal .ensures) (e .if2 .left) (start l .pre .few) (long l)
+    let l = turned n in
+    walking-step _ _ _ _ _ _ _ (l .loop .inv) (n .before .before .if1 .taken) _ (n .entry-refusal .ensures) (e .if2 .left) (start l .pre .few) (long l)
 
 abbrev stepped : tie.After-slice-known2 Inv-loop μ-loop → tie.After-step Inv-loop μ-loop
 stepped c = c .before .before
@@ -66,15 +67,17 @@ loop-again c =
     let y = stepped c in
     let e = y .before .before in
     let n = e .before in
-    let t = within y in
-    walking-next _ _ _ _ _ _ _ (t .before .before .loop .inv) (t .if1 .taken) _ (n .entry-refusal .ensures) (e .if2 .left) _ _ (y .step .ensures .1)
+    walking-next _ _ _ _ _ _ _ (turned n .loop .inv) (within y .if1 .taken) _ (n .entry-refusal .ensures) (e .if2 .left) _ _ (y .step .ensures .1)
     (y .step .ensures .0)
 
 end-refusal-requires : tie.Need-end-refusal-requires Inv-loop μ-loop
 end-refusal-requires c κs = c .before .before .before .loop .inv .turn
 
+abbrev ended : tie.After-end-refusal Inv-loop μ-loop → tie.At-loop Inv-loop μ-loop
+ended c = c .before .before .before .before
+
 same-length-2 : tie.Need-same-length-2 Inv-loop μ-loop
-same-length-2 c = c .before .before .before .before .before .loop .inv .same
+same-length-2 c = ended (c .before) .loop .inv .same
 
 euler-fits : (c : tie.At-loop Inv-loop μ-loop) → SFits w32 (c .loop .t .euler)
 euler-fits c = let v = c .loop .inv in small-fits _ (omega (arith, v .few, v .small, start c .pre .few))
@@ -82,9 +85,8 @@ euler-fits c = let v = c .loop .inv in small-fits _ (omega (arith, v .few, v .sm
 returns-2 : tie.Need-returns-2 Inv-loop μ-loop
 returns-2 c =
     let n = c .before in
-    let t = n .before .before in
-    let l = t .before .before in
-    walking-end _ _ _ _ _ _ _ (l .loop .inv) (t .if1 .left) _ (n .end-refusal .ensures) _ refl (omega arith) refl (toZ-ofZ (euler-fits l))
+    let l = ended n in
+    walking-end _ _ _ _ _ _ _ (l .loop .inv) (n .before .before .if1 .left) _ (n .end-refusal .ensures) _ refl (omega arith) refl (toZ-ofZ (euler-fits l))
 
 pub walk-spec : {M : Type 1} → statement M
 walk-spec =

@@ -30,29 +30,29 @@ loop-holds c =
 lowest-requires : tie.Need-lowest-requires Inv-loop μ-loop
 lowest-requires c κs = c .loop-test .taken
 
+abbrev start : tie.At-loop Inv-loop μ-loop → tie.Start Inv-loop μ-loop
+start c = c .before .before .before
+
+abbrev turned : tie.After-offset Inv-loop μ-loop → tie.At-loop Inv-loop μ-loop
+turned c = c .before .before .before .before
+
 -- the position of the lowest bit
 position : (c : tie.After-lowest Inv-loop μ-loop) → c .lowest .result / 2 < 27
 position c =
     let l = c .before .before in
-    let s = l .before .before .before in
+    let s = start l in
     lowest-position (s .args .idle) (l .loop .m) (c .lowest .result) (s .pre .0 .few) (l .loop .inv .0) (c .lowest .ensures)
 
 offset-requires : tie.Need-offset-requires Inv-loop μ-loop
 offset-requires c κs =
-    let p = c .before .before .before .before .before .before .pre .0 in
+    let p = start (c .before .before .before) .pre .0 in
     record { row = p .room .row; layer = p .room .layer; below = position (c .before) }
 
-abbrev start : tie.At-loop Inv-loop μ-loop → tie.Start Inv-loop μ-loop
-start c = c .before .before .before
-
-inside :
-    (c : tie.After-offset Inv-loop μ-loop)
-    → let a = start (c .before .before .before .before) .args in a .at + c .offset .result < length (a .status .now)
+inside : (c : tie.After-offset Inv-loop μ-loop) → let a = start (turned c) .args in a .at + c .offset .result < length (a .status .now)
 inside c =
-    let w = c .before .before in
-    let s = w .before .before .before .before .before in
+    let s = start (turned c) in
     let a = s .args in
-    omega (arith, c .offset .ensures, position-below (a .a) (a .l) (a .at) _ (length (a .status .now)) (s .pre .0 .room) (position w))
+    omega (arith, c .offset .ensures, position-below (a .a) (a .l) (a .at) _ (length (a .status .now)) (s .pre .0 .room) (position (c .before .before)))
 
 add-wake-one : tie.Need-add-wake-one Inv-loop μ-loop
 add-wake-one c = let i = inside c in search needs
@@ -60,17 +60,17 @@ add-wake-one c = let i = inside c in search needs
 wake-one-requires : tie.Need-wake-one-requires Inv-loop μ-loop
 wake-one-requires c κs =
     let i = inside c in
-    let l = c .before .before .before .before in
+    let l = turned c in
     let v = l .loop .inv .1 in
-    (omega arith, l .before .before .before .pre .1 ∙ sym v)
+    (omega arith, start l .pre .1 ∙ sym v)
 
 sub-m : tie.Need-sub-m Inv-loop μ-loop
 sub-m c = search needs
 
 loop-less : tie.Need-loop-less Inv-loop μ-loop
 loop-less c =
-    let t-back = c .before .before .before in
-    let t = t-back .before .before .before in
+    let o = c .before .before .before in
+    let t = o .before .before .before in
     let m = t .before .loop .m in
     omega (arith, and-le-r m (m - 1), t .loop-test .taken)
 
@@ -79,9 +79,8 @@ loop-again c =
     let w = c .before .before in
     let o = w .before in
     let t = o .before .before in
-    let l = t .before .before in
-    let s = l .before .before .before in
-    let a = s .args in
+    let l = turned o in
+    let a = start l .args in
     let v = l .loop .inv in (
       omega (arith, v .0, and-le-l (l .loop .m) (l .loop .m - 1)),
       w .wake-one .ensures .same ∙ v .1,
@@ -97,8 +96,7 @@ same-length c = search needs
 returns : tie.Need-returns Inv-loop μ-loop
 returns c =
     let l = c .before in
-    let s = l .before .before .before in
-    let a = s .args in
+    let a = start l .args in
     let z : l .loop .m ≡ 0 = omega (arith, c .loop-test .left) in
     rousing-done (mayGo (marked (a .marks .now)) (a .dist .now)) (a .idle) (fromVoxel (a .a) (a .l) (a .at)) (a .status .now) (l .loop .m) _ (l .loop .inv .2)
     (λ t. ap (λ (m : ℕ). has m t) z ∙ has-beyond 0 0 t (lit< tt) (omega arith))
