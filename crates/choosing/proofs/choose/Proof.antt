@@ -34,24 +34,26 @@ loop-holds c =
 waits-unserved-requires : tie.Need-waits-unserved-requires Inv-loop μ-loop
 waits-unserved-requires c κs = search needs
 
+abbrev at-p : tie.After-waits-unserved Inv-loop μ-loop → tie.At-loop Inv-loop μ-loop
+at-p c = c .before .before .before
+
 -- what is left from p on, by whether something is pending there and p never served
-by : (c : tie.After-waits-unserved Inv-loop μ-loop) (t : Bool) → c .waits-unserved .result ≡ t → let l = c .before .before .before in
+by : (c : tie.After-waits-unserved Inv-loop μ-loop) (t : Bool) → c .waits-unserved .result ≡ t → let l = at-p c in
     let a = l .before .before .args in
     toServe (officeGiven (a .g) (a .o) [] (a .status .now))
     ≡ cond t (some (l .loop .p)) (left (w (a .g) (a .status .now)) (a .g .count) (placesOf (a .o)) (l .loop .p + 1))
 by c t e =
-    let i = c .before in
-    let l = i .before .before in
+    let l = at-p c in
     let a = l .before .before .args in
     l .loop .inv
-    ∙ left-next (w (a .g) (a .status .now)) (a .g .count) (placesOf (a .o)) (l .loop .p) (i .if1 .taken) (c .waits-unserved .result) t e
+    ∙ left-next (w (a .g) (a .status .now)) (a .g .count) (placesOf (a .o)) (l .loop .p) (c .before .if1 .taken) (c .waits-unserved .result) t e
     (c .waits-unserved .ensures)
 
 returns : tie.Need-returns Inv-loop μ-loop
 returns c = let t = c .before in by t true (c .if2 .taken) ∙ found _ _ (t .before .if1 .taken)
 
 add-p : tie.Need-add-p Inv-loop μ-loop
-add-p c = let few = c .before .before .before .before .before .before .pre .laid .sized .few in search needs
+add-p c = let few = at-p (c .before) .before .before .pre .laid .sized .few in search needs
 
 loop-less : tie.Need-loop-less Inv-loop μ-loop
 loop-less c = search needs

@@ -31,25 +31,27 @@ loop-holds c = search needs
 place-at-requires : tie.Need-place-at-requires Inv-loop μ-loop
 place-at-requires c κs = search needs
 
+abbrev begun : tie.After-place-at Inv-loop μ-loop → tie.Start Inv-loop μ-loop
+begun c = c .before .before .before .before .before
+
 -- the place is a grid's
-below : (c : tie.After-place-at Inv-loop μ-loop) → c .place-at .result < c .before .before .before .before .before .args .g .count
+below : (c : tie.After-place-at Inv-loop μ-loop) → c .place-at .result < begun c .args .g .count
 below c =
     let i = c .before in
-    let l = i .before .before in
-    omega (arith, c .place-at .ensures, l .before .before .pre .below (l .loop .k) (i .if1 .taken))
+    omega (arith, c .place-at .ensures, begun c .pre .below (i .before .before .loop .k) (i .if1 .taken))
 
 waits-at-requires : tie.Need-waits-at-requires Inv-loop μ-loop
-waits-at-requires c κs = (c .before .before .before .before .before .pre .laid, below c)
+waits-at-requires c κs = (begun c .pre .laid, below c)
 
 -- the order record from k on, by whether something is pending there
 by : (c : tie.After-waits-at Inv-loop μ-loop) (t : Bool) → c .waits-at .result ≡ t → let p = c .before in let l = p .before .before .before in
-    let a = l .before .before .args in let v = w (a .g) (a .status .now) in
+    let a = begun p .args in let v = w (a .g) (a .status .now) in
     firstWaiting v (placesOf (a .o)) ≡ cond t (some (getD (a .o .places) (l .loop .k) 0)) (rest v (a .o) (l .loop .k + 1))
 by c t e =
     let p = c .before in
     let i = p .before in
     let l = i .before .before in
-    let a = l .before .before .args in
+    let a = begun p .args in
     let v = w (a .g) (a .status .now) in
     l .loop .inv ∙ rest-next v (a .o) (l .loop .k) (i .if1 .taken) t (sym e ∙ c .waits-at .ensures ∙ ap v (p .place-at .ensures))
 
@@ -57,7 +59,7 @@ returns : tie.Need-returns Inv-loop μ-loop
 returns c = let t = c .before in let p = t .before in by t true (c .if2 .taken) ∙ ap some (sym (p .place-at .ensures)) ∙ found _ _ (below p)
 
 add-k : tie.Need-add-k Inv-loop μ-loop
-add-k c = let few = c .before .before .before .before .before .before .before .pre .few in search needs
+add-k c = let few = begun (c .before .before) .pre .few in search needs
 
 loop-less : tie.Need-loop-less Inv-loop μ-loop
 loop-less c = search needs

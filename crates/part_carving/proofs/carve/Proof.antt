@@ -21,10 +21,13 @@ spliced-same : (given : Record) (dist : List ℤ) (status marks : List ℕ) (fro
     → spliced status from to o ≡ spliced status from to (ofParts given dist status marks from to limit)
 spliced-same given dist status marks from to limit o e = ap (spliced status from to) e
 
+abbrev begun : tie.After-carve-checked → tie.Start
+begun c = c .before .before .before .before .before .before .before .before
+
 returns : tie.Need-returns
 returns c =
     let f = c .before .before in
-    let a = f .before .before .before .before .before .before .before .before .args in
+    let a = begun f .args in
     spliced-same (a .given) (a .dist .now) (a .status .now) (a .marks .now) (a .from) (a .to) (a .limit) _ (f .carve-checked .ensures)
 
 pub carve-spec : {M : Type 1} → statement M

@@ -16,6 +16,9 @@ given c = let a = c .args in officeGiven (a .g) (a .o) (a .dist .now) (a .status
 look-requires : tie.Need-look-requires
 look-requires c κs = search needs
 
+abbrev begun : tie.After-look → tie.Start
+begun c = c .before .before .before .before
+
 same-length : tie.Need-same-length
 same-length c = search needs
 
@@ -23,7 +26,7 @@ returns : tie.Need-returns
 unfolding rule.serve
 returns c =
     let l = c .before in
-    let s = l .before .before .before .before in
+    let s = begun l in
     let O = given s in
     let m = s .args .marks .now in
     ap (asStruct (s .args .o)) (call-refused (untouched (left (O .order) (O .dist) (O .status))) (servedAt m (s .args .limit) O (theVoxel (toServe O)))
@@ -33,7 +36,7 @@ serve-at-requires : tie.Need-serve-at-requires
 serve-at-requires c κs =
     let e = c .before in
     let l = e .before in
-    let s = l .before .before .before .before in
+    let s = begun l in
     let m = s .args .marks .now in
     (held-none (serveChecks m (s .args .limit) (given s)) _ (l .look .ensures .number) refl (e .if1 .left), l .look .ensures .place (e .if1 .left))
 

@@ -7,30 +7,33 @@ use Rattle.serving.proofs.serve_at.Tie as tie
 is-ready : (c : tie.Start) → let a = c .args in Ready (a .marks .now) (a .limit) (a .g) (a .o) (a .dist .now) (a .status .now) (a .p)
 is-ready c = let a = c .args in ready (a .marks .now) (a .limit) (a .g) (a .o) (a .dist .now) (a .status .now) (a .p) (c .pre .0) (c .pre .1)
 
+abbrev begun : tie.After-start-of → tie.Start
+begun c = c .before .before .before
+
 start-of-requires : tie.Need-start-of-requires
 start-of-requires c κs = let r = is-ready (c .before .before) in search needs
 
 add-start-of : tie.Need-add-start-of
-add-start-of c = let r = is-ready (c .before .before .before) in search needs
+add-start-of c = let r = is-ready (begun c) in search needs
 
 start-of-requires-2 : tie.Need-start-of-requires-2
-start-of-requires-2 c κs = let r = is-ready (c .before .before .before) in search needs
+start-of-requires-2 c κs = let r = is-ready (begun c) in search needs
 
 record-at-requires : tie.Need-record-at-requires
-record-at-requires c κs = let r = is-ready (c .before .before .before .before) in search needs
+record-at-requires c κs = let r = is-ready (begun (c .before)) in search needs
 
 cast-place : tie.Need-cast-place
-cast-place c = let r = is-ready (c .before .before .before .before .before) in search needs
+cast-place c = let r = is-ready (begun (c .before .before)) in search needs
 
 served-last-requires : tie.Need-served-last-requires
-served-last-requires c κs = let r = is-ready (c .before .before .before .before .before) in search needs
+served-last-requires c κs = let r = is-ready (begun (c .before .before)) in search needs
 
 carve-requires : tie.Need-carve-requires
 carve-requires c κs =
     let g = c .before .before in
     let t = g .before in
     let f = t .before in
-    let s = f .before .before .before in
+    let s = begun f in
     let a = s .args in (
       within (a .marks .now) (a .limit) (a .g) (a .o) (a .dist .now) (a .status .now) (a .p) (is-ready s) _ _ (f .start-of .ensures)
           (t .start-of2 .ensures) _ (g .record-at .ensures),
@@ -51,7 +54,7 @@ returns c =
     let g = l .before in
     let t = g .before in
     let f = t .before in
-    let s = f .before .before .before in
+    let s = begun f in
     let a = s .args in
     served-is (a .marks .now) (a .limit) (a .g) (a .o) (a .dist .now) (a .status .now) (a .p) (is-ready s) _ _ (f .start-of .ensures) (t .start-of2 .ensures) _
     (g .record-at .ensures) _ _ _ _ (c .placed .ensures) (l .served-last .ensures) (v .carve .ensures)

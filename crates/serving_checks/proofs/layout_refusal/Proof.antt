@@ -19,8 +19,11 @@ returns : tie.Need-returns
 returns c = sym (fails-first 34 _ _ (c .if1 .taken))
 
 -- past 34
-few : (c : tie.Else1) → c .before .before .before .args .g .count ≤ 16
-few c = let a = c .before .before .before .args in few-grids (a .limit) (a .g .count) (c .if1 .left)
+abbrev begun : tie.Else1 → tie.Start
+begun c = c .before .before .before
+
+few : (c : tie.Else1) → begun c .args .g .count ≤ 16
+few c = let a = begun c .args in few-grids (a .limit) (a .g .count) (c .if1 .left)
 
 unfit-sides-requires : tie.Need-unfit-sides-requires
 unfit-sides-requires c κs = few c
@@ -31,22 +34,21 @@ returns-2 c =
     sym (holds-first 34 _ _ (u .before .if1 .left) ∙ fails-first 1 _ _ (sym (u .unfit-sides .ensures) ∙ c .if2 .taken))
 
 -- past 1
-fit : (c : tie.Else2) → any (λ r. not (fitSides (r .sides))) (recordsOf (c .before .before .before .before .before .args .g)) ≡ false
+fit : (c : tie.Else2) → any (λ r. not (fitSides (r .sides))) (recordsOf (begun (c .before .before) .args .g)) ≡ false
 fit c = sym (c .before .unfit-sides .ensures) ∙ c .if2 .left
 
 start-of-requires : tie.Need-start-of-requires
 start-of-requires c κs =
-    let e = c .before .before in
-    (sized (e .before .before .before .args .g) (few e) (fit c), search needs)
+    let e = c .before .before in (sized (begun e .args .g) (few e) (fit c), search needs)
 
 -- what is left to check: the lengths against the sum of the sizes
-behind : (c : tie.After-start-of) → let u = c .before .before in let a = u .before .before .before .before .args in let n = c .start-of .result in
+behind : (c : tie.After-start-of) → let a = begun (c .before .before .before) .args in let n = c .start-of .result in
     firstFailing (layoutChecks (a .limit) (a .g) (a .dist) (a .status) (a .marks))
     ≡ firstFailing (2 when not (eqb (a .dist) n && (eqb (a .status) n && eqb (a .marks) n)) ∷ [])
 behind c =
     let e = c .before in
     let u = e .before in
-    let a = u .before .before .before .before .args in
+    let a = begun (u .before) .args in
     holds-first 34 _ _ (u .before .if1 .left) ∙ holds-first 1 _ _ (fit e)
     ∙ ap (λ (n : ℕ). firstFailing (2 when not (eqb (a .dist) n && (eqb (a .status) n && eqb (a .marks) n)) ∷ []))
     (sym (c .start-of .ensures ∙ all-sizes (a .g)))

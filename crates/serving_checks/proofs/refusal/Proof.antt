@@ -69,11 +69,14 @@ returns-3 c =
     let u = e .before in
     behind (u .before .before) 29 (sym (holds-first 7 _ _ (sevens u ∙ e .if2 .left) ∙ fails-first 29 _ _ (sym (t .stray .ensures) ∙ c .if3 .taken)))
 
+abbrev laid : tie.Else3 → tie.Else1
+laid c = c .before .before .before .before .before
+
 any-finished-requires : tie.Need-any-finished-requires
-any-finished-requires c κs = right (c .before .before .before .before .before) .sized .few
+any-finished-requires c κs = right (laid c) .sized .few
 
 -- what is left to check: 8
-left : (c : tie.After-any-finished) → let t = c .before .before in let s = begun (t .before .before .before .before .before) in
+left : (c : tie.After-any-finished) → let s = begun (laid (c .before) .before) in
     firstFailing (rest s) ≡ firstFailing (8 when c .any-finished .result ∷ [])
 left c =
     let f = c .before in
@@ -84,15 +87,11 @@ left c =
     ∙ ap (λ (t : Bool). firstFailing (8 when t ∷ [])) (sym (c .any-finished .ensures))
 
 returns-4 : tie.Need-returns-4
-returns-4 c =
-    let f = c .before in
-    behind (f .before .before .before .before .before .before) 8 (sym (left f ∙ fails-first 8 _ [] (c .if4 .taken)))
+returns-4 c = let f = c .before in behind (laid (f .before)) 8 (sym (left f ∙ fails-first 8 _ [] (c .if4 .taken)))
 
 returns-5 : tie.Need-returns-5
 unfolding firstFailing
-returns-5 c =
-    let f = c .before in
-    behind (f .before .before .before .before .before .before) 0 (sym (left f ∙ holds-first 8 _ [] (c .if4 .left)))
+returns-5 c = let f = c .before in behind (laid (f .before)) 0 (sym (left f ∙ holds-first 8 _ [] (c .if4 .left)))
 
 pub refusal-spec : {M : Type 1} → statement M
 refusal-spec =
