@@ -1,6 +1,7 @@
 -- `closing::quiet_refusal` meets its contract: the checks of a call that works, then number 13.
 use mathlib.Core.Path.{_≡_, refl, sym, _∙_}
-use mathlib.Core.List.{[]}
+use mathlib.Core.List.{[], _++_}
+use Prim.Native.Nat.{ℕ}
 use borrow.Author.Needs.{needs}
 use Rattle.rules.specs.Machine.{State, state, workingChecks, quietChecks}
 use Rattle.rules.specs.Status.{anyPending}
@@ -38,24 +39,16 @@ pending c =
     let w = working g (all-hold (workingChecks g) refl (sym (r .working-refusal .ensures) ∙ e .if1 .left)) in
     c .any-pending .ensures ∙ any-pending-is g (w .fit .voxels .lent .statuses)
 
+behind : (c : tie.After-any-pending) → let g = lent-to (begun c) in (n : ℕ) → n ≡ firstFailing (quietChecks g)
+    → n ≡ firstFailing (workingChecks g ++ quietChecks g)
+behind c = let e = c .before in held-first _ _ _ (e .before .working-refusal .ensures) refl (e .if1 .left)
+
 returns-2 : tie.Need-returns-2
-returns-2 c =
-    let p = c .before in
-    let e = p .before in
-    let r = e .before in
-    let g = lent-to (r .before .before) in
-    held-first (workingChecks g) (quietChecks g) _ (r .working-refusal .ensures) refl (e .if1 .left) 13
-    (sym (fails-first 13 _ [] (sym (pending p) ∙ c .if2 .taken)))
+returns-2 c = let p = c .before in behind p 13 (sym (fails-first 13 _ [] (sym (pending p) ∙ c .if2 .taken)))
 
 returns-3 : tie.Need-returns-3
 unfolding firstFailing
-returns-3 c =
-    let p = c .before in
-    let e = p .before in
-    let r = e .before in
-    let g = lent-to (r .before .before) in
-    held-first (workingChecks g) (quietChecks g) _ (r .working-refusal .ensures) refl (e .if1 .left) 0
-    (sym (holds-first 13 _ [] (sym (pending p) ∙ c .if2 .left)))
+returns-3 c = let p = c .before in behind p 0 (sym (holds-first 13 _ [] (sym (pending p) ∙ c .if2 .left)))
 
 pub quiet-refusal-spec : {M : Type 1} → statement M
 quiet-refusal-spec =

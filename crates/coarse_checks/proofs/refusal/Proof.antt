@@ -86,8 +86,7 @@ returns-6 c =
     λ l L.
     let g = c .before in
     let e = g .before in
-    let a = lent e .args in
-    number-given (a .sides) (a .values .now) (a .marks .now) l (fits (fit e)) (right e l L) _ (g .given-refusal .ensures)
+    number-given _ _ _ l (fits (fit e)) (right e l L) _ (g .given-refusal .ensures)
     (λ z. let y : ⊥ = omega (arith, c .if6 .taken) in y)
 
 unfit-requires : tie.Need-unfit-requires
@@ -104,8 +103,7 @@ returns-7 c =
     let k = u .before in
     let g = k .before in
     let e = g .before in
-    let a = lent e .args in
-    number-31 (a .sides) (a .values .now) (a .marks .now) l (fits (fit e)) (right e l L) _ (g .given-refusal .ensures)
+    number-31 _ _ _ l (fits (fit e)) (right e l L) _ (g .given-refusal .ensures)
     (omega (arith, k .if6 .left)) (sym (u .unfit .ensures) ∙ c .if7 .taken)
 
 returns-8 : tie.Need-returns-8
@@ -115,8 +113,7 @@ returns-8 c =
     let k = u .before in
     let g = k .before in
     let e = g .before in
-    let a = lent e .args in
-    number-0 (a .sides) (a .values .now) (a .marks .now) l (fits (fit e)) (right e l L) _ (g .given-refusal .ensures)
+    number-0 _ _ _ l (fits (fit e)) (right e l L) _ (g .given-refusal .ensures)
     (omega (arith, k .if6 .left)) (sym (u .unfit .ensures) ∙ c .if7 .left)
 
 pub refusal-spec : {M : Type 1} → statement M

@@ -11,14 +11,11 @@ use Rattle.opening.proofs.open_next.Tie as tie
 abbrev lent-to : tie.Start → State
 lent-to c = state (c .args .given) (c .args .dist .now) (c .args .status .now)
 
-abbrev begun : tie.After-open-refusal → tie.Start
-begun c = c .before .before .before .before
-
 abbrev unrefused : tie.After-to-open → tie.Else1
 unrefused c = c .before .before .before
 
 abbrev at : tie.After-to-open → tie.Start
-at c = begun (unrefused c .before)
+at c = c .before .before .before .before .before .before .before .before
 
 -- the search in the rule's words
 searched : (c : tie.After-to-open) → found (c .to-open .result) ≡ toOpen (mayGo (marked (at c .args .marks .now)) (lent-to (at c) .dist)) (lent-to (at c))
@@ -32,19 +29,10 @@ same-length : tie.Need-same-length
 same-length c = search needs
 
 returns : tie.Need-returns
-returns c =
-    let r = c .before in
-    let s = begun r in
-    open-refused (s .args .marks .now) (lent-to s) _ (r .open-refusal .ensures) (c .if1 .taken)
+returns c = open-refused _ _ _ (c .before .open-refusal .ensures) (c .if1 .taken)
 
 to-open-requires : tie.Need-to-open-requires
-to-open-requires c κs =
-    let e = c .before .before in
-    let r = e .before in
-    let s = begun r in
-    let g = lent-to s in
-    let m = s .args .marks .now in
-    searchable m g (open-fit m g _ (r .open-refusal .ensures) (e .if1 .left))
+to-open-requires c κs = let e = c .before .before in searchable _ _ (open-fit _ _ _ (e .before .open-refusal .ensures) (e .if1 .left))
 
 enum-known-next : tie.Need-enum-known-next
 enum-known-next c = search needs
@@ -59,22 +47,14 @@ returns-2 : tie.Need-returns-2
 returns-2 c =
     let t = c .before .before in
     let e = unrefused t in
-    let r = e .before in
-    let s = begun r in
-    let g = lent-to s in
-    let m = s .args .marks .now in
-    open-nothing m g _ (r .open-refusal .ensures) (e .if1 .left) (sym (searched t) ∙ ap found (c .enum-told .given .1))
+    open-nothing _ (lent-to (at t)) _ (e .before .open-refusal .ensures) (e .if1 .left) (sym (searched t) ∙ ap found (c .enum-told .given .1))
 
 open-at-requires : tie.Need-open-at-requires
 open-at-requires c κs =
     let x = c .before .before in
     let t = x .before .before in
     let e = unrefused t in
-    let r = e .before in
-    let s = begun r in
-    let g = lent-to s in
-    let m = s .args .marks .now in
-    opens-at m g _ (r .open-refusal .ensures) (e .if1 .left) _ (sym (searched t) ∙ ap found (x .next .given .1))
+    opens-at _ (lent-to (at t)) _ (e .before .open-refusal .ensures) (e .if1 .left) _ (sym (searched t) ∙ ap found (x .next .given .1))
 
 same-length-3 : tie.Need-same-length-3
 same-length-3 c = search needs
@@ -85,11 +65,7 @@ returns-3 c =
     let x = o .before .before .before in
     let t = x .before .before in
     let e = unrefused t in
-    let r = e .before in
-    let s = begun r in
-    let g = lent-to s in
-    let m = s .args .marks .now in
-    open-done m g _ (r .open-refusal .ensures) (e .if1 .left) _ (sym (searched t) ∙ ap found (x .next .given .1)) _ (o .open-at .ensures)
+    open-done _ (lent-to (at t)) _ (e .before .open-refusal .ensures) (e .if1 .left) _ (sym (searched t) ∙ ap found (x .next .given .1)) _ (o .open-at .ensures)
 
 pub open-next-spec : {M : Type 1} → statement M
 open-next-spec =

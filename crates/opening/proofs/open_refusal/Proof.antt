@@ -1,5 +1,6 @@
 -- `opening::open_refusal` meets its contract: the checks with marks, then 13 and 14.
 use mathlib.Core.List.{List, [], _∷_, _++_}
+use Prim.Native.Nat.{ℕ}
 use mathlib.Core.Path.{_≡_, refl, sym, _∙_}
 use borrow.Author.Needs.{needs}
 use borrow.Author.Tests.{eq-eqb, ne-eqb}
@@ -51,13 +52,15 @@ pending c =
     let m = marking g (s .args .marks .now) (held-none (lent s) _ (r .marked-refusal .ensures) refl (e .if1 .left)) in
     c .any-pending .ensures ∙ any-pending-is g (m .working .fit .voxels .lent .statuses)
 
+behind : (c : tie.Else1) → let s = start (c .before) in (n : ℕ) → n ≡ firstFailing (last s) → n ≡ firstFailing (lent s ++ last s)
+behind c = let s = start (c .before) in held-first (lent s) (last s) _ (c .before .marked-refusal .ensures) refl (c .if1 .left)
+
 returns-2 : tie.Need-returns-2
-returns-2 c =
-    let p = c .before in
-    let e = p .before in
-    let s = start (e .before) in
-    held-first (lent s) (last s) _ (e .before .marked-refusal .ensures) refl (e .if1 .left) 13
-    (sym (fails-first 13 _ (spent s) (sym (pending p) ∙ c .if2 .taken)))
+returns-2 c = let p = c .before in behind (p .before) 13 (sym (fails-first 13 _ _ (sym (pending p) ∙ c .if2 .taken)))
+
+-- what is left to check: 14
+left : (c : tie.Else2) → let s = start (c .before .before .before) in firstFailing (last s) ≡ firstFailing (spent s)
+left c = holds-first 13 _ _ (sym (pending (c .before)) ∙ c .if2 .left)
 
 cast-allowed : tie.Need-cast-allowed
 cast-allowed c = search needs
@@ -65,21 +68,13 @@ cast-allowed c = search needs
 returns-3 : tie.Need-returns-3
 returns-3 c =
     let q = c .before .before .before in
-    let p = q .before in
-    let e = p .before in
-    let s = start (e .before) in
-    held-first (lent s) (last s) _ (e .before .marked-refusal .ensures) refl (e .if1 .left) 14
-    (sym (holds-first 13 _ (spent s) (sym (pending p) ∙ q .if2 .left) ∙ fails-first 14 _ [] (eq-eqb _ _ (c .if3 .taken))))
+    behind (q .before .before) 14 (sym (left q ∙ fails-first 14 _ [] (eq-eqb _ _ (c .if3 .taken))))
 
 returns-4 : tie.Need-returns-4
 unfolding firstFailing
 returns-4 c =
     let q = c .before .before .before in
-    let p = q .before in
-    let e = p .before in
-    let s = start (e .before) in
-    held-first (lent s) (last s) _ (e .before .marked-refusal .ensures) refl (e .if1 .left) 0
-    (sym (holds-first 13 _ (spent s) (sym (pending p) ∙ q .if2 .left) ∙ holds-first 14 _ [] (ne-eqb _ _ (c .if3 .left))))
+    behind (q .before .before) 0 (sym (left q ∙ holds-first 14 _ [] (ne-eqb _ _ (c .if3 .left))))
 
 pub open-refusal-spec : {M : Type 1} → statement M
 open-refusal-spec =
