@@ -194,7 +194,7 @@ same-distances s T T′ values marks marks′ dist status lent r c p q =
     plain ∙ sym coarse
 
 -- marks that pin nothing ask nothing of the calls before
-pins-none : (lent : List ℕ) → ((j : ℕ) → marked lent .pinned j ≡ false) → (calls : List Call) (g : State) → Pins lent g calls
+pub pins-none : (lent : List ℕ) → ((j : ℕ) → marked lent .pinned j ≡ false) → (calls : List Call) (g : State) → Pins lent g calls
 pins-none lent none calls g =
     all-lend-map (λ marks. Unit {0}) (λ marks. (j : ℕ) → marked lent .pinned j ≡ true → marked marks .pinned j ≡ true)
     (λ marks u j e. not-both (marked lent .pinned j) e (none j)) calls g (all-lend-any calls g)

@@ -20,12 +20,12 @@ use Rattle.coarse.specs.Promises.{FromCoarse}
 use Rattle.rules.proofs.Inside.{inside-one-piece}
 use Rattle.rules.proofs.Foremost.{farther-order, none-first}
 use Rattle.rules.proofs.Topology.Calls.{Good}
-use Rattle.rules.proofs.Demand.{all-held, all-lend-map, all-lend-any, Startable, startState, FromStart, from-begin}
+use Rattle.rules.proofs.Demand.{all-held, Startable, startState, FromStart, from-begin}
 use Rattle.rules.proofs.Border.{gone-open, open-gone, one-piece}
 use Rattle.rules.proofs.Fifteen.{unpinned-walls, fifteen-tells-after, same-kept}
 use Rattle.judging.specs.Guarantee.{AcceptedList, leftBy, NoneExposed, ClosedIn, ListClosed, FifteenOfLists, CoarseFifteenOfLists, SameLeft}
 use Rattle.judging.specs.Guarantee.{TwoFirmsAgree, CoarseFirmsAgree, PlainAndCoarseFirmsAgree, SameAsOurs, TheirsAndOurs, CoarseTheirsAndOurs}
-use Rattle.coarse.proofs.Promises.{from-coarse}
+use Rattle.coarse.proofs.Promises.{from-coarse, pins-none}
 use Rattle.judging.proofs.Starts.{same-inside}
 use Rattle.judging.proofs.Guarantee.{left-stands, left-kept}
 
@@ -157,11 +157,10 @@ pub same-as-ours : FromStart SameAsOurs
 same-as-ours s T values marks start from calls lent unpinned fifteen l closed i h =
     let S = inside s values in
     let begun = startState s T values (marked marks) start in
-    let pins = all-lend-map (λ marks. Unit {0}) (λ given. (j : ℕ) → marked lent .pinned j ≡ true → marked given .pinned j ≡ true)
-    (λ given u j e. not-both (marked lent .pinned j) e (unpinned j)) calls begun (all-lend-any calls begun) in
     ap (λ (kept : ℕ → Bool). kept i) (left-kept s T values marks start from l)
     ∙ same-kept s S [] S lent (status s T values marks start from l) (run calls begun .end .status) start start
-    (only-closed s T values marks start from l closed) (fifteen-tells-after s T values marks start from calls lent pins fifteen)
+    (only-closed s T values marks start from l closed)
+    (fifteen-tells-after s T values marks start from calls lent (pins-none lent unpinned calls begun) fifteen)
     (λ j b. unpinned-walls S [] start j (unmarked-unpinned j) ∙ sym (unpinned-walls S lent start j (unpinned j))) i h
 
 pub theirs-and-ours : TheirsAndOurs

@@ -9,20 +9,15 @@ use native.Mathlib.Omega.{arith}
 use lib.IntN.{ℤ, pos}
 use lib.ListN.{length, set}
 use lib.Seq.{getD-set-same, getD-set-other}
-use Rattle.prelude.proofs.Bools.{not-both}
 use Rattle.rules.specs.declared.Sides.{Sides}
 use Rattle.rules.specs.Grid.{size, isIn, missing, measuredNonNegative}
 use Rattle.rules.specs.Fill.{filled}
 use Rattle.rules.specs.Begin.{inside}
-use Rattle.rules.specs.Marks.{marked}
 use Rattle.rules.specs.Status.{isKept}
-use Rattle.rules.specs.Machine.{State}
-use Rattle.rules.specs.Demand.{Call}
-use Rattle.rules.specs.Fifteen.{OpenToBorder, Pins, OnlyClosedIn}
-use Rattle.rules.proofs.Demand.{all-lend-map, all-lend-any}
+use Rattle.rules.specs.Fifteen.{OpenToBorder, OnlyClosedIn}
 use Rattle.rules.proofs.Fifteen.{unpinned-walls, fifteen-tells}
 use Rattle.coarse.proofs.Examples.{coarse-rules}
-use Rattle.coarse.proofs.Promises.{coarse-fifteen-tells}
+use Rattle.coarse.proofs.Promises.{pins-none, coarse-fifteen-tells}
 use Rattle.judging.specs.Own.{PinNothing}
 use Rattle.judging.proofs.Closed.{fifteen-of-lists, coarse-fifteen-of-lists}
 use Rattle.coarse.specs.Starts.{AcceptedGrid, plain, coarse, handedBy}
@@ -31,12 +26,6 @@ use Rattle.shaky.specs.Bodies.{NothingToOpen, after-calls, after-list, S
 use Rattle.shaky.proofs.Shaky.{many-shaky-shots}
 
 -- ---- nothing is left to open
-
--- marks that pin nothing ask nothing of the calls before
-pins-none : (lent : List ℕ) → PinNothing lent → (calls : List Call) (g : State) → Pins lent g calls
-pins-none lent none calls g =
-    all-lend-map (λ marks. Unit {0}) (λ marks. (j : ℕ) → marked lent .pinned j ≡ true → marked marks .pinned j ≡ true)
-    (λ marks u j e. not-both (marked lent .pinned j) e (none j)) calls g (all-lend-any calls g)
 
 -- the voxels gone are those open to the border past S
 abbrev GoneIsOpen : Sides → (ℕ → Bool) → (ℕ → Bool) → Type 0
