@@ -12,7 +12,7 @@ use Rattle.loops.specs.Rows.{Row}
 use Rattle.loops.proofs.Rows.{row-of, row-voxel, rows-few, rows-all}
 use Rattle.coarse.specs.Blocks.{halved, partOf, eight}
 use Rattle.coarse.specs.Eight.{Even}
-use Rattle.blocks.specs.Work.{corners, BlockRow}
+use Rattle.blocks.specs.Work.{corners, BlockRow, Blocked}
 
 -- the voxel of a block at an offset
 part-at : (s : Sides) (v : Voxel) (o n at : ℕ) → n ≡ o % 2 + s .a * (o / 2 % 2) + s .a * s .b * (o / 4)
@@ -120,6 +120,10 @@ small s n blocks r R =
     }
 
 -- ---- how many rows and blocks there are
+
+-- a row below the last, in blocks as many as at the start
+pub row-blocked : {s : Sides} {n blocks now r : ℕ} → Blocked s n blocks → now ≡ blocks → r < s .b / 2 * (s .c / 2) → BlockRow s n now r
+row-blocked B e h = record { blocked = rw e B; row-in = h }
 
 pub rows-low : (s : Sides) → fitSides (halved s) ≡ true → s .b / 2 * (s .c / 2) ≤ 4096
 unfolding halved

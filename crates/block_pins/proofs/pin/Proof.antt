@@ -1,5 +1,4 @@
 -- `pin`: the rows before this one are written.
-use mathlib.Core.Path.{_∙_}
 use Prim.Native.Nat.{_*_, _-_, _/_, _≤_}
 use native.Mathlib.Omega.{arith}
 use native.Mathlib.Nat.{mul-zero}
@@ -10,7 +9,7 @@ use Rattle.loops.proofs.InPlace.{each-none, each-all}
 use Rattle.loops.proofs.Rows.{each-row}
 use Rattle.rules.specs.Marks.{marked}
 use Rattle.block_pins.specs.Pins.{pinAt}
-use Rattle.blocks.proofs.Rows.{rows-low, past-rows}
+use Rattle.blocks.proofs.Rows.{rows-low, past-rows, row-blocked}
 use Rattle.block_pins.proofs.Pins.{pins-are}
 use Rattle.block_pins.proofs.pin.Statement.{statement}
 use Rattle.block_pins.proofs.pin.Tie as tie
@@ -37,17 +36,7 @@ pin-row-requires : tie.Need-pin-row-requires Inv-loop μ-loop
 pin-row-requires c κs =
     let t = c .before in
     let l = t .before in
-    let B = begun (l .before) .pre in
-    record {
-      blocked = record {
-        sides = B .sides;
-        half-sides = B .half-sides;
-        even = B .even;
-        len = B .len;
-        blocks-len = l .loop .inv .1 .len ∙ B .blocks-len;
-      };
-      row-in = t .loop-test .taken;
-    }
+    row-blocked (begun (l .before) .pre) (l .loop .inv .1 .len) (t .loop-test .taken)
 
 add-row : tie.Need-add-row Inv-loop μ-loop
 add-row c =

@@ -1,5 +1,4 @@
 -- `measure`: the rows before this one are written.
-use mathlib.Core.Path.{_∙_}
 use Prim.Native.Nat.{_*_, _-_, _/_, _≤_}
 use native.Mathlib.Omega.{arith}
 use native.Mathlib.Nat.{mul-zero}
@@ -10,7 +9,7 @@ use Rattle.loops.specs.InPlace.{Each}
 use Rattle.loops.proofs.InPlace.{each-none, each-all}
 use Rattle.loops.proofs.Rows.{each-row}
 use Rattle.coarse.specs.Blocks.{blockDistance, blockDistances}
-use Rattle.blocks.proofs.Rows.{rows-low, past-rows}
+use Rattle.blocks.proofs.Rows.{rows-low, past-rows, row-blocked}
 use Rattle.blocks.proofs.measure.Statement.{statement}
 use Rattle.blocks.proofs.measure.Tie as tie
 
@@ -33,17 +32,7 @@ measure-row-requires : tie.Need-measure-row-requires Inv-loop μ-loop
 measure-row-requires c κs =
     let t = c .before in
     let l = t .before in
-    let B = begun (l .before) .pre in
-    record {
-      blocked = record {
-        sides = B .sides;
-        half-sides = B .half-sides;
-        even = B .even;
-        len = B .len;
-        blocks-len = l .loop .inv .1 .len ∙ B .blocks-len;
-      };
-      row-in = t .loop-test .taken;
-    }
+    row-blocked (begun (l .before) .pre) (l .loop .inv .1 .len) (t .loop-test .taken)
 
 add-row : tie.Need-add-row Inv-loop μ-loop
 add-row c =
