@@ -19,8 +19,8 @@ Inv-loop d sides b₀ rows row₀ b row = (row ≤ rows) × Bounded sides d (sid
 abbrev μ-loop : tie.MeasureT-loop
 μ-loop d sides b₀ rows row₀ b row = rows - row
 
-abbrev begun : tie.In-loop Inv-loop μ-loop → tie.Start Inv-loop μ-loop
-begun c = c .before .before .before .before
+abbrev begun : tie.At-loop Inv-loop μ-loop → tie.Start Inv-loop μ-loop
+begun c = c .before .before .before
 
 mul-rows : tie.Need-mul-rows Inv-loop μ-loop
 mul-rows c = let s = c .before .before in omega (arith, rows-few (s .args .sides) (s .pre .fit))
@@ -32,8 +32,8 @@ loop-holds c =
     (omega arith, subst (λ (n : ℕ). Bounded (a .sides) (a .d .now) n none) (sym (mul-zero (a .sides .a))) (bounded-none (a .sides) (a .d .now)))
 
 -- the row at hand
-row-at : (c : tie.In-loop Inv-loop μ-loop) → let l = c .before in let a = l .before .before .before .args in Row (a .sides) (length (a .d .now)) (l .loop .row)
-row-at c = let l = c .before in let s = l .before .before .before in row-of (s .args .sides) _ (l .loop .row) (s .pre .fit) (s .pre .len) (c .loop-test .taken)
+row-at : (c : tie.In-loop Inv-loop μ-loop) → let l = c .before in let a = begun l .args in Row (a .sides) (length (a .d .now)) (l .loop .row)
+row-at c = let l = c .before in let s = begun l in row-of (s .args .sides) _ (l .loop .row) (s .pre .fit) (s .pre .len) (c .loop-test .taken)
 
 widened-requires : tie.Need-widened-requires Inv-loop μ-loop
 widened-requires c κs = row-at c
@@ -41,7 +41,7 @@ widened-requires c κs = row-at c
 add-row : tie.Need-add-row Inv-loop μ-loop
 add-row c =
     let t = c .before in
-    let s = begun t in
+    let s = begun (t .before) in
     omega (arith, t .loop-test .taken, rows-few (s .args .sides) (s .pre .fit))
 
 loop-less : tie.Need-loop-less Inv-loop μ-loop
@@ -51,7 +51,7 @@ loop-again : tie.Need-loop-again Inv-loop μ-loop
 loop-again c =
     let t = c .before in
     let l = t .before in
-    let a = l .before .before .before .args in
+    let a = begun l .args in
     let r = row-at t in (
       omega (arith, t .loop-test .taken),
       bounded-more (a .sides) (a .d .now) (l .loop .row) (l .loop .b) (c .widened .result) (l .loop .inv .1) (r .y-in)
@@ -61,7 +61,7 @@ loop-again c =
 returns : tie.Need-returns Inv-loop μ-loop
 returns c =
     let l = c .before in
-    let s = l .before .before .before in
+    let s = begun l in
     bounded-all (s .args .sides) (s .args .d .now) (l .loop .row) (l .loop .b) (s .pre) (omega (arith, l .loop .inv .0, c .loop-test .left)) (l .loop .inv .1)
 
 pub enclose-spec : {M : Type 1} → statement M
