@@ -65,7 +65,7 @@ CALLS = {
 
 
 def library():
-    found = CDLL("libwattlerugby.so.0.15")
+    found = CDLL("libwattlerugby.so.1")
     for symbol, (answer, takes) in CALLS.items():
         call = getattr(found, symbol)
         call.restype, call.argtypes = answer, takes

@@ -239,12 +239,12 @@
 
 /* ---- version */
 
-#define WATTLERUGBY_VERSION_MAJOR 0
-#define WATTLERUGBY_VERSION_MINOR 15
+#define WATTLERUGBY_VERSION_MAJOR 1
+#define WATTLERUGBY_VERSION_MINOR 0
 #define WATTLERUGBY_VERSION_PATCH 0
-#define WATTLERUGBY_VERSION "0.15.0"
+#define WATTLERUGBY_VERSION "1.0.0"
 
-/* The version as one number, 15000 for 0.15.0: the later of two versions has the greater one. It may stand in an #if, where it is 0 with
+/* The version as one number, 1000000 for 1.0.0: the later of two versions has the greater one. It may stand in an #if, where it is 0 with
  * a header that does not have it yet. */
 #define WATTLERUGBY_VERSION_NUMBER \
     (WATTLERUGBY_VERSION_MAJOR * 1000000u + WATTLERUGBY_VERSION_MINOR * 1000u + WATTLERUGBY_VERSION_PATCH)
@@ -252,7 +252,7 @@
 /* ---- symbols
  *
  * A call that takes or answers something else than it first did has a symbol of its own, which ends in the second number of the version
- * that changed it last. So where a program makes a call that its header and the archive have in different forms, the linker refuses it and
+ * below 1.0 that changed it last. Since 1.0 a step of the first number alone changes a call. So where a program makes a call that its header and the archive have in different forms, the linker refuses it and
  * names that symbol; otherwise the call would run, and read past a buffer. Write the plain names: these lines map them. */
 #define wattlerugby_begin wattlerugby_begin_8
 #define wattlerugby_carve wattlerugby_carve_9

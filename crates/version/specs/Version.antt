@@ -6,7 +6,7 @@ versionNumber major minor patch = major * 1000000 + minor * 1000 + patch
 
 -- include/wattlerugby.h has the same three numbers, which a test compares
 abbrev pub archiveVersion : ℕ
-archiveVersion = versionNumber 0 15 0
+archiveVersion = versionNumber 1 0 0
 
 -- Versions compare by <, as long as the second and the third number stay below 1,000: the first that differs decides (proofs/LaterIsGreater.antt).
 pub record LaterIsGreater : Type 0 where

@@ -2,9 +2,9 @@
 ghost use mathlib.Core.Path.{_≡_};
 ghost use Rattle.version.specs.Version.{archiveVersion};
 
-const MAJOR: u32 = 0;
+const MAJOR: u32 = 1;
 
-const MINOR: u32 = 15;
+const MINOR: u32 = 0;
 
 const PATCH: u32 = 0;
 

@@ -522,7 +522,7 @@ fn help_names_every_command_and_option() {
         assert!(help.contains(" [--openings N] ") && help.contains("\n  --openings N    allow N openings"), "{help}");
         assert!(help.lines().all(|line| line.chars().count() <= 140), "{help}");
     }
-    assert!(text(&wattle(&["--version"]).stdout).starts_with("wattle 0."));
+    assert_eq!(text(&wattle(&["--version"]).stdout), concat!("wattle ", env!("CARGO_PKG_VERSION"), "\n"));
     assert_eq!(wattle(&["-V"]).stdout, wattle(&["--version"]).stdout);
 }
 
