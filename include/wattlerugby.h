@@ -79,8 +79,8 @@
  * So 10 bytes a voxel and the file, and 6 a voxel once begin has answered: then `values` may be given back, unless you want to tell the
  * missing points that count as inside (see begin). A coarse start needs 10 5/8 a voxel, and no later call reads its blocks. Points need 24
  * bytes for each that you have room for. A removal list has 6 bytes for each voxel that it removes, and judge needs no room beside it. For serve
- * the buffers of all grids are one behind the other, with 6 bytes a voxel in all. On the stack serve uses under 18 KB, begin_coarse and carve under
- * 14 KB, begin under 5 KB, and every other call under 1 KB (docs/PERFORMANCE.md).
+ * the buffers of all grids are one behind the other, with 6 bytes a voxel in all. On the stack serve uses under 19 KB, begin_coarse and carve under
+ * 15 KB, begin under 5 KB, and every other call under 1 KB (docs/PERFORMANCE.md).
  *
  * MARKS
  *

@@ -259,10 +259,12 @@ fn crafted(sides: Sides, distances: Distances) -> State {
 /// A demand: what it is about, what was measured, and the greatest that meets it.
 struct Demand(String, f64, f64);
 
-fn against_plain(found: &[Found], word: &'static str, shapes: &[Shape], most: f64) -> Vec<Demand> {
+/// Ours to (a) or to (b), on the largest grid.
+fn against_rust(found: &[Found], word: &'static str, rust: &'static str, shapes: &[Shape], most: f64) -> Vec<Demand> {
+    let other = if rust == "(a)" { 1 } else { 2 };
     let measured = |&shape: &Shape| {
-        let ratio = time(found, word, LARGEST, shape, 0) / time(found, word, LARGEST, shape, 1);
-        Demand(format!("{word}, {} {}, ours/(a)", named(LARGEST), shape.name()), ratio, most)
+        let ratio = time(found, word, LARGEST, shape, 0) / time(found, word, LARGEST, shape, other);
+        Demand(format!("{word}, {} {}, ours/{rust}", named(LARGEST), shape.name()), ratio, most)
     };
     shapes.iter().map(measured).collect()
 }
@@ -377,7 +379,9 @@ fn main() {
     if wanted("begin") {
         let shapes = if before_leaves_gaps() { &[Shape::Sphere, Shape::Torus] } else { &Shape::ALL[..] };
         demands.extend(against_before(&found, &took, "begin", shapes, most_of_begin()));
-        demands.extend(against_plain(&found, "begin", &[Shape::Sphere, Shape::Noise], 0.5));
+        demands.extend(against_rust(&found, "begin", "(a)", &[Shape::Sphere, Shape::Noise], 0.5));
+        demands.extend(against_rust(&found, "begin", "(b)", &[Shape::Sphere, Shape::Torus], 0.4));
+        demands.extend(against_rust(&found, "begin", "(b)", &[Shape::Noise], 0.55));
     }
     if wanted("gaps") {
         demands.extend(gaps::measure());
@@ -391,7 +395,8 @@ fn main() {
     if wanted("carve") {
         let most = if archive::BEFORE_HAS_FACES { NOT_SLOWER } else { FACE_HANDED_ON };
         demands.extend(against_before(&found, &took, "carve", &Shape::ALL, most));
-        demands.extend(against_plain(&found, "carve", &Shape::ALL, 0.8));
+        demands.extend(against_rust(&found, "carve", "(a)", &Shape::ALL, 0.35));
+        demands.extend(against_rust(&found, "carve", "(b)", &Shape::ALL, 0.6));
         demands.push(Demand("carve, growth".into(), growth(), GROWTH));
     }
     if wanted("turns") {
@@ -426,13 +431,15 @@ fn main() {
         }
     }
     if wanted("crafted") {
-        demands.extend(worst_case().map(|ratio| Demand("carve, every inner voxel pending, ours/before".into(), ratio, 1.3)));
+        demands.extend(worst_case().map(|ratio| Demand("carve, every inner voxel pending, ours/before".into(), ratio, 1.0)));
     }
     if wanted("local") {
         demands.extend(locals::measure(3 * ROUNDS));
     }
     if wanted("stack") {
-        demands.push(Demand("stack of a call at most, KB".into(), stacks::measure() / 1024.0, 18.0));
+        let [most, serve] = stacks::measure().map(|bytes| bytes / 1024.0);
+        demands.push(Demand("stack of a call on one grid, KB".into(), most, 15.0));
+        demands.push(Demand("stack of serve on sixteen, KB".into(), serve, 19.0));
     }
     println!("\n## Demands\n\n| | measured | at most | |\n|---|---|---|---|");
     for Demand(what, measured, most) in demands {
