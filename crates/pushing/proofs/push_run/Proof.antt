@@ -1,5 +1,6 @@
 -- `push_run`: a run of which none is untaken, or all of them pushed.
 use mathlib.Core.Path.{sym}
+use native.Mathlib.Omega.{arith}
 use Rattle.pushing.specs.Push.{fillOf}
 use Rattle.pushing.proofs.Runs.{run-taken}
 use borrow.Author.Needs.{needs}
@@ -19,7 +20,8 @@ returns : tie.Need-returns
 returns c =
     let j = c .before in
     let a = j .before .before .before .args in
-    sym (run-taken (fillOf (a .label .now) (a .work .now) (a .end)) (a .first) (a .wide) (j .joined .result) (j .joined .ensures) (c .if1 .taken))
+    sym (run-taken (fillOf (a .label .now) (a .work .now) (a .end)) (a .first) (a .wide) (j .joined .result) (j .joined .ensures)
+    (omega (arith, c .if1 .taken)))
 
 push-all-requires : tie.Need-push-all-requires
 push-all-requires c κs = search needs

@@ -60,7 +60,8 @@ returns c =
     let w = w-back .before .before .before .before in
     let d = w .before .before .before .before .before .before in
     let a = start d .args in
-    woken-at {mk = marked (a .marks .now)} {dist = a .dist .now} (a .s .a) (a .s .a * a .s .b) (d .idle-bits .ensures) (d .before .first-around .ensures) (w .wake .ensures)
+    woken-at {mk = marked (a .marks .now)} {dist = a .dist .now} (a .s .a) (a .s .a * a .s .b) (d .idle-bits .ensures) (d .before .first-around .ensures)
+    (w .wake .ensures)
 
 pub wake-around-spec : {M : Type 1} → statement M
 wake-around-spec =

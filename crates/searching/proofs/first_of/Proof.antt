@@ -76,8 +76,8 @@ loop-again c =
     let p = s .pre .0 in (
       omega (arith, h .before .loop-test .taken),
       subst (Skipped (key s) (s .args .held .first) (l .loop .i + 1)) (sym (same-height (l .before)))
-          (skipped-other (key s) _ _ _ (p .greatest) (p .some) _ (height s (l .loop .i)) _ (l .loop .i) refl (sfits-of (h .height-at .ok)) (height-fits (l .before))
-          (h .height-at .ensures) (key-is _ _ _ _ _ (l .loop .i)) (skipped l) (c .if1 .left)),
+          (skipped-other (key s) _ _ _ (p .greatest) (p .some) _ (height s (l .loop .i)) _ (l .loop .i) refl (sfits-of (h .height-at .ok))
+          (height-fits (l .before)) (h .height-at .ensures) (key-is _ _ _ _ _ (l .loop .i)) (skipped l) (c .if1 .left)),
     )
 
 returns-2 : tie.Need-returns-2 Inv-loop μ-loop
