@@ -1,5 +1,7 @@
 // What begin and the coarse begin check of the values and the marks as they are given: numbers 2, 28, 29, 3 and 4, and the scan that serves
 // number 3 and number 31.
+#![tactic(auto)]
+
 ghost use Rattle.std.specs.Prelude.{◌≡◌, true, ◌-◌, ◌*◌, ◌≤◌, length};
 ghost use Rattle.cells.specs.Groups.{any};
 ghost use Rattle.rules.specs.Grid.{fit_sides, size, range};

@@ -1,5 +1,7 @@
 // Document 01's begin: the numbers 1, 2, 28, 29, 3 and 4 of the values as given; then gaps, S, worked distances, box and status, all in the two lent
 // buffers.
+#![tactic(auto)]
+
 ghost use Rattle.std.specs.Prelude.{◌≡◌, ◌≤◌, length};
 ghost use Rattle.rules.specs.Grid.{size};
 ghost use Rattle.rules.specs.Fill.{filled};

@@ -1,4 +1,6 @@
 // Sets of small numbers as the bits of one number, and the lowest set bit.
+#![tactic(auto)]
+
 ghost use Rattle.std.specs.Prelude.{◌<◌};
 ghost use Rattle.bits.specs.Lowest.{Lowest};
 

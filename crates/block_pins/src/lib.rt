@@ -1,4 +1,6 @@
 // The marks of blocks, document 02's CR 10: "A block is pinned if any of its voxels is". Row of blocks by row.
+#![tactic(auto)]
+
 ghost use Rattle.std.specs.Prelude.{◌≡◌, cond, ◌||◌, ◌+◌, ◌*◌, ◌/◌, ◌<◌, length};
 ghost use Rattle.cells.specs.Groups.{any};
 ghost use Rattle.rules.specs.Marks.{marked};

@@ -1,4 +1,6 @@
 // Step 4 on blocks, document 02's CR 10: the status that the coarse run starts from.
+#![tactic(auto)]
+
 ghost use Rattle.std.specs.Prelude.{◌≡◌, length};
 ghost use Rattle.rules.specs.Grid.{distance_at};
 ghost use Rattle.rules.specs.Marks.{unmarked};

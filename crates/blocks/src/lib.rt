@@ -1,4 +1,6 @@
 // Blocks of two by two by two voxels, document 02's CR 10: their grid, and their distances, row of blocks by row.
+#![tactic(auto)]
+
 ghost use Rattle.std.specs.Prelude.{◌≡◌, map, ◌+◌, ◌*◌, ◌/◌, ◌<◌, pos, length};
 ghost use Rattle.rules.specs.Grid.{distance_at};
 ghost use Rattle.loops.specs.InPlace.{Each};

@@ -1,4 +1,6 @@
 // The smallest box that holds S, and the status by it: 0 gone, 1 kept, 3 kept and pending. Both row by row, where d is 0 at the voxels of S.
+#![tactic(auto)]
+
 ghost use Rattle.std.specs.Prelude.{◌≡◌, cond, ◌||◌, ◌≤◌, ◌<◌, eqb, length};
 ghost use Rattle.loops.specs.InPlace.{Each};
 ghost use Rattle.loops.specs.Rows.{Row};

@@ -1,4 +1,6 @@
 // The program carve of document 01: a grid file on standard input, one line on standard output.
+#![tactic(auto)]
+
 use libc::{STDIN_FILENO, STDOUT_FILENO};
 
 fn print_line(file: &[u8]) {

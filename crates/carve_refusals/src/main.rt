@@ -1,5 +1,7 @@
 // Runs the program's line on a grid file that is taken, then on one for each number that a file can be refused with, in the order in which
 // they are looked for.
+#![tactic(auto)]
+
 ghost use Rattle.std.specs.Prelude.{◌<◌, ◌≤◌};
 
 use libc::STDOUT_FILENO;

@@ -1,4 +1,6 @@
 // Carve, of document 01's carving machine.
+#![tactic(auto)]
+
 ghost use Rattle.std.specs.Prelude.{◌≡◌};
 ghost use Rattle.rules.specs.Answer.{outcome, buffers, carved_answer};
 ghost use Rattle.rules.specs.Machine as machine;

@@ -32,6 +32,7 @@ module _ {A : Type 0} where
   mem-none m = mem-filled m
 
   pub at_lt : (gs : List (List A)) (i : ℕ) (x : A) → At gs i x → i < length gs
+  at_lt [] i x a = elim a [ ]
   at_lt (g ∷ gs) zero x a = omega arith
   at_lt (g ∷ gs) (suc i) x a = omega (arith, at_lt gs i x a)
 
@@ -40,6 +41,7 @@ module _ {A : Type 0} where
 module _ {A : Type 0} (joined : A → A → Bool) where
   others-at : (x : A) (gs : List (List A)) (i : ℕ) (y : A) → At (others joined x gs) i y → (j : ℕ) × (At gs j y)
   unfolding others
+  others-at x [] i y m = elim m [ ]
   others-at x (g ∷ gs) i y m = go (any (joined x) g) i m (λ i m. others-at x gs i y m)
     where
       go : (t : Bool) (i : ℕ) → At (cons_unless joined t g (others joined x gs)) i y
@@ -50,6 +52,7 @@ module _ {A : Type 0} (joined : A → A → Bool) where
 
   reached-at : (x : A) (gs : List (List A)) (y : A) → Mem y (reached joined x gs) → (j : ℕ) × (At gs j y)
   unfolding reached
+  reached-at x [] y m = elim m [ ]
   reached-at x (g ∷ gs) y m = go (any (joined x) g) m (λ m. reached-at x gs y m)
     where
       more : (Mem y g) ⊎ (Mem y (reached joined x gs)) → (Mem y (reached joined x gs) → (j : ℕ) × (At gs j y)) → (j : ℕ) × (At (g ∷ gs) j y)
@@ -64,6 +67,7 @@ module _ {A : Type 0} (joined : A → A → Bool) where
   reached-or-other : (x : A) (gs : List (List A)) (i : ℕ) (y : A) → At gs i y
       → (Mem y (reached joined x gs)) ⊎ ((j : ℕ) × (At (others joined x gs) j y))
   unfolding reached others
+  reached-or-other x [] i y m = elim m [ ]
   reached-or-other x (g ∷ gs) zero y m = go (any (joined x) g)
     where
       go : (t : Bool) → (Mem y (append_if joined t g (reached joined x gs))) ⊎ ((j : ℕ) × (At (cons_unless joined t g (others joined x gs)) j y))
@@ -95,6 +99,7 @@ module _ {A : Type 0} (joined : A → A → Bool) where
 
   gather-all : (xs : List A) (gs : List (List A)) (y : A) → Mem y xs → (j : ℕ) × (At (gather joined xs gs) j y)
   unfolding gather enter
+  gather-all [] gs y x' = elim x' [ ]
   gather-all (x ∷ xs) gs y here = gather-keeps xs (enter joined x gs) zero x here
   gather-all (x ∷ xs) gs y (there m) = gather-all xs (enter joined x gs) y m
 
@@ -147,6 +152,7 @@ module _ {A : Type 0} (joined : A → A → Bool) (turn : (x y : A) → joined x
   -- what x is joined to is in the groups reached
   others-parted : (x : A) (gs : List (List A)) (i : ℕ) (y : A) → At (others joined x gs) i y → joined x y ≡ true → ⊥
   unfolding others
+  others-parted x [] i y m = elim m [ ]
   others-parted x (g ∷ gs) i y m = go (any (joined x) g) refl i m (λ i m. others-parted x gs i y m)
     where
       go : (t : Bool) → any (joined x) g ≡ t → (i : ℕ) → At (cons_unless joined t g (others joined x gs)) i y
@@ -157,6 +163,7 @@ module _ {A : Type 0} (joined : A → A → Bool) (turn : (x y : A) → joined x
 
   reached-parted : (x : A) (gs : List (List A)) → Good gs → Parted (reached joined x gs) (others joined x gs)
   unfolding reached others Parted
+  reached-parted x [] o y z i m a j = elim m [ ]
   reached-parted x (g ∷ gs) o y z i m a j = go (any (joined x) g) i m a (λ i m a. reached-parted x gs o.2 y z i m a j)
     where
       go : (t : Bool) (i : ℕ) → Mem y (append_if joined t g (reached joined x gs)) → At (cons_unless joined t g (others joined x gs)) i z
@@ -171,6 +178,7 @@ module _ {A : Type 0} (joined : A → A → Bool) (turn : (x y : A) → joined x
 
   reached-linked : (x : A) (gs : List (List A)) → Good gs → member x ≡ true → (y : A) → Mem y (reached joined x gs) → Linked member joined x y
   unfolding reached
+  reached-linked x [] o mx y m = elim m [ ]
   reached-linked x (g ∷ gs) o mx y m = go (any (joined x) g) refl m (λ m. reached-linked x gs o.2 mx y m)
     where
       go : (t : Bool) → any (joined x) g ≡ t → Mem y (append_if joined t g (reached joined x gs))
@@ -208,11 +216,13 @@ module _ {A : Type 0} (joined : A → A → Bool) (turn : (x y : A) → joined x
   at_some (g ∷ gs) o (suc i) h = at_some gs o.2 i (omega arith)
 
   at-linked : (gs : List (List A)) → Good gs → (i : ℕ) (x y : A) → At gs i x → At gs i y → Linked member joined x y
+  at-linked [] o i x y a b = elim a [ ]
   at-linked (g ∷ gs) o zero x y a b = o.0.linked x y a b
   at-linked (g ∷ gs) o (suc i) x y a b = at-linked gs o.2 i x y a b
 
   at_joined : (gs : List (List A)) → Good gs → (i j : ℕ) (x y : A) → At gs i x → At gs j y → joined x y ≡ true → i ≡ j
   unfolding Parted
+  at_joined [] o i j x y a b h = elim a [ ]
   at_joined (g ∷ gs) o zero zero x y a b h = refl
   at_joined (g ∷ gs) o zero (suc j) x y a b h = absurd (o.1 x y j a b h)
   at_joined (g ∷ gs) o (suc i) zero x y a b h = absurd (o.1 y x i b a (turn x y h))

@@ -43,6 +43,7 @@ get_d-mem d (x ∷ l) zero h = here
 get_d-mem d (x ∷ l) (suc i) h = there (get_d-mem d l i (omega arith))
 
 pub mem-get_d : {A : Type 0} (d x : A) (l : List A) → Mem x l → (i : ℕ) × (i < length l) × (get_or l i d ≡ x)
+mem-get_d {A = A} d x [] x'' = elim x'' [ ]
 mem-get_d d x (y ∷ l) here = (zero, omega arith, refl)
 mem-get_d d x (y ∷ l) (there m) = let r = mem-get_d d x l m in (suc r.0, (let h = r.1 in omega arith), r.2)
 

@@ -78,6 +78,7 @@ flat (g ∷ gs) = g ++ flat gs
 
 module _ {A : Type 0} where
   flat-at : (gs : List (List A)) (i : ℕ) (x : A) → At gs i x → Mem x (flat gs)
+  flat-at [] i x a = elim a [ ]
   flat-at (g ∷ gs) zero x a = mem-left x g (flat gs) a
   flat-at (g ∷ gs) (suc i) x a = mem-right x g (flat gs) (flat-at gs i x a)
 

@@ -1,5 +1,7 @@
 // Which grid serve serves, document 02's CR 14: "the lowest place never served, and if all of these were served, the one served longest ago", of
 // those with something pending.
+#![tactic(auto)]
+
 ghost use Rattle.std.specs.Prelude.{◌≡◌, not, ◌&&◌, [], ◌<◌};
 ghost use Rattle.rules.specs.Grid.{is_in};
 ghost use Rattle.office.specs.Order.{first_waiting};

@@ -1,4 +1,6 @@
 // Finish, of document 01's carving machine: the distances of a finished grid.
+#![tactic(auto)]
+
 ghost use Rattle.std.specs.Prelude.{◌≡◌, map, length};
 ghost use Rattle.rules.specs.Grid.{range};
 ghost use Rattle.rules.specs.Answer.{outcome, buffers, finished_answer};

@@ -1,4 +1,6 @@
 // The checks of the coarse begin, document 02's CR 10: numbers 1 and 2, those of begin on what is given, and 31.
+#![tactic(auto)]
+
 ghost use Rattle.std.specs.Prelude.{◌≡◌, length};
 ghost use Rattle.rules.specs.Checks.{first_failing};
 ghost use Rattle.rules.specs.Fit.{Sized};

@@ -1,5 +1,7 @@
 // The coarse run, document 02's CR 10: blocks are begun at step 4, with their pins, and carved to their end with no opening; and the answer that tells
 // of it.
+#![tactic(auto)]
+
 ghost use Rattle.std.specs.Prelude.{◌≡◌, ◌≤◌, length, take};
 ghost use Rattle.rules.specs.Grid.{size};
 ghost use Rattle.rules.specs.Marks.{marked};

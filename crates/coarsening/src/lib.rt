@@ -1,5 +1,7 @@
 // The coarse begin, document 02's CR 10, "Coarse run first": steps 1 to 3 of begin, the coarse run on blocks of eight voxels, and its kept blocks split
 // again as the body to start from, all in the four lent buffers.
+#![tactic(auto)]
+
 ghost use Rattle.std.specs.Prelude.{◌≡◌, length};
 ghost use Rattle.rules.specs.Fill.{filled};
 ghost use Rattle.rules.specs.Marks.{marked};

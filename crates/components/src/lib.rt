@@ -1,5 +1,7 @@
 // S, the largest connected component of measured negative voxels, gaps filled, by floods with one work list. Labels stand in the status bytes,
 // the work list in the distances. Every flood appends to the list, so that the longest stretch of it is S.
+#![tactic(auto)]
+
 ghost use Rattle.std.specs.Prelude.{◌<◌, length};
 ghost use Rattle.rules.specs.Fill.{filled};
 ghost use Rattle.rules.specs.Begin.{inside};

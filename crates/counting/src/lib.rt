@@ -1,4 +1,6 @@
 // The record's counts, which every call that works on a grid hands back.
+#![tactic(auto)]
+
 ghost use Rattle.std.specs.Prelude.{◌≡◌, ◌≤◌, pos, ◌-ℤ◌};
 ghost use Rattle.rules.specs.Machine.{count};
 ghost use Rattle.counting.specs.Counting.{Countable};

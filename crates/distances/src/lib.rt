@@ -1,4 +1,6 @@
 // Taxicab distances to S by sweeps, up and down along each axis, slab by slab. Along x a layer is transposed first.
+#![tactic(auto)]
+
 ghost use Rattle.std.specs.Prelude.{◌≡◌, true, List, ℕ, ◌*◌, ◌≤◌, ◌<◌, length};
 ghost use Rattle.sweeps.specs.Sweep.{Slab, Both};
 ghost use Rattle.distances.specs.Axes.{Level, Whole, Axis};

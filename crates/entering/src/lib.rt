@@ -1,5 +1,7 @@
 // A woken voxel enters the queue: into the front where its key is above the root's, and into the index where not. Where no place is free before
 // the first key of the front, all its keys go into the index first.
+#![tactic(auto)]
+
 ghost use Rattle.std.specs.Prelude.{◌≤◌, ◌<◌, length};
 ghost use Rattle.rules.specs.Marks.{marked};
 ghost use Rattle.queue.specs.Queue.{Queue, Emptied, Entered};

@@ -1,5 +1,7 @@
 // A removal list's entries in the lent status bytes. An entry takes its voxel out: bit 0 of the byte is cleared, and bit 1 stays as lent. So the list
 // itself says what to put back.
+#![tactic(auto)]
+
 ghost use Rattle.std.specs.Prelude.{◌≡◌, ◌+◌, ◌*◌, ◌≤◌, length};
 ghost use Rattle.judging.specs.Judge.{entry_length};
 ghost use Rattle.entries.specs.Entries.{index_of, put_back, Listed};

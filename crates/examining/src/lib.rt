@@ -1,4 +1,6 @@
 // Examinations over the queue of pending voxels: one that passes is removed, and wakes those around it; one that fails rests.
+#![tactic(auto)]
+
 ghost use Rattle.rules.specs.Marks.{marked};
 ghost use Rattle.std.specs.Prelude.{◌*◌};
 ghost use Rattle.queue.specs.Queue.{Queue};

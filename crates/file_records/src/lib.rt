@@ -1,4 +1,6 @@
 // The header and a layer record of the grid file in their written form, as bytes of a lent buffer.
+#![tactic(auto)]
+
 ghost use Rattle.std.specs.Prelude.{◌≡◌, ◌++◌, true, ◌+◌, ◌*◌, ◌≤◌, length, drop};
 ghost use Rattle.rules.specs.Grid.{fit_sides};
 ghost use Rattle.format.specs.Bytes.{Width};

@@ -1,4 +1,6 @@
 // Begin's marks: the status of each marked voxel at first, by the one that it has without marks.
+#![tactic(auto)]
+
 ghost use Rattle.std.specs.Prelude.{◌≡◌, ◌≤◌, length};
 ghost use Rattle.rules.specs.Marks.{marked};
 ghost use Rattle.loops.specs.InPlace.{Each};

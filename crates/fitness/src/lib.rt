@@ -1,4 +1,6 @@
 // The checks that calls on a state share, each by itself and one after the other: 1 and 2, 7, 8 or 9, with marks 29 after 7; and 13.
+#![tactic(auto)]
+
 ghost use Rattle.std.specs.Prelude.{◌≡◌, cond, ◌≤◌, length};
 ghost use Rattle.cells.specs.Groups.{any};
 ghost use Rattle.rules.specs.Grid.{size, range};

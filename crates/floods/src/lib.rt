@@ -1,5 +1,7 @@
 // Floods with one work list: labels stand in bytes, the work list in numbers of 32 bits, both lent. A voxel's neighbours are patches of voxels at some
 // offsets from it, so that one flood serves for voxels that touch, which are patches of nine, and for voxels that share faces, which are single.
+#![tactic(auto)]
+
 ghost use Rattle.std.specs.Prelude.{◌≡◌, false, ◌<◌, pos, length, get_or};
 ghost use Rattle.rules.specs.Grid.{is_negative};
 ghost use Rattle.pushing.specs.Push.{fill_of, push_all};

@@ -1,4 +1,5 @@
 // The type that the grid file's rules share with the code. The rules stand in specs/, in the order of the papers.
+#![tactic(auto)]
 
 // A layer where it stands: its z, the bytes of a value, and from which byte of the file up to which its values stand.
 #[derive(Drop)]

@@ -1,5 +1,7 @@
 // The front: a short falling list of keys from a head on, ended by a 0, so that only the head is handed about. A key is put in its place by moving
 // the greater ones, mostly few, down by one; and the greatest keys of a stretch make a new list.
+#![tactic(auto)]
+
 ghost use Rattle.std.specs.Prelude.{◌≡◌, cond, ℕ, ◌+◌, ◌-◌, ◌≤◌, ◌<◌, ltb, length, get_or};
 ghost use Rattle.rules.specs.Marks.{marked};
 ghost use Rattle.keys.specs.Key.{key_at};

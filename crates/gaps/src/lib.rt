@@ -1,6 +1,8 @@
 // The gaps behind the face, document 02's CR 6: the voxels that count as measured negative, with every enclosed gap filled. Labels stand in the status
 // bytes, the floods' work list in the distances. A gap is open where a face neighbour of it is on the border, or measured and not negative. So a flood
 // starts at each missing voxel beside which its gap is open; what no flood takes is enclosed, and each voxel is taken once.
+#![tactic(auto)]
+
 ghost use Rattle.std.specs.Prelude.{◌≡◌, ℕ, ◌+◌, ◌≤◌, ◌<◌, length, get_or};
 ghost use Rattle.rules.specs.Fill.{filled};
 ghost use Rattle.values.specs.Values.{labels_of};

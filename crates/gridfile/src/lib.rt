@@ -1,4 +1,6 @@
 // Read, of documents 01 and 02: the header, the layer records, then the patches. A refusal is known before the first value is written.
+#![tactic(auto)]
+
 ghost use Rattle.std.specs.Prelude.{◌≡◌, true, ◌≤◌, length};
 ghost use Rattle.rules.specs.Grid.{fit_sides, size};
 ghost use Rattle.rules.specs.Checks.{first_failing};

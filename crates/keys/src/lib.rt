@@ -1,5 +1,7 @@
 // The key of a pending voxel, and the greatest key of a stretch of voxels: its pending voxels are met in the order of their index, so that
 // among equal ranks the first met is the one to keep.
+#![tactic(auto)]
+
 ghost use Rattle.std.specs.Prelude.{◌≡◌, cond, ◌+◌, ◌-◌, ◌*◌, ◌/◌, ◌^◌, ◌≤◌, ◌<◌, length};
 ghost use Rattle.bits.specs.Bits.{has, bits};
 ghost use Rattle.rules.specs.Grid.{distance_at};

@@ -1,4 +1,6 @@
 // The labels of voxels, by which gaps are found: each value's before the floods, and what is made of the labels after them.
+#![tactic(auto)]
+
 ghost use Rattle.std.specs.Prelude.{◌≡◌, ◌+◌, ◌*◌, ◌≤◌, length};
 ghost use Rattle.rules.specs.Grid.{value_at};
 ghost use Rattle.loops.specs.InPlace.{Each};

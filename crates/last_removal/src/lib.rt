@@ -1,4 +1,6 @@
 // The last voxel that a call removed, and the face that its local test gives.
+#![tactic(auto)]
+
 ghost use Rattle.std.specs.Prelude.{◌≡◌};
 ghost use Rattle.rules.specs.Status.{latest};
 ghost use Rattle.last_removal.specs.LastRemoval.{face_after, LastAt};

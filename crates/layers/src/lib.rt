@@ -1,4 +1,6 @@
 // A layer record of the grid file: reading it as a part of the caller's file, and its values into the buffer of the whole grid.
+#![tactic(auto)]
+
 ghost use Rattle.std.specs.Prelude.{◌≡◌, true, ◌+◌, ◌*◌, ◌≤◌, length};
 ghost use Rattle.prelude.specs.Lists.{any};
 ghost use Rattle.rules.specs.Value.{stray};

@@ -1,4 +1,6 @@
 // From the bytes of a grid file to the line of the program carve: read, begin, and the rounds.
+#![tactic(auto)]
+
 ghost use Rattle.std.specs.Prelude.{◌≡◌, ◌≤◌};
 ghost use Rattle.rules.specs.Begin.{begin};
 ghost use Rattle.text.specs.Written.{printed};

@@ -1,6 +1,8 @@
 // The 26-neighbour test of document 01, of a block given by value. Its touched cells are the bits of one number, two apart, at twice
 // x + 3 y + 9 z; masked counts of ones give their kinds, the rank of the touched edges gives their groups, and six of the bits the lowest
 // numbered bare face.
+#![tactic(auto)]
+
 ghost use Rattle.std.specs.Prelude.{◌≡◌, not, ◌+◌, ◌≤◌};
 ghost use Rattle.cells.specs.Cells.{bit, numbered_faces, before, test, passes};
 ghost use Rattle.cells.specs.Faces.{face_at};

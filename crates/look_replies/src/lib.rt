@@ -1,4 +1,6 @@
 // What the calls that change no grid answer to C, as structs: crossing, all points, read, reading a layer, write, judge, practice.
+#![tactic(auto)]
+
 ghost use Rattle.std.specs.Prelude.{◌≡◌};
 ghost use Rattle.surface.specs.Surface.{crossed_answer};
 ghost use Rattle.points.specs.Listing.{listed_answer};

@@ -1,4 +1,6 @@
 // What loops over a grid's voxels share: laws (element by element, row by row, below an index), searches for a byte, and bytes joined.
+#![tactic(auto)]
+
 ghost use Rattle.std.specs.Prelude.{◌≡◌, false, ◌≤◌, ◌<◌, length};
 ghost use Rattle.loops.specs.Searches.{Absent, Passed, First, Last};
 ghost use Rattle.loops.specs.Joined.{Joined};

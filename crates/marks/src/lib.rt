@@ -1,5 +1,7 @@
 // What the lent mark bytes ask for, of one voxel and looked at all together. Beyond the last of them a mark is 0, so that a call whose marks are
 // all 0 hands on none of them, and then nothing is read.
+#![tactic(auto)]
+
 ghost use Rattle.std.specs.Prelude.{◌≡◌, ◌≤◌};
 ghost use Rattle.rules.specs.Marks.{pinned_mark, hurried_mark, mark_of, marked, stray_mark};
 ghost use Rattle.marks.specs.Lent.{All, used_of};

@@ -1,4 +1,6 @@
 // The pending voxels of a stretch of voxels as the bits of one number, read eight bytes at a time.
+#![tactic(auto)]
+
 ghost use Rattle.std.specs.Prelude.{◌≡◌, ℕ, ◌+◌, ◌-◌, ◌*◌, ◌^◌, ◌≤◌, ◌<◌, length};
 ghost use Rattle.bits.specs.Bits.{has, bits};
 ghost use Rattle.rules.specs.Status.{is_pending};

@@ -1,4 +1,6 @@
 // The neighbourhood of an inner voxel, read once into a block, an array of three layers of three rows, which the local test is given by value.
+#![tactic(auto)]
+
 ghost use Rattle.std.specs.Prelude.{◌≡◌, ◌+◌, ◌*◌, ◌<◌, length};
 ghost use Rattle.cells.specs.Cells.{passes};
 ghost use Rattle.rules.specs.Status.{test_at};

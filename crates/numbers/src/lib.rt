@@ -1,5 +1,7 @@
 // The greater and the lesser of two numbers, a function a type, and the size of a signed number. A compiler makes a select of each, and no
 // branch: so a loop over them does many voxels at a time.
+#![tactic(auto)]
+
 ghost use Rattle.std.specs.Prelude.{◌≡◌, ◌≤◌, min, max, nat_abs};
 ghost use Rattle.numbers.specs.Signed.{greater, lesser};
 

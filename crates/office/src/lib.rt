@@ -1,4 +1,6 @@
 // Document 02's CR 14, "Many scans at once": what the call is given and answers. Its rule stands in specs/.
+#![tactic(auto)]
+
 use rules::Record;
 
 // The records of the grids by their places, of which count are there.

@@ -1,4 +1,6 @@
 // What serve is given by C, and answers to it, as structs.
+#![tactic(auto)]
+
 ghost use Rattle.std.specs.Prelude.{◌≡◌, ◌<◌};
 ghost use Rattle.rules.specs.Answer.{refused as refused_by};
 ghost use Rattle.office.specs.Serve.{served_answer};

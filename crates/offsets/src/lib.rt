@@ -1,4 +1,6 @@
 // Each stretch of voxels keeps the offset of its pending voxel of greatest key, from which the greatest key of a group of stretches is read.
+#![tactic(auto)]
+
 ghost use Rattle.std.specs.Prelude.{◌≡◌, ◌+◌, ◌-◌, ◌*◌, ◌≤◌, ◌<◌, length};
 ghost use Rattle.rules.specs.Marks.{marked};
 ghost use Rattle.keys.specs.Key.{most, Lent, key_at, greatest, stretches};

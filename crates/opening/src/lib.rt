@@ -1,4 +1,6 @@
 // Open, of document 01's carving machine.
+#![tactic(auto)]
+
 ghost use Rattle.std.specs.Prelude.{◌≡◌};
 ghost use Rattle.rules.specs.Answer.{outcome, buffers, opened_answer};
 ghost use Rattle.rules.specs.Checks.{first_failing};

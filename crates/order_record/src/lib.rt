@@ -1,4 +1,6 @@
 // The order record of document 02's CR 14: whether it is fit, and a place that is served.
+#![tactic(auto)]
+
 ghost use Rattle.std.specs.Prelude.{◌≡◌, ◌≤◌, ◌<◌, length, get_or, drop};
 ghost use Rattle.rules.specs.Grid.{is_in};
 ghost use Rattle.office.specs.Order.{unfit_order, others, served_last};

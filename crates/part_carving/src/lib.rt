@@ -1,4 +1,6 @@
 // Carve of one grid among those laid end to end in the lent buffers.
+#![tactic(auto)]
+
 ghost use Rattle.std.specs.Prelude.{◌≡◌};
 ghost use Rattle.rules.specs.Answer.{outcome, carved_answer};
 ghost use Rattle.rules.specs.Machine as machine;

@@ -1,4 +1,6 @@
 // Patch records of the grid file: single voxels shot again. All are checked before the first is applied.
+#![tactic(auto)]
+
 ghost use Rattle.std.specs.Prelude.{◌≡◌, ◌+◌, ◌≤◌, ◌<◌, length};
 ghost use Rattle.rules.specs.Checks.{first_failing, AllHold};
 ghost use Rattle.format.specs.Patch.{patch_length, index_at, patch_checks, patches_checks, patched};

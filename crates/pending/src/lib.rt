@@ -1,5 +1,7 @@
 // The index of pending voxels: the offsets of stretches, and a winner tree of keys over groups of stretches, so that its root is the greatest
 // key that it holds. An operation reads at most one group.
+#![tactic(auto)]
+
 ghost use Rattle.std.specs.Prelude.{◌≡◌, ℕ, ◌+◌, ◌<◌, get_or};
 ghost use Rattle.rules.specs.Marks.{marked};
 ghost use Rattle.offsets.specs.Offsets.{held_group};

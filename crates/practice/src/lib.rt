@@ -1,5 +1,7 @@
 // Practice grids, document 02's CR 12: the same values from a seed on every instrument. Every voxel gets a value of the generator, and then the border
 // its own: so s advances at border voxels too, and no voxel asks where it lies.
+#![tactic(auto)]
+
 ghost use Rattle.std.specs.Prelude.{◌≡◌, ◌+◌, ◌*◌, ◌≤◌, map, length, pos};
 ghost use Rattle.rules.specs.Grid.{range, size};
 ghost use Rattle.rules.specs.Answer.{outcome};

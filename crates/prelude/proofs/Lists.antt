@@ -44,11 +44,13 @@ module _ {A : Type 0} where
 
   pub true-any : (p : A → Bool) (xs : List A) (x : A) → Mem x xs → p x ≡ true → any p xs ≡ true
   unfolding any
+  true-any p [] x x4 e = elim x4 [ ]
   true-any p (y ∷ xs) x here e = true-or (p x) (any p xs) (inl e)
   true-any p (y ∷ xs) x (there m) e = true-or (p y) (any p xs) (inr (true-any p xs x m e))
 
   pub any_false : (p : A → Bool) (xs : List A) → any p xs ≡ false → (x : A) → Mem x xs → p x ≡ false
   unfolding any
+  any_false p [] e x x4 = elim x4 [ ]
   any_false p (y ∷ xs) e x here = (or-false (p x) (any p xs) e).0
   any_false p (y ∷ xs) e x (there m) = any_false p xs (or-false (p y) (any p xs) e).1 x m
 
@@ -88,6 +90,7 @@ module _ {A : Type 0} where
 
   pub filter-mem : (p : A → Bool) (xs : List A) (x : A) → Mem x (filter p xs) → (Mem x xs) × (p x ≡ true)
   unfolding filter
+  filter-mem p [] x m = elim m [ ]
   filter-mem p (y ∷ xs) x m = go (p y) refl m (λ m. filter-mem p xs x m)
     where
       go : (t : Bool) → p y ≡ t → Mem x (cons_if t y (filter p xs)) → (Mem x (filter p xs) → (Mem x xs) × (p x ≡ true)) → (Mem x (y ∷ xs)) × (p x ≡ true)
@@ -100,6 +103,7 @@ module _ {A : Type 0} where
 
   pub mem-filter : (p : A → Bool) (xs : List A) (x : A) → Mem x xs → p x ≡ true → Mem x (filter p xs)
   unfolding filter
+  mem-filter p [] x x4 e = elim x4 [ ]
   mem-filter p (y ∷ xs) x here e = subst (λ (t : Bool). Mem x (cons_if t x (filter p xs))) (sym e) here
   mem-filter p (y ∷ xs) x (there m) e = go (p y) (mem-filter p xs x m e)
     where

@@ -15,6 +15,7 @@ use Rattle.prelude.specs.Lists.{any, range}
 
 pub range-mem : (k n i : ℕ) → Mem i (range k n) → (k ≤ i) × (i < k + n)
 unfolding range
+range-mem k zero i m = elim m [ ]
 range-mem k (suc n) i m =
     elim (mem-cons m) [ inl e ↦ (omega arith, omega arith) | inr r ↦ let h = range-mem (suc k) n i r in (omega arith, omega arith) ]
 

@@ -1,5 +1,7 @@
 // Voxels put on a work list, of which no flood has taken any before: one, a run of them, or a patch of runs. Labels stand in bytes, the work list in
 // numbers of 32 bits, both lent.
+#![tactic(auto)]
+
 ghost use Rattle.std.specs.Prelude.{◌≡◌, ℕ, ◌+◌, ◌*◌, ◌≤◌, ◌<◌, length};
 ghost use Rattle.rules.specs.Grid.{range};
 ghost use Rattle.pushing.specs.Push.{fill_of, push as push_of, push_all, patch_at, Ready};

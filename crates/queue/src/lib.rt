@@ -1,5 +1,7 @@
 // The queue of pending voxels. Its front has the greatest keys in falling order, and the index all others, so that most examinations touch neither
 // a stretch nor the tree.
+#![tactic(auto)]
+
 ghost use Rattle.std.specs.Prelude.{◌≡◌, ◌<◌, length};
 ghost use Rattle.std.specs.Int.{w32};
 ghost use Rattle.std.proofs.Common.{SFits};

@@ -1,4 +1,6 @@
 // Waking voxels with the queue of pending voxels kept: each that wakes enters it.
+#![tactic(auto)]
+
 ghost use Rattle.std.specs.Prelude.{◌*◌, ◌≤◌, ◌<◌, length};
 ghost use Rattle.rules.specs.Marks.{marked};
 ghost use Rattle.rules.specs.Machine.{may_go};

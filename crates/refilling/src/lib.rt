@@ -1,4 +1,6 @@
 // The front is filled where it is empty: the keys of the root's rank and stretch are the next ones, since no key of another stretch lies between them.
+#![tactic(auto)]
+
 ghost use Rattle.std.specs.Prelude.{◌<◌, get_or};
 ghost use Rattle.rules.specs.Marks.{marked};
 ghost use Rattle.queue.specs.Queue.{Queue, Emptied, Filled};

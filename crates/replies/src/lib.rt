@@ -1,4 +1,6 @@
 // What each call answers to C: a struct by value, whose first field is the refusal number, or 0.
+#![tactic(auto)]
+
 ghost use Rattle.std.specs.Prelude.{◌≡◌};
 ghost use Rattle.cells.specs.Cells.{bit};
 ghost use Rattle.coarse.specs.Coarse.{coarse_answer};

@@ -1,4 +1,6 @@
 // What the program does with a grid that was begun: carve and open in turn, finish, and the line.
+#![tactic(auto)]
+
 ghost use Rattle.std.specs.Prelude.{◌≡◌, length};
 ghost use Rattle.prelude.specs.Lists.{filter, range};
 ghost use Rattle.rules.specs.Grid.{size};

@@ -1,4 +1,5 @@
 // The types that the calls on a grid share: sides, record, answers. What they mean stands in specs/, document 01 section by section.
+#![tactic(auto)]
 
 // The grid's sides, in voxels along x, y and z.
 #[repr(C)]

@@ -1,4 +1,6 @@
 // Number 7 over the buffers, in three scans: each over bytes alone or without a branch, so that a compiler does many voxels at a time.
+#![tactic(auto)]
+
 ghost use Rattle.std.specs.Prelude.{◌≡◌, ◌+◌, ◌-◌, ◌*◌, ◌≤◌, ◌<◌, length};
 ghost use Rattle.cells.specs.Groups.{any};
 ghost use Rattle.rules.specs.Grid.{size, range};

@@ -1,4 +1,6 @@
 // The search for the voxel to open, over all voxels and by stretches of them.
+#![tactic(auto)]
+
 ghost use Rattle.std.specs.Prelude.{◌≡◌, ◌+◌, ◌-◌, ◌≤◌, ◌<◌, length};
 ghost use Rattle.rules.specs.Status.{first_of, openable};
 ghost use Rattle.rules.specs.Marks.{marked};

@@ -1,4 +1,6 @@
 // Serve, document 02's CR 14: the grid chosen is carved, in the parts of the lent buffers that are its own.
+#![tactic(auto)]
+
 ghost use Rattle.std.specs.Prelude.{◌≡◌};
 ghost use Rattle.std.proofs.Math.Option.{some};
 ghost use Rattle.rules.specs.Checks.{AllHold};

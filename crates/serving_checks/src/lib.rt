@@ -1,4 +1,6 @@
 // The checks of serve, document 02's CR 14: 34, then carve's checks, each made on all grids before the next, with the order record's 7.
+#![tactic(auto)]
+
 ghost use Rattle.std.specs.Prelude.{◌≡◌, not, ◌≤◌, ◌<◌, get_or, take};
 ghost use Rattle.cells.specs.Groups.{any};
 ghost use Rattle.rules.specs.declared.Record.{Record};

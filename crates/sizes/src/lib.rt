@@ -1,4 +1,6 @@
 // The sides of a grid, and how many voxels it has.
+#![tactic(auto)]
+
 ghost use Rattle.std.specs.Prelude.{◌≡◌, true, ◌≤◌};
 ghost use Rattle.rules.specs.Grid.{fit_side, fit_sides, size};
 

@@ -1,6 +1,8 @@
 // Kept blocks split again, document 02's CR 10: the status of all voxels, row by row from the blocks' bits. Of the six face neighbours of a voxel three
 // lie in its own block and three across its outer faces, each in a block of its own: so a voxel of a kept block is exposed where one of these three
 // blocks is not kept.
+#![tactic(auto)]
+
 ghost use Rattle.std.specs.Prelude.{◌≡◌, not, ◌&&◌, map, ◌+◌, ◌*◌, ◌≤◌, length};
 ghost use Rattle.rules.specs.Grid.{voxels, is_negative};
 ghost use Rattle.rules.specs.Status.{kept_byte, is_kept};

@@ -1,4 +1,6 @@
 // A status byte: bit 0 says that its voxel is kept, bit 1 that it is pending. Code asks for these bits and changes them by the functions here.
+#![tactic(auto)]
+
 ghost use Rattle.std.specs.Prelude.{◌≡◌, true, cond, ◌≤◌};
 ghost use Rattle.cells.specs.Cells.{bit};
 ghost use Rattle.rules.specs.Status.{kept_byte, pending_byte, woken, rested};

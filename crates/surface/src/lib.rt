@@ -1,4 +1,6 @@
 // Document 01, "Surface points": crossing.
+#![tactic(auto)]
+
 ghost use Rattle.std.specs.Prelude.{◌≡◌, true, ◌||◌, ◌+◌, ◌<◌, ◌≤◌, ltb, nat_abs, length};
 ghost use Rattle.std.proofs.Math.Option.{Option};
 ghost use Rattle.rules.specs.Grid.{voxel, size, fit_sides};

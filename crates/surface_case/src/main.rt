@@ -1,4 +1,6 @@
 // Runs crossing: case A of document 01 after finish, and distances as far apart as 32 bits allow.
+#![tactic(auto)]
+
 ghost use Rattle.std.specs.Prelude.{◌≡◌};
 ghost use Rattle.surface.specs.Surface.{crossed_answer};
 ghost use Rattle.surface_case.specs.Points.{is_point};

@@ -1,4 +1,6 @@
 // Sweeps of distances up and down through a slab. One function with a stride and a direction serves all axes.
+#![tactic(auto)]
+
 ghost use Rattle.std.specs.Prelude.{◌≡◌, false};
 ghost use Rattle.sweeps.specs.Sweep.{position_of, Lowered, Apart, Slab, Positioned, Swept, Both};
 

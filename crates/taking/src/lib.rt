@@ -1,4 +1,6 @@
 // Take, of document 01's carving machine.
+#![tactic(auto)]
+
 ghost use Rattle.std.specs.Prelude.{◌≡◌};
 ghost use Rattle.rules.specs.Answer.{outcome, buffers, taken_answer};
 ghost use Rattle.rules.specs.Checks.{first_failing};

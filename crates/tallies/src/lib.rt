@@ -1,4 +1,6 @@
 // What the entries of a removal list come to so far, and one entry more.
+#![tactic(auto)]
+
 ghost use Rattle.std.specs.Prelude.{◌≡◌, ◌*◌};
 ghost use Rattle.rules.specs.Status.{is_kept};
 ghost use Rattle.judging.specs.Judge.{entry_length, entry_at};

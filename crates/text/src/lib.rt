@@ -1,5 +1,7 @@
 // The line that the program carve prints, as bytes. It is written from its end, so that a number's last digit comes first, and stands at the
 // end of its buffer.
+#![tactic(auto)]
+
 ghost use Rattle.std.specs.Prelude.{◌≡◌, ◌∷◌, ◌++◌, ◌+◌, ◌≤◌, ◌<◌, length, drop};
 ghost use Rattle.text.specs.Line.{refused_line, number, signed_number, euler_word, line_text};
 ghost use Rattle.text.specs.Written.{Written, Before, summary_line, printed};

@@ -1,5 +1,7 @@
 // Document 01's block of 27 voxels, an array of three layers of three rows, and the cells that its kept voxels touch.
 // A row is one byte: the statuses of its three voxels, two bits each, the lower for kept and the upper for pending.
+#![tactic(auto)]
+
 ghost use Rattle.std.specs.Prelude.{◌≡◌};
 ghost use Rattle.cells.specs.Cells.{touched};
 ghost use Rattle.bits.specs.Bits.{has, bits, spaced};

@@ -1,5 +1,7 @@
 // A layer of bytes transposed: its columns as rows. A pass along rows, in which each byte waits for the one before it, is then one along columns, which a
 // compiler does many bytes at a time.
+#![tactic(auto)]
+
 ghost use Rattle.std.specs.Prelude.{◌+◌, ◌-◌, ◌*◌, length, get_or};
 ghost use Rattle.loops.specs.InPlace.{Each};
 ghost use Rattle.transposing.specs.Transposed.{Column, Transposable, Transposed};

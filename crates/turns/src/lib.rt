@@ -1,4 +1,6 @@
 // Whether an entry of a removal list may go at its turn, and the number that refuses it if not.
+#![tactic(auto)]
+
 ghost use Rattle.std.specs.Prelude.{◌≡◌, ◌*◌, ◌<◌};
 ghost use Rattle.rules.specs.Grid.{size};
 ghost use Rattle.rules.specs.Status.{is_kept};

@@ -1,4 +1,6 @@
 // What a measured value means, and the scans of the values: number 28, M, the worked distances. Signed numbers stop here.
+#![tactic(auto)]
+
 ghost use Rattle.std.specs.Prelude.{◌≡◌, false, cond, ◌≤◌, ◌<◌, eqb, pos, length};
 ghost use Rattle.prelude.specs.Lists.{any};
 ghost use Rattle.rules.specs.Value.{beyond as beyond_of, stray, measured_negative};

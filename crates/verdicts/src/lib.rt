@@ -1,4 +1,6 @@
 // Judge: another supplier's removal list, entry by entry, over the kept voxels of the lent status bytes.
+#![tactic(auto)]
+
 ghost use Rattle.std.specs.Prelude.{◌≡◌};
 ghost use Rattle.rules.specs.Status.{is_kept};
 ghost use Rattle.rules.specs.Machine.{state, is_inside};

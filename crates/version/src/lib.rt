@@ -1,4 +1,6 @@
 // The archive's version.
+#![tactic(auto)]
+
 ghost use Rattle.std.specs.Prelude.{◌≡◌};
 ghost use Rattle.version.specs.Version.{archive_version};
 

@@ -1,4 +1,6 @@
 // A voxel is gone, and the kept voxels that touch it and may go become pending: by the bits of its neighbourhood.
+#![tactic(auto)]
+
 ghost use Rattle.std.specs.Prelude.{◌≡◌, ◌<◌, length};
 ghost use Rattle.rules.specs.Status.{without};
 ghost use Rattle.rules.specs.Marks.{marked};

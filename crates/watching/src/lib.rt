@@ -1,4 +1,6 @@
 // Whether any voxel passes while a removal list is judged: of all voxels, or of those near what has gone since none did.
+#![tactic(auto)]
+
 ghost use Rattle.std.specs.Prelude.{◌≡◌, true, ◌<◌, length};
 ghost use Rattle.rules.specs.Grid.{size};
 ghost use Rattle.rules.specs.Neighbours.{Inner};

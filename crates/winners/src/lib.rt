@@ -1,4 +1,6 @@
 // A winner tree: leaves of any numbers, and inner nodes each the greater of its children, so that the root is the greatest of all.
+#![tactic(auto)]
+
 ghost use Rattle.std.specs.Prelude.{◌≡◌, ◌+◌, ◌*◌, ◌%◌, ◌≤◌, ◌<◌, max, length, get_or};
 ghost use Rattle.winners.specs.Tree.{Nodes, Grown, Changed};
 

@@ -1,4 +1,6 @@
 // What stands in a file's bytes: a number of two or four bytes, a value, a record's tag, and whether so many bytes are left; numbers and values written.
+#![tactic(auto)]
+
 ghost use Rattle.std.specs.Prelude.{◌≡◌, ◌+◌, ◌<◌, ◌≤◌, cond, eqb, ltb, pos, length};
 ghost use Rattle.std.proofs.lemmas.List.Edits.{sets};
 ghost use Rattle.std.specs.Int.Signed.{mag};

@@ -1,4 +1,6 @@
 // Write, of document 02's CR 1: a grid as the bytes of a grid file, into a lent buffer. A refusal is known before the first byte is written.
+#![tactic(auto)]
+
 ghost use Rattle.std.specs.Prelude.{◌≡◌, ◌++◌, true, ◌+◌, ◌*◌, ◌≤◌, length, take, drop};
 ghost use Rattle.prelude.specs.Lists.{any};
 ghost use Rattle.rules.specs.Value.{stray};
