@@ -6,17 +6,17 @@ use Rattle.numbers.proofs.Tested.{tested}
 use Rattle.numbers.proofs.greater_i32.Statement.{statement}
 use Rattle.numbers.proofs.greater_i32.Tie as tie
 
-returns : tie.Need-returns
+returns : tie.Need-returns-then-v-w
 returns c =
     let s = c.before in
     to_z-of_z s.ranges.w
-    ∙ sym (ap (λ (t : Bool). cond t s.args.w s.args.v) (tested s.ranges.v s.ranges.w c.if1.true))
+    ∙ sym (ap (λ (t : Bool). cond t s.args.w s.args.v) (tested s.ranges.v s.ranges.w c.if-v-w.true))
 
-returns-2 : tie.Need-returns-2
+returns-2 : tie.Need-returns-else-v-w
 returns-2 c =
     let s = c.before in
     to_z-of_z s.ranges.v
-    ∙ sym (ap (λ (t : Bool). cond t s.args.w s.args.v) (tested s.ranges.v s.ranges.w c.if1.false))
+    ∙ sym (ap (λ (t : Bool). cond t s.args.w s.args.v) (tested s.ranges.v s.ranges.w c.if-v-w.false))
 
-pub greater-i32-spec : {M : Type 1} → statement M
-greater-i32-spec = tie.close (tie.spec returns returns-2)
+pub greater_i32_spec : {M : Type 1} → statement M
+greater_i32_spec = tie.close (tie.spec returns returns-2)

@@ -6,17 +6,17 @@ use Rattle.numbers.proofs.Tested.{tested}
 use Rattle.numbers.proofs.lesser_i32.Statement.{statement}
 use Rattle.numbers.proofs.lesser_i32.Tie as tie
 
-returns : tie.Need-returns
+returns : tie.Need-returns-then-w-v
 returns c =
     let s = c.before in
     to_z-of_z s.ranges.w
-    ∙ sym (ap (λ (t : Bool). cond t s.args.w s.args.v) (tested s.ranges.w s.ranges.v c.if1.true))
+    ∙ sym (ap (λ (t : Bool). cond t s.args.w s.args.v) (tested s.ranges.w s.ranges.v c.if-w-v.true))
 
-returns-2 : tie.Need-returns-2
+returns-2 : tie.Need-returns-else-w-v
 returns-2 c =
     let s = c.before in
     to_z-of_z s.ranges.v
-    ∙ sym (ap (λ (t : Bool). cond t s.args.w s.args.v) (tested s.ranges.w s.ranges.v c.if1.false))
+    ∙ sym (ap (λ (t : Bool). cond t s.args.w s.args.v) (tested s.ranges.w s.ranges.v c.if-w-v.false))
 
-pub lesser-i32-spec : {M : Type 1} → statement M
-lesser-i32-spec = tie.close (tie.spec returns returns-2)
+pub lesser_i32_spec : {M : Type 1} → statement M
+lesser_i32_spec = tie.close (tie.spec returns returns-2)
