@@ -10,6 +10,7 @@ use Rattle.rules.specs.Begin.{least, greatest}
 
 pub least-le : (n : ℕ) (xs : List ℕ) (x : ℕ) → Mem x xs → least n xs ≤ x
 unfolding least
+least-le n [] x x3 = elim x3 [ ]
 least-le n (y ∷ xs) x here = omega arith
 least-le n (y ∷ xs) x (there m) = omega (arith, least-le n xs x m)
 
@@ -33,6 +34,7 @@ least-mem n xs h = elim (least-is n xs) [ inl e ↦ (let z : ⊥ = omega arith i
 
 pub le-greatest : (n : ℕ) (xs : List ℕ) (x : ℕ) → Mem x xs → x ≤ greatest n xs
 unfolding greatest
+le-greatest n [] x x3 = elim x3 [ ]
 le-greatest n (y ∷ xs) x here = omega arith
 le-greatest n (y ∷ xs) x (there m) = omega (arith, le-greatest n xs x m)
 
@@ -59,9 +61,11 @@ greatest-is n (x ∷ xs) = go (dec_le (greatest n xs) x) (greatest-is n xs)
 -- ---- members of a list under a function
 
 pub mem-map : {A B : Type 0} (f : A → B) (xs : List A) (x : A) → Mem x xs → Mem (f x) (map f xs)
+mem-map {A = A} {B = B} f [] x x3 = elim x3 [ ]
 mem-map f (y ∷ xs) x here = here
 mem-map f (y ∷ xs) x (there m) = there (mem-map f xs x m)
 
 pub map-mem : {A B : Type 0} (f : A → B) (xs : List A) (y : B) → Mem y (map f xs) → (x : A) × (Mem x xs) × (y ≡ f x)
+map-mem {A = A} {B = B} f [] y x' = elim x' [ ]
 map-mem f (x ∷ xs) y here = (x, here, refl)
 map-mem f (x ∷ xs) y (there m) = let r = map-mem f xs y m in (r.0, there r.1, r.2)

@@ -34,6 +34,7 @@ module _ {m k at mid start : ℕ} {old between new text : List ℕ} (f : List �
 
 pub put-before :
     (l : List ℕ) (at byte : ℕ) → 0 < at → at ≤ length l → Written 1 at (at - 1) l (set l (at - 1) byte) (byte ∷ drop at l)
+put-before l zero byte h k = elim h [ ]
 put-before l (suc i) byte h k =
     let e : suc i - 1 ≡ i = omega arith in
     rw e (record { near = omega arith; below = omega arith; reads = set_split l i byte (omega arith) })
@@ -68,6 +69,7 @@ module _ (word : List ℕ) (at : ℕ) (old : List ℕ) where
       → Spelt word at old out start left
       → Written 1 start next out new (get_or word (left - 1) 0 ∷ drop start out)
       → Spelt word at old new next (left - 1)
+  spelt-next out new start next zero room h l s w = elim h [ ]
   spelt-next out new start next (suc left) room h l s w =
       let p : suc left - 1 ≡ left = omega arith in
       let m : left < length word = omega (arith, s.within) in
@@ -84,4 +86,5 @@ module _ (word : List ℕ) (at : ℕ) (old : List ℕ) where
       }
 
   pub spelt-done : (out : List ℕ) (start left : ℕ) → left ≤ 0 → Spelt word at old out start left → Written (length word) at start old out (word ++ drop at old)
+  spelt-done out start (suc _) h s = elim h [ ]
   spelt-done out start zero h s = record { near = omega (arith, s.written.near); below = s.written.below; reads = s.written.reads }

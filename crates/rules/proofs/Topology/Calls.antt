@@ -41,6 +41,7 @@ none-filter p l z =
     ]
   where
     filled : (l : List ℕ) (x : ℕ) → Mem x l → length l ≡ 0 → false ≡ true
+    filled [] x m z = elim m [ ]
     filled (y ∷ l) x m z = let w : ⊥ = omega arith in absurd w
 
 none-pending : (s : Sides) (status : List ℕ) → found s (is_pending status) ≡ 0 → any_pending s status ≡ false

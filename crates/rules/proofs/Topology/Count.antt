@@ -77,6 +77,7 @@ at-range x k (suc n) = go (ℕ_discrete k x) (at-range x (suc k) n)
         (omega (arith, ih.0), λ h. omega (arith, ih.1 (omega arith)))
 
 omit-in : (p : ℕ → Bool) (i : ℕ) (l : List ℕ) → Mem i l → p i ≡ true → suc (count_in (omit p i) l) ≤ count_in p l
+omit-in p i [] x'' e = elim x'' [ ]
 omit-in p i (x ∷ l) here e =
     omega (
       arith,
