@@ -83,7 +83,7 @@ wrong-splits =
           omega arith;
       pins-lost = λ h. let z : ◌≡◌ {A = ℕ} 1 3 = h (sides 8 8 8) (pinned_at 301) (293 ∷ []) around_it 301 in omega arith;
       counts-in-the-record = λ h.
-          let z : ◌≡◌ {A = ℕ} 0 1 = h slab 1 (grid slab (155 ∷ 164 ∷ [])) (set (mark_at slab 148 1) 149 2) (lent slab) _ two_blocks.answer in
+          let z : ◌≡◌ {A = ℕ} 0 1 = h slab 1 (grid slab (155 ∷ 164 ∷ [])) (set (mark_at slab 148 1) 149 2) (lent slab) _ two_blocks_lem.answer in
           omega arith;
       bound-of-the-box = λ h.
           let z = h small 1 (grid small (86 ∷ [])) (no_marks small) (lent small) (record { next = new_record small 1; examined = 0 }) refl in
@@ -130,6 +130,6 @@ unfolding coarse-rules two_blocks
 coarse-answers =
     record {
       starts = answers (λ marks. (coarse_of slab (155 ∷ 164 ∷ []) marks).answer) (set (mark_at slab 148 1) 149 2) [] 2
-          (ap is_done two_blocks.answer) refl;
+          (ap is_done two_blocks_lem.answer) refl;
       starts-otherwise = λ c h. let e : ◌≡◌ {A = ℕ} 0 1 = ap (λ (a : CoarseStart). a.next.allowed) (same_answer _ _ c (h 0) (h 1)) in omega arith;
     }

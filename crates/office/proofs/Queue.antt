@@ -184,6 +184,7 @@ module _ (w : ℕ → Bool) where
   -- where none is, nobody waits
   pub none-waits : (xs : List ℕ) → first_waiting w xs ≡ none → (x : ℕ) → Mem x xs → w x ≡ false
   unfolding first_waiting
+  none-waits [] e x m = elim m [ ]
   none-waits (y ∷ xs) e x m = go (w y) refl e (mem-cons m) (λ e. none-waits xs e x)
     where
       go : (t : Bool) → w y ≡ t → cond t (some y) (first_waiting w xs) ≡ none → (x ≡ y) ⊎ (Mem x xs)
@@ -213,6 +214,7 @@ pub record Stands (x k : ℕ) (q : List ℕ) : Type 0 where
   pub few : length front < k
 
 pub stands-in : (n x : ℕ) (order : List ℕ) → FitOrder n order → x < n → Stands x n (queue n order)
+split [] x'' = elim x'' [ ]
 stands-in n x order fit h = go (queue n order) (in-queue n order x h) (queue-fit n order fit)
   where
     split : (q : List ℕ) → Mem x q → (front : List ℕ) × ((back : List ℕ) × (q ≡ front ++ x ∷ back))

@@ -1,0 +1,11 @@
+-- `bits::lowest` meets its contract.
+use native.Mathlib.Omega.{arith}
+use lib.Count.{trailing_le}
+use Rattle.bits.proofs.LowestBit.{lowest-is}
+use Rattle.bits.proofs.lowest.Goals as goal
+
+pub overflow_cast-result : goal.overflow_cast-result
+overflow_cast-result c = record { fits = omega (arith, trailing_le 64 c.args.m) }
+
+pub returns : goal.returns
+returns c = lowest-is c.args.m c.requires c.ranges.m.fits

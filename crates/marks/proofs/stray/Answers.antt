@@ -1,0 +1,7 @@
+-- `marks::stray` meets its contract.
+use borrow.Author.Rules.{rules}
+use Rattle.marks.proofs.Lent.{joined-stray}
+use Rattle.marks.proofs.stray.Goals as goal
+
+pub returns : goal.returns
+returns c = joined-stray _ _ c.joined.ensures

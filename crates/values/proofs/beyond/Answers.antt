@@ -1,0 +1,7 @@
+-- `beyond` is the rule's test.
+use borrow.Author.Rules.{rules}
+use Rattle.values.proofs.Signs.{beyond-test}
+use Rattle.values.proofs.beyond.Goals as goal
+
+pub returns : goal.returns
+returns c = beyond-test _ _ c.requires c.ranges.v
