@@ -9,7 +9,7 @@ ghost use Rattle.bounding_box.specs.Bounds.{Widened, Enclosable, Enclosed, Prope
 use rules::Sides;
 
 // The least and the greatest coordinate of S along each axis.
-#[derive(Drop)]
+#[derive(Clone, Copy)]
 pub struct Bounds {
     pub x0: usize,
     pub x1: usize,

@@ -65,7 +65,7 @@ fn choose(g: Grids, o: Order, status: &[u8]) -> usize
 }
 
 // The number that refuses serve, or 0, and then the place to serve.
-#[derive(Drop)]
+#[derive(Clone, Copy)]
 pub struct Found {
     pub number: u8,
     pub place: usize,

@@ -15,7 +15,7 @@ use pushing::Patch;
 use rules::Sides;
 
 // A stretch of the work list, from first up to end.
-#[derive(Drop)]
+#[derive(Clone, Copy)]
 pub struct Stretch {
     pub first: usize,
     pub end: usize,

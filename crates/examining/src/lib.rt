@@ -11,7 +11,7 @@ use queue::Choice;
 use rules::Sides;
 
 // Whether the voxel was removed, 1 or 0, and where the front begins now.
-#[derive(Drop)]
+#[derive(Clone, Copy)]
 pub struct Step {
     pub removed: u32,
     pub head: usize,
@@ -66,7 +66,7 @@ fn examine(
 }
 
 // How many voxels were examined, how many of them removed, the last of these, and where the front begins.
-#[derive(Drop)]
+#[derive(Clone, Copy)]
 pub struct Count {
     pub examined: u32,
     pub removed: u32,
@@ -122,7 +122,7 @@ fn run(
 }
 
 // How many voxels were examined and removed, whether any is still pending, and the face of the last removal.
-#[derive(Drop)]
+#[derive(Clone, Copy)]
 pub struct Tally {
     pub examined: u32,
     pub removed: u32,

@@ -2,7 +2,7 @@
 #![tactic(auto)]
 
 // A layer where it stands: its z, the bytes of a value, and from which byte of the file up to which its values stand.
-#[derive(Drop)]
+#[derive(Clone, Copy)]
 pub struct LayerSpan {
     pub z: u8,
     pub width: u8,

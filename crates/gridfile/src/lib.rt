@@ -12,7 +12,7 @@ ghost use Rattle.gridfile.specs.Answer.{read_answer};
 use rules::Sides;
 
 // What reading a file answers.
-#[derive(Drop)]
+#[derive(Clone, Copy)]
 pub enum ReadAnswer {
     Grid { sides: Sides, allowed: u16 },
     Refused(u8),

@@ -2,7 +2,7 @@
 #![tactic(auto)]
 
 // How many voxels the list removes, how many of them are openings, and the Euler number of what is left.
-#[derive(Drop)]
+#[derive(Clone, Copy)]
 pub enum Judged {
     Accepted {
         removals: u64,

@@ -15,7 +15,7 @@ ghost use Rattle.layers.specs.Part.{layer_answer, Within, part_of};
 use format::LayerSpan;
 use rules::Sides;
 
-#[derive(Drop)]
+#[derive(Clone, Copy)]
 pub enum LayerAnswer {
     Found {
         z: u8,

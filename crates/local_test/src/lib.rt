@@ -13,7 +13,7 @@ ghost use Rattle.local_test.specs.Answers.{as_test, GroupsOf};
 ghost use Rattle.local_test.specs.Touched.{Touched, TouchedGroups, odd_rank, cells_of};
 
 // The groups of touched cells and of bare ones, and the lowest numbered bare face, or 6.
-#[derive(Drop)]
+#[derive(Clone, Copy)]
 pub struct Groups {
     pub k: u32,
     pub m: u32,
@@ -22,7 +22,7 @@ pub struct Groups {
 
 // The same, and the kinds of the touched cells. It is laid out as C has it, so that a call from C hands it back as it is.
 #[repr(C)]
-#[derive(Drop)]
+#[derive(Clone, Copy)]
 pub struct Local {
     pub k: u32,
     pub m: u32,

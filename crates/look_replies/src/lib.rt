@@ -21,7 +21,7 @@ use surface::{Crossed, Point};
 use writing::WriteAnswer;
 
 #[repr(C)]
-#[derive(Drop)]
+#[derive(Clone, Copy)]
 pub struct CrossingAnswer {
     pub refusal: u8,
     pub crosses: bool,
@@ -29,7 +29,7 @@ pub struct CrossingAnswer {
 }
 
 #[repr(C)]
-#[derive(Drop)]
+#[derive(Clone, Copy)]
 pub struct PointsAnswer {
     pub refusal: u8,
     pub count: usize,
@@ -37,7 +37,7 @@ pub struct PointsAnswer {
 }
 
 #[repr(C)]
-#[derive(Drop)]
+#[derive(Clone, Copy)]
 pub struct ReadReply {
     pub refusal: u8,
     pub sides: Sides,
@@ -45,7 +45,7 @@ pub struct ReadReply {
 }
 
 #[repr(C)]
-#[derive(Drop)]
+#[derive(Clone, Copy)]
 pub struct LayerReply {
     pub refusal: u8,
     pub z: u8,
@@ -55,14 +55,14 @@ pub struct LayerReply {
 }
 
 #[repr(C)]
-#[derive(Drop)]
+#[derive(Clone, Copy)]
 pub struct WriteReply {
     pub refusal: u8,
     pub length: usize,
 }
 
 #[repr(C)]
-#[derive(Drop)]
+#[derive(Clone, Copy)]
 pub struct JudgeAnswer {
     pub refusal: u8,
     pub removals: u64,
@@ -71,7 +71,7 @@ pub struct JudgeAnswer {
 }
 
 #[repr(C)]
-#[derive(Drop)]
+#[derive(Clone, Copy)]
 pub struct PracticeAnswer {
     pub refusal: u8,
 }

@@ -214,10 +214,10 @@ pub record Stands (x k : ℕ) (q : List ℕ) : Type 0 where
   pub few : length front < k
 
 pub stands-in : (n x : ℕ) (order : List ℕ) → FitOrder n order → x < n → Stands x n (queue n order)
-split [] x'' = elim x'' [ ]
 stands-in n x order fit h = go (queue n order) (in-queue n order x h) (queue-fit n order fit)
   where
     split : (q : List ℕ) → Mem x q → (front : List ℕ) × ((back : List ℕ) × (q ≡ front ++ x ∷ back))
+    split [] x'' = elim x'' [ ]
     split (y ∷ q) here = ([], (q, refl))
     split (y ∷ q) (there m) = let r = split q m in (y ∷ r.0, (r.1.0, ap (λ (l : List ℕ). y ∷ l) r.1.1))
 

@@ -4,7 +4,7 @@
 use rules::Record;
 
 // The records of the grids by their places, of which count are there.
-#[derive(Drop)]
+#[derive(Clone, Copy)]
 pub struct Grids {
     pub count: usize,
     pub records: [Record; 16],
@@ -12,14 +12,14 @@ pub struct Grids {
 
 // The order record: the places served so far, the one last served longest ago first, of which len are there.
 #[repr(C)]
-#[derive(Drop)]
+#[derive(Clone, Copy)]
 pub struct Order {
     pub len: usize,
     pub places: [u8; 16],
 }
 
 // The place that was served, and carve's answer.
-#[derive(Drop)]
+#[derive(Clone, Copy)]
 pub enum Served {
     Done {
         place: u8,

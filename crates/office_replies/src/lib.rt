@@ -13,7 +13,7 @@ use serving::Turn;
 
 // The records of the grids by their places, of which count are there.
 #[repr(C)]
-#[derive(Drop)]
+#[derive(Clone, Copy)]
 pub struct CGrids {
     pub count: usize,
     pub records: [CRecord; 16],
@@ -21,7 +21,7 @@ pub struct CGrids {
 
 // The place that was served and carve's answer, with the order record after the call.
 #[repr(C)]
-#[derive(Drop)]
+#[derive(Clone, Copy)]
 pub struct ServeAnswer {
     pub refusal: u8,
     pub place: u8,

@@ -16,7 +16,7 @@ use rules::{Record, Sides};
 use surface::{Crossed, Point};
 
 // How many points were written and the position to go on from, or a refusal's number.
-#[derive(Drop)]
+#[derive(Clone, Copy)]
 pub enum Listed {
     Done { count: usize, next: usize },
     Refused(u8),

@@ -14,7 +14,7 @@ ghost use Rattle.practice.specs.Work.{drawn_at, framed_at};
 
 use rules::Sides;
 
-#[derive(Drop)]
+#[derive(Clone, Copy)]
 pub enum Practised {
     Filled,
     Refused(u8),

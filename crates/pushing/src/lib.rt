@@ -7,7 +7,7 @@ ghost use Rattle.rules.specs.Grid.{range};
 ghost use Rattle.pushing.specs.Push.{fill_of, push as push_of, push_all, patch_at, Ready};
 
 // Rows of voxels, so many, `step` apart, of `wide` voxels each.
-#[derive(Drop)]
+#[derive(Clone, Copy)]
 pub struct Patch {
     pub wide: usize,
     pub rows: usize,

@@ -19,7 +19,7 @@ const LEAD: usize = 48;
 const MOST: u64 = 262144;
 
 // The voxel to examine next, if one is pending.
-#[derive(Drop)]
+#[derive(Clone, Copy)]
 pub enum Choice {
     Nothing,
     At(usize),

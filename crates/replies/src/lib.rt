@@ -12,7 +12,7 @@ use rules::{Begun, Carved, Finished, Opened, Record, Sides, Taken};
 
 // The record as C holds it: a bool of C's is a byte that may hold anything, so any byte but 0 is finished.
 #[repr(C)]
-#[derive(Drop)]
+#[derive(Clone, Copy)]
 pub struct CRecord {
     pub sides: Sides,
     pub allowed: u16,
@@ -77,7 +77,7 @@ pub fn no_record() -> CRecord
 // ---- begin
 
 #[repr(C)]
-#[derive(Drop)]
+#[derive(Clone, Copy)]
 pub struct BeginAnswer {
     pub refusal: u8,
     pub next: CRecord,
@@ -101,7 +101,7 @@ pub fn begin_answer(b: Begun) -> BeginAnswer
 // ---- begin coarse
 
 #[repr(C)]
-#[derive(Drop)]
+#[derive(Clone, Copy)]
 pub struct BeginCoarseAnswer {
     pub refusal: u8,
     pub examined: u32,
@@ -128,7 +128,7 @@ pub fn begin_coarse_answer(b: CoarseBegun) -> BeginCoarseAnswer
 // ---- carve, take, open, finish: after a refusal `next` is the record given
 
 #[repr(C)]
-#[derive(Drop)]
+#[derive(Clone, Copy)]
 pub struct CarveAnswer {
     pub refusal: u8,
     pub examined: u32,
@@ -139,7 +139,7 @@ pub struct CarveAnswer {
 }
 
 #[repr(C)]
-#[derive(Drop)]
+#[derive(Clone, Copy)]
 pub struct TakeAnswer {
     pub refusal: u8,
     pub k: u32,
@@ -149,7 +149,7 @@ pub struct TakeAnswer {
 }
 
 #[repr(C)]
-#[derive(Drop)]
+#[derive(Clone, Copy)]
 pub struct OpenAnswer {
     pub refusal: u8,
     pub index: usize,
@@ -160,7 +160,7 @@ pub struct OpenAnswer {
 }
 
 #[repr(C)]
-#[derive(Drop)]
+#[derive(Clone, Copy)]
 pub struct FinishAnswer {
     pub refusal: u8,
     pub next: CRecord,

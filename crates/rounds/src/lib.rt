@@ -41,7 +41,7 @@ fn carve_on(given: Record, dist: &[i32], marks: &[u8], status: &mut [u8]) -> Rec
     }
 }
 
-#[derive(Drop)]
+#[derive(Clone, Copy)]
 struct Opening {
     opened: bool,
     next: Record,

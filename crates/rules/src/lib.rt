@@ -3,7 +3,7 @@
 
 // The grid's sides, in voxels along x, y and z.
 #[repr(C)]
-#[derive(Drop)]
+#[derive(Clone, Copy)]
 pub struct Sides {
     pub a: usize,
     pub b: usize,
@@ -12,7 +12,7 @@ pub struct Sides {
 
 // What a call is given and hands back by value. Counts have room beyond what a fit record may hold.
 #[repr(C)]
-#[derive(Drop)]
+#[derive(Clone, Copy)]
 pub struct Record {
     pub sides: Sides,
     // T, the allowed number of openings
@@ -25,13 +25,13 @@ pub struct Record {
     pub finished: bool,
 }
 
-#[derive(Drop)]
+#[derive(Clone, Copy)]
 pub enum Begun {
     Ready(Record),
     Refused(u8),
 }
 
-#[derive(Drop)]
+#[derive(Clone, Copy)]
 pub enum Carved {
     Done {
         examined: u32,
@@ -44,7 +44,7 @@ pub enum Carved {
     Refused(u8),
 }
 
-#[derive(Drop)]
+#[derive(Clone, Copy)]
 pub enum Taken {
     Gone {
         k: u32,
@@ -55,7 +55,7 @@ pub enum Taken {
     Refused(u8),
 }
 
-#[derive(Drop)]
+#[derive(Clone, Copy)]
 pub enum Opened {
     Through {
         index: usize,
@@ -67,7 +67,7 @@ pub enum Opened {
     Refused(u8),
 }
 
-#[derive(Drop)]
+#[derive(Clone, Copy)]
 pub enum Finished {
     Closed(Record),
     Refused(u8),

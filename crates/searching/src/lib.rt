@@ -11,14 +11,14 @@ ghost use Rattle.searching.specs.Argmax.{held_of, Greatest, Holding, Leading, Le
 use rules::Sides;
 
 // The voxel that comes first, if there is one.
-#[derive(Drop)]
+#[derive(Clone, Copy)]
 pub enum Found {
     Nothing,
     At(usize),
 }
 
 // The greatest height so far, and the first stretch of voxels that has it.
-#[derive(Drop)]
+#[derive(Clone, Copy)]
 pub struct Held {
     pub height: i32,
     pub first: usize,

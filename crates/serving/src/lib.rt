@@ -13,7 +13,7 @@ use office::{Grids, Order, Served};
 use rules::Carved;
 
 // What serve hands back: its answer, and the order record after it.
-#[derive(Drop)]
+#[derive(Clone, Copy)]
 pub struct Turn {
     pub answer: Served,
     pub order: Order,

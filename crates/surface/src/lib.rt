@@ -15,7 +15,7 @@ ghost use Rattle.surface.specs.Coordinates.{voxel_of, UpTo, stride};
 use rules::{Record, Sides};
 
 #[repr(C)]
-#[derive(Drop)]
+#[derive(Clone, Copy)]
 pub struct Point {
     pub x: f64,
     pub y: f64,
@@ -23,7 +23,7 @@ pub struct Point {
 }
 
 // No crossing, a point, or a refusal's number.
-#[derive(Drop)]
+#[derive(Clone, Copy)]
 pub enum Crossed {
     Nowhere,
     At(Point),
@@ -31,7 +31,7 @@ pub enum Crossed {
 }
 
 // A voxel's coordinates.
-#[derive(Drop)]
+#[derive(Clone, Copy)]
 pub struct Coordinates {
     pub x: usize,
     pub y: usize,

@@ -10,7 +10,7 @@ ghost use Rattle.tallies.specs.Counts.{entry, tally_after, Countable, Stepping};
 use rules::Sides;
 
 // Voxels removed, openings among them, the Euler number, and the entry of the last opening: no voxel passed there.
-#[derive(Drop)]
+#[derive(Clone, Copy)]
 pub struct Tally {
     pub removed: usize,
     pub opened: u32,

@@ -7,7 +7,7 @@ ghost use Rattle.text.specs.Line.{refused_line, number, signed_number, euler_wor
 ghost use Rattle.text.specs.Written.{Written, Before, summary_line, printed};
 
 // What is said of a grid that was carved.
-#[derive(Drop)]
+#[derive(Clone, Copy)]
 pub struct Summary {
     pub kept: u64,
     pub removed: u64,
@@ -17,7 +17,7 @@ pub struct Summary {
 }
 
 // A line: the bytes from start on. Those before it are 0.
-#[derive(Drop)]
+#[derive(Clone, Copy)]
 pub struct Text {
     pub bytes: [u8; 160],
     pub start: usize,

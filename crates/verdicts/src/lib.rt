@@ -16,7 +16,7 @@ use rules::{Record, Sides};
 use tallies::Tally;
 
 // Where the entries of a list end: the number that refuses it, or 0, and what the entries come to before that.
-#[derive(Drop)]
+#[derive(Clone, Copy)]
 pub struct End {
     pub refusal: u8,
     pub removed: usize,

@@ -18,7 +18,7 @@ ghost use Rattle.writing.specs.Answer.{write_answer};
 use rules::Sides;
 
 // What writing a file answers: its length.
-#[derive(Drop)]
+#[derive(Clone, Copy)]
 pub enum WriteAnswer {
     Written(usize),
     Refused(u8),

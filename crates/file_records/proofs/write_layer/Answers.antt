@@ -27,8 +27,8 @@ bounds-bytes-2 c = simp length-set (omega (arith, long c))
 pub slice_bounds-write_values-count : goal.slice_bounds-write_values-count
 slice_bounds-write_values-count c = simp length-set (omega (arith, long c))
 
-part-write-values-start : tie.Need-slice-bounds-write-values-start
-part-write-values-start c = simp length-set (omega (arith, long c))
+pub slice_bounds-write_values-start : goal.slice_bounds-write_values-start
+slice_bounds-write_values-start c = simp length-set (omega (arith, long c))
 
 pub write_values-requires : goal.write_values-requires
 write_values-requires c = (c.requires.0, simp (length-take, length-drop, length-set) (omega (arith, long (goal.at.write_values-requires c).After-kind_of)))

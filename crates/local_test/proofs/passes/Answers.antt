@@ -6,4 +6,4 @@ use Rattle.touched_cells.proofs.Blocks.{test-in-code}
 use Rattle.local_test.proofs.passes.Goals as goal
 
 pub returns : goal.returns
-returns c = c.passes_code.ensures ∙ ap passes (test-in-code c.args.block c.code_of_lem.ensures)
+returns c = c.passes_code.ensures ∙ ap passes (test-in-code c.args.block c.code_of.ensures)

@@ -34,7 +34,7 @@ pub returns-then-not-is_tagged : goal.returns-then-not-is_tagged
 unfolding first_failing
 returns-then-not-is_tagged c =
     let a = c.args in
-    let wrong : tagged 0x50 a.file.now a.start ≡ false = sym c.is_tagged.ensures ∙ not-true c.is_tagged.result c.if-not-is_tagged.true in
+    let wrong : tagged 0x50 a.file.now a.start ≡ false = sym c.is_tagged.ensures ∙ c.if-not-is_tagged.true in
     simp (enough (goal.at.returns-then-not-is_tagged c).Else-is_short, wrong)
 
 pub index_at-requires : goal.index_at-requires

@@ -1,0 +1,110 @@
+-- `flood`: whatever the labels were at the call, if the loop began in a state of their flood, it is in one now.
+use Prim.Native.Nat.{◌-◌, ◌≤◌, ◌<◌}
+use mathlib.Core.Path.{◌≡◌, refl, sym, subst}
+use native.Mathlib.Omega.{arith}
+use lib.ListN.{length}
+use Rattle.pushing.specs.Push.{Fill, fill_of, push, push_all}
+use Rattle.pushing.proofs.Pushes.{label-lt}
+use Rattle.floods.specs.Flood.{shifted, spanned, Pushable, Floodable}
+use Rattle.floods.proofs.Spreading.{Spread, spread-start, spread-as, spread-turn, spread-ended, turn_in, turn-entry, turn_low, turn-pushable}
+use Rattle.floods.proofs.flood.Goals as goal
+use Rattle.floods.proofs.flood.Goals.{After-entry-v, After-push_each-arg-in-loop-at-1, After-work-in-loop-at-1, At-loop-at, In-loop-at}
+
+pub push-end-requires : goal.push-end-requires
+push-end-requires c =
+    (label-lt c.args.label.now c.args.seed c.requires.2.seeded, c.requires.2.ready)
+
+pub loop-at-init : goal.loop-at-init
+loop-at-init c = λ B e F T. T
+
+-- what the flood starts from
+abbrev Before : At-loop-at → Fill
+Before c = let a = c.args in fill_of a.label.now a.work.now a.start
+
+abbrev Now : At-loop-at → Fill
+Now c = fill_of c.loop-at.label c.loop-at.work c.loop-at.end
+
+-- the flood's state at the loop's head
+state : (c : At-loop-at)
+    → let a = c.args in Spread a.patch a.offsets.now a.back (Before c) a.seed (Now c) c.loop-at.at
+state c =
+    let a = c.args in
+    c.loop-at.invariant (Before c) refl c.requires.2
+    (subst (λ (x : Fill). Spread a.patch a.offsets.now a.back (Before c) a.seed x a.start) {x = push a.seed (Before c)}
+    (sym c.push-end.ensures)
+    (spread-start a.patch a.offsets.now a.back (Before c) a.seed c.requires.2))
+
+pub entry-v-requires : goal.entry-v-requires
+entry-v-requires c =
+    let a = c.args in (
+      turn_in a.patch a.offsets.now a.back (Before (goal.at.entry-v-requires c).At-loop-at) a.seed c.requires.2 (Now (goal.at.entry-v-requires c).At-loop-at) c.loop-at.at (state (goal.at.entry-v-requires c).At-loop-at) c.loop-at-test.true,
+      turn-entry a.patch a.offsets.now a.back (Before (goal.at.entry-v-requires c).At-loop-at) a.seed c.requires.2 (Now (goal.at.entry-v-requires c).At-loop-at) c.loop-at.at (state (goal.at.entry-v-requires c).At-loop-at) c.loop-at-test.true,
+    )
+
+-- the turn's neighbours are in the grid
+turn : (c : After-push_each-arg-in-loop-at-1)
+    → let l = c.before in let a = l.args in
+    (a.back ≤ c.entry-v.result) × Pushable a.patch a.offsets.now (c.entry-v.result - a.back) (Now l.before.before.before.before)
+turn c =
+    let l = c.before in
+    let a = l.args in
+    let v = c.entry-v in (
+      turn_low a.patch a.offsets.now a.back (Before l.before.before.before.before) a.seed l.requires.2 (Now l.before.before.before.before) l.loop-at.at (state l.before.before.before.before) c.loop-at-test.true v.result
+          v.ensures,
+      turn-pushable a.patch a.offsets.now a.back (Before l.before.before.before.before) a.seed l.requires.2 (Now l.before.before.before.before) l.loop-at.at (state l.before.before.before.before) c.loop-at-test.true v.result
+          v.ensures l.requires.0 l.requires.1,
+    )
+
+pub overflow_sub-v : goal.overflow_sub-v
+overflow_sub-v c = (turn c).0
+
+pub push_each-end-requires : goal.push_each-end-requires
+push_each-end-requires c = (turn c).1
+
+abbrev listed : After-work-in-loop-at-1 → After-entry-v
+listed c = c.before.before.before
+
+-- the work list goes on at the loop's head
+room : (c : In-loop-at) → c.loop-at.at < length c.args.label.now
+room c =
+    let a = c.args in
+    let h = turn_in a.patch a.offsets.now a.back (Before c.before) a.seed c.requires.2 (Now c.before) c.loop-at.at (state c.before) c.loop-at-test.true in
+    let G = (state c.before).well-formed in
+    omega (arith, G.ready.same, G.len)
+
+pub overflow_add-at : goal.overflow_add-at
+overflow_add-at c =
+    let t = turned (listed c) in
+    omega (arith, room t, t.before.pre.2.ready.small)
+
+pub loop-at-smaller : goal.loop-at-smaller
+loop-at-smaller c =
+    let t = turned (listed c) in
+    let k = t.before.push.kept.0 in
+    omega (arith, room t)
+
+pub loop-at-preserved : goal.loop-at-preserved
+loop-at-preserved c =
+    λ B e F T.
+    let w = listed c in
+    let t = w in
+    let l = t.before in
+    let a = l.args in
+    let now = l.loop.inv B e F T in
+    let g = push_all (shifted (w.entry.result - a.back) (spanned a.patch a.offsets.now)) (Now l) in
+    spread-as a.patch a.offsets.now a.back B a.seed _ _ (sym {b = g} c.push_each-end.ensures) (omega arith)
+    (spread-turn a.patch a.offsets.now a.back B a.seed F (Now l) l.loop.at now t.loop-test.true
+    w.entry.result w.entry.ensures)
+
+pub shape_of-label : goal.shape_of-label
+shape_of-label c = (state (goal.at.shape_of-label c).At-loop-at).good.len
+
+pub shape_of-work : goal.shape_of-work
+shape_of-work c =
+    let G = (state (goal.at.shape_of-work c).At-loop-at).well-formed in
+    omega (arith, G.ready.same, G.len, c.requires.2.ready.same)
+
+pub returns : goal.returns
+returns c =
+    let a = c.args in
+    spread-ended a.patch a.offsets.now a.back (Before (goal.at.returns c).At-loop-at) a.seed (Now (goal.at.returns c).At-loop-at) c.loop-at.at c.loop-at-test.false (state (goal.at.returns c).At-loop-at)

@@ -1,0 +1,20 @@
+-- `searching::highest` meets its contract: the loop has the first stretch of the greatest height before voxel i.
+use mathlib.Core.Path.{◌≡◌, refl, sym, ap, ◌∙◌, subst}
+use Prim.Native.Nat.{ℕ, ◌+◌, ◌-◌, ◌≤◌}
+use native.Mathlib.Omega.{arith}
+use borrow.Author.Rules.{sfits_of, rules}
+use lib.IntN.{ℤ, negsuc}
+use lib.ListN.{length}
+use mir.Facts.{to_z-of_z}
+use Rattle.rules.specs.Marks.{marked}
+use Rattle.searching.specs.Argmax.{key_at, held_of, Holding}
+use Rattle.searching.proofs.Argmax.{holding-start, holding-step}
+use mir.Syntax.{w32}
+use Rattle.searching.proofs.highest.Given as goal
+
+abbrev pub invariant-loop-i : goal.invariant-loop-i
+invariant-loop-i l =
+    (l.first ≡ 1 + l.l.a + l.l) × (l.end ≡ length l.l.status - l.first) × (l.first ≤ l.i) × (l.i ≤ l.end) × Holding (key_at (marked l.l.marks) l.l.dist l.l.status l.l.a l.l) l.first l.i l.best
+
+abbrev pub decreases-loop-i : goal.decreases-loop-i
+decreases-loop-i l = l.end - l.i

@@ -1,0 +1,17 @@
+-- `searching::surface_height` meets its contract.
+use mathlib.Core.Path.{ap, ◌∙◌}
+use borrow.Author.Rules.{sfits_of, rules}
+use lib.IntN.{ℤ}
+use mir.Facts.{to_z-of_z}
+use Rattle.rules.specs.Grid.{distance_at}
+use Rattle.searching.specs.Argmax.{height_of, surface_height}
+use mir.Syntax.{w32}
+use Rattle.searching.proofs.surface_height.Goals as goal
+
+pub returns : goal.returns
+unfolding surface_height
+returns c =
+    let a = c.args in
+    to_z-of_z (sfits_of {w = w32} c.height.type_inv) ∙ c.height.ensures
+    ∙ ap (λ (z : ℤ). height_of z c.on_surface.result) (to_z-of_z (sfits_of {w = w32} c.d-1.given))
+    ∙ ap (height_of (distance_at a.dist.now a.i)) c.on_surface.ensures
