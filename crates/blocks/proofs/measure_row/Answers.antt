@@ -34,8 +34,8 @@ nonzero_rem-from c = let m = few (goal.at.nonzero_rem-from c).After-struct_known
 pub overflow_mul-from : goal.overflow_mul-from
 overflow_mul-from c = let m = few (goal.at.overflow_mul-from c).After-struct_known-1 in search rules
 
-div-from : tie.Need-nonzero-div-from invariant-loop decreases-loop
-div-from c = let m = few c.before.before.before in search rules
+pub nonzero_div-from-3 : goal.nonzero_div-from-3
+nonzero_div-from-3 c = let m = few (goal.at.nonzero_div-from-3 c).After-struct_known-1 in search rules
 
 pub overflow_mul-from-2 : goal.overflow_mul-from-2
 overflow_mul-from-2 c = let m = few (goal.at.overflow_mul-from-2 c).After-struct_known-1 in search rules

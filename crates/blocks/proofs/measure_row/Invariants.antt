@@ -16,7 +16,7 @@ use mir.Syntax.{w32}
 use Rattle.blocks.proofs.measure_row.Given as goal
 
 abbrev pub invariant-loop-j : goal.invariant-loop-j
-invariant-loop-j l = (l.l.first ≤ l.j) × (l.j ≤ l.l.end) × Each (pos 0) (λ k w. block_distance l.l.s l.l.dist k) l.l.first l.j l.l.initial.blocks l.blocks
+invariant-loop-j l = (l.first ≤ l.j) × (l.j ≤ l.end) × Each (pos 0) (λ k w. block_distance l.s l.dist k) l.first l.j l.initial.blocks l.blocks
 
 abbrev pub decreases-loop-j : goal.decreases-loop-j
-decreases-loop-j l = l.l.end - l.j
+decreases-loop-j l = l.end - l.j

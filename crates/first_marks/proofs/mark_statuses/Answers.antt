@@ -19,10 +19,10 @@ pub loop-i-init : goal.loop-i-init
 loop-i-init c = (omega arith, each_none _ _ _ _ _ (omega arith))
 
 pub bounds-status-i : goal.bounds-status-i
-bounds-status-i c = omega (arith, c.loop-i-test.true, c.loop-i.inv.1.len)
+bounds-status-i c = omega (arith, c.loop-i-test.true, c.loop-i.invariant.1.len)
 
 pub bounds-status-i-in-loop-i : goal.bounds-status-i-in-loop-i
-bounds-status-i-in-loop-i c = omega (arith, c.loop-i-test.true, c.loop-i.inv.1.len)
+bounds-status-i-in-loop-i c = omega (arith, c.loop-i-test.true, c.loop-i.invariant.1.len)
 
 pub loop-i-preserved : goal.loop-i-preserved
 loop-i-preserved c =

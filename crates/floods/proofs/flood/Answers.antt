@@ -69,7 +69,7 @@ room : (c : In-loop-at) → c.loop-at.at < length c.args.label.now
 room c =
     let a = c.args in
     let h = turn_in a.patch a.offsets.now a.back (Before c.before) a.seed c.requires.2 (Now c.before) c.loop-at.at (state c.before) c.loop-at-test.true in
-    let G = (state c.before).well-formed in
+    let G = (state c.before).well_formed in
     omega (arith, G.ready.same, G.len)
 
 pub overflow_add-at : goal.overflow_add-at
@@ -101,7 +101,7 @@ shape_of-label c = (state (goal.at.shape_of-label c).At-loop-at).good.len
 
 pub shape_of-work : goal.shape_of-work
 shape_of-work c =
-    let G = (state (goal.at.shape_of-work c).At-loop-at).well-formed in
+    let G = (state (goal.at.shape_of-work c).At-loop-at).well_formed in
     omega (arith, G.ready.same, G.len, c.requires.2.ready.same)
 
 pub returns : goal.returns

@@ -41,8 +41,8 @@ loop-m-preserved c =
     let t = c.lowest-t.result in
     let r = plain-rank _ (sfits_of {w = w32} c.distance-d.type_inv) c.distance-d.ensures in
     let f = sfits_of {w = w32} c.greater_i32-g.type_inv in (
-      scanning-step unmarked.hurried a.dist.now a.at _ (rank_of (to_z w32 l.g-bits)) l.b l.m t _ _ _ l.invariant.0 c.lowest-t.ensures r.0 r.1
-          (c.leading-b.ensures ∙ ap (λ (x : Bool). cond x t l.b) (compared (to_z w32 l.g-bits) _ l.invariant.1))
+      scanning-step unmarked.hurried a.dist.now a.at _ (rank_of (to_z w32 l.g)) l.b l.m t _ _ _ l.invariant.0 c.lowest-t.ensures r.0 r.1
+          (c.leading-b.ensures ∙ ap (λ (x : Bool). cond x t l.b) (compared (to_z w32 l.g) _ l.invariant.1))
           (ap rank_of (to_z-of_z f ∙ c.greater_i32-g.ensures) ∙ rank-greater _ _ l.invariant.1),
       read_fits f,
     )

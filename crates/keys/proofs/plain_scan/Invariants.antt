@@ -15,7 +15,7 @@ use Rattle.keys.proofs.Scanning.{Scanning, scanning-none, scanning-first, scanni
 use Rattle.keys.proofs.plain_scan.Given as goal
 
 abbrev pub invariant-loop-m : goal.invariant-loop-m
-invariant-loop-m l = Scanning unmarked.hurried l.dist l.at l.set (rank_of (to_z w32 l.g-bits)) l.b l.m × SFits w32 (to_z w32 l.g-bits)
+invariant-loop-m l = Scanning unmarked.hurried l.dist l.at l.set (rank_of (to_z w32 l.g)) l.b l.m × SFits w32 (to_z w32 l.g)
 
 abbrev pub decreases-loop-m : goal.decreases-loop-m
 decreases-loop-m l = l.m

@@ -26,3 +26,6 @@ frame-requires c =
 pub returns : goal.returns
 returns c =
     filled _ _ _ (fits (goal.at.returns c).Else-not-fit_sides) (long (goal.at.returns c).Else-values-voxel_count) _ _ c.draw.ensures c.frame.ensures
+
+pub voxel_count-requires : goal.voxel_count-requires
+voxel_count-requires c = fits c

@@ -13,7 +13,7 @@ use Rattle.searching.proofs.Argmax.{span-at, key-is, Skipped, skipped-start, ski
 use Rattle.searching.proofs.first_of.Given as goal
 
 abbrev pub invariant-loop-i : goal.invariant-loop-i
-invariant-loop-i l = (l.i ≤ l.end) × Skipped (key_at (marked l.l.marks) l.l.dist l.l.status l.l.a l.l) l.initial.i l.i (rank (to_z w32 l.best))
+invariant-loop-i l = (l.i ≤ l.end) × Skipped (key_at (marked l.marks) l.dist l.status l.a l.l) l.initial.i l.i (rank (to_z w32 l.best))
 
 abbrev pub decreases-loop-i : goal.decreases-loop-i
 decreases-loop-i l = l.end - l.i

@@ -14,7 +14,7 @@ use Rattle.searching.proofs.highest.Given as goal
 
 abbrev pub invariant-loop-i : goal.invariant-loop-i
 invariant-loop-i l =
-    (l.first ≡ 1 + l.l.a + l.l) × (l.end ≡ length l.l.status - l.first) × (l.first ≤ l.i) × (l.i ≤ l.end) × Holding (key_at (marked l.l.marks) l.l.dist l.l.status l.l.a l.l) l.first l.i l.best
+    (l.first ≡ 1 + l.a + l.l) × (l.end ≡ length l.status - l.first) × (l.first ≤ l.i) × (l.i ≤ l.end) × Holding (key_at (marked l.marks) l.dist l.status l.a l.l) l.first l.i l.best
 
 abbrev pub decreases-loop-i : goal.decreases-loop-i
 decreases-loop-i l = l.end - l.i

@@ -12,7 +12,7 @@ use Rattle.searching.proofs.plain_greatest.Given as goal
 
 abbrev pub invariant-loop-i : goal.invariant-loop-i
 invariant-loop-i l =
-    (l.first ≤ l.i) × (l.i ≤ l.end) × SFits w32 (to_z w32 l.best) × Greatest (surface_key l.l.dist l.l.status l.l.a l.l) l.first l.i (rank (to_z w32 l.best))
+    (l.first ≤ l.i) × (l.i ≤ l.end) × SFits w32 (to_z w32 l.best) × Greatest (surface_key l.dist l.status l.a l.l) l.first l.i (rank (to_z w32 l.best))
 
 abbrev pub decreases-loop-i : goal.decreases-loop-i
 decreases-loop-i l = l.end - l.i

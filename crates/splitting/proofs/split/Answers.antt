@@ -34,7 +34,7 @@ pub loop-row-preserved : goal.loop-row-preserved
 loop-row-preserved c =
     let a = c.args in (
       omega (arith, c.loop-row-test.true),
-      each_row 0 _ a.s.a c.loop-row.row a.status.now c.loop-row.status c.split_row.new.status c.loop-row.inv.1 c.split_row.ensures,
+      each_row 0 _ a.s.a c.loop-row.row a.status.now c.loop-row.status c.split_row.new.status c.loop-row.invariant.1 c.split_row.ensures,
     )
 
 pub shape_of-status : goal.shape_of-status

@@ -38,7 +38,7 @@ loop-i-preserved c =
     ∙ ap (λ (x : ℤ). cond (eqb (get_or a.d.now i 0) 1) x (pos 0))
     (to_z-of_z (sfits_of {w = w32} c.v-1.given) ∙ get_d-within a.values.now i (pos 0) missing c.loop-i-test.true)) in
     let g = counts a.values.now a.d.now i in
-    let e : of_z w32 c.greater_i32-m.result ≡ cond g (max (amount x) c.loop-i.m-bits) c.loop-i.m-bits = ap (of_z w32) is in
+    let e : of_z w32 c.greater_i32-m.result ≡ cond g (max (amount x) c.loop-i.m) c.loop-i.m = ap (of_z w32) is in
     let known = none-stray a.values.now c.requires.1 i in (
       omega (arith, c.loop-i-test.true),
       subst (λ (m : ℕ). m ≤ 1000000000) (sym e) (in-range g x known c.loop-i.invariant.1),
@@ -48,7 +48,7 @@ loop-i-preserved c =
     )
 
 -- M as a number
-number : (c : After-loop-i) → to_z w32 c.loop-i.m-bits ≡ pos c.loop-i.m-bits
+number : (c : After-loop-i) → to_z w32 c.loop-i.m ≡ pos c.loop-i.m
 number c = to_z_pos w32 (omega (arith, c.loop-i.invariant.1))
 
 pub overflow_cast-result : goal.overflow_cast-result

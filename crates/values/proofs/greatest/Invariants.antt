@@ -23,7 +23,7 @@ use Rattle.values.proofs.greatest.Given as goal
 
 abbrev pub invariant-loop-i : goal.invariant-loop-i
 invariant-loop-i l =
-    (l.i ≤ length l.values) × (l.m-bits ≤ 1000000000) × (l.m-bits ≡ greatest 1 (map (λ k. amount (value_at l.values k)) (filter (counts l.values l.d) (range 0 l.i))))
+    (l.i ≤ length l.values) × (l.m ≤ 1000000000) × (l.m ≡ greatest 1 (map (λ k. amount (value_at l.values k)) (filter (counts l.values l.d) (range 0 l.i))))
 
 abbrev pub decreases-loop-i : goal.decreases-loop-i
 decreases-loop-i l = length l.values - l.i

@@ -8,4 +8,4 @@ use Rattle.waking.proofs.Idle.{idle-bits}
 use Rattle.waking.proofs.idle_bits.Goals as goal
 
 pub returns : goal.returns
-returns c = idle-bits c.code_of_lem.result ∙ ap (λ (code : ℕ). bits 54 (idle_bit code)) c.code_of_lem.ensures
+returns c = idle-bits c.code_of-code.result ∙ ap (λ (code : ℕ). bits 54 (idle_bit code)) c.code_of-code.ensures

@@ -44,7 +44,7 @@ overflow_add-at c = let i = inside c in search rules
 pub wake_one-requires : goal.wake_one-requires
 wake_one-requires c =
     let i = inside c in
-    let v = c.loop-m.inv.1 in
+    let v = c.loop-m.invariant.1 in
     (omega arith, c.requires.1 ∙ sym v)
 
 pub loop-m-smaller : goal.loop-m-smaller
@@ -55,7 +55,7 @@ loop-m-smaller c =
 pub loop-m-preserved : goal.loop-m-preserved
 loop-m-preserved c =
     let a = c.args in
-    let v = c.loop-m.inv in (
+    let v = c.loop-m.invariant in (
       omega (arith, v.0, and_le_l c.loop-m.m (c.loop-m.m - 1)),
       c.wake_one.ensures.same ∙ v.1,
       rousing-next (may_go (marked a.marks.now) a.dist.now) a.idle (from_voxel a.a a.l a.at) a.status.now c.loop-m.m

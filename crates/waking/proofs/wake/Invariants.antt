@@ -16,7 +16,7 @@ use Rattle.waking.proofs.wake.Given as goal
 
 abbrev pub invariant-loop-m : goal.invariant-loop-m
 invariant-loop-m l =
-    (l.m ≤ l.idle) × (length l.status ≡ length l.l.initial.status) × (Rousing (may_go (marked l.l.marks) l.l.dist) l.idle (from_voxel l.l.a l.l l.at) l.l.initial.status l.m l.status)
+    (l.m ≤ l.idle) × (length l.status ≡ length l.initial.status) × (Rousing (may_go (marked l.marks) l.dist) l.idle (from_voxel l.a l.l l.at) l.initial.status l.m l.status)
 
 abbrev pub decreases-loop-m : goal.decreases-loop-m
 decreases-loop-m l = l.m
