@@ -1,6 +1,6 @@
 /* Reads a grid file and carves it, from a coarse start where the grid is fit for one, otherwise from a plain one, and says what it took.
  *
- *     rt staticlib capi
+ *     packaging/build
  *     cc -std=c99 -Iinclude examples/carve_coarse.c target/staticlib/libcapi.a -o carve_coarse
  *     ./carve_coarse samples/stockpile.grid
  *

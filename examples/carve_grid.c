@@ -1,6 +1,6 @@
 /* Reads a grid file, carves it in slices, and writes the points of the body's surface, a line "x y z" for each.
  *
- *     rt staticlib capi
+ *     packaging/build
  *     cc -std=c99 -Iinclude examples/carve_grid.c target/staticlib/libcapi.a -o carve_grid
  *     ./carve_grid samples/torus-1.grid points.xyz
  *

@@ -1,6 +1,6 @@
 /* Reads a grid file, and judges a removal list on it: another firm's, or else the one that our own calls make.
  *
- *     rt staticlib capi
+ *     packaging/build
  *     cc -std=c99 -Iinclude examples/judge_list.c target/staticlib/libcapi.a -o judge_list
  *     ./judge_list samples/torus-1.grid
  *     ./judge_list samples/torus-1.grid their.list

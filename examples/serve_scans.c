@@ -1,7 +1,7 @@
 /* Reads up to 16 grid files, and carves them by turns, 100 examinations at a time: each display is drawn after its grid's turn, and none waits for another
  * grid to end.
  *
- *     rt staticlib capi
+ *     packaging/build
  *     cc -std=c99 -Iinclude examples/serve_scans.c target/staticlib/libcapi.a -o serve_scans
  *     ./serve_scans samples/torus-1.grid samples/ball.grid samples/sphere.grid
  *

@@ -1,7 +1,7 @@
 /* Wattlerugby for C and C++: carve a solid box down to a scanned body, and tell whether the body is closed.
  *
  * Link with libwattlerugby.a, as packaging/install puts it beside this header (`pkg-config --cflags --libs wattlerugby`, or
- * find_package(wattlerugby) in CMake). In the repository it is target/staticlib/libcapi.a, which `rt staticlib capi` writes. It is for
+ * find_package(wattlerugby) in CMake). In the repository it is target/staticlib/libcapi.a, which `packaging/build` writes. It is for
  * x86-64 Linux. Of other libraries it needs one function, memset. It allocates nothing, and keeps nothing between calls. The pages and
  * examples that are named here lie in share/doc/wattlerugby where packaging/install put them; a release, and the repository, have them at the
  * top.

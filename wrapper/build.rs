@@ -1,5 +1,5 @@
 //! Finds the archive of the proved library, under the name that it is installed by or its own: in the folder that WATTLERUGBY_ARCHIVE names,
-//! otherwise where `rt staticlib capi` writes it, or where a release has it.
+//! otherwise where `packaging/build` writes it, or where a release has it.
 
 use std::path::{Path, PathBuf};
 
@@ -41,5 +41,5 @@ fn miss(folder: &Path) {
     let archive = archive(folder, "capi");
     println!("cargo:rerun-if-changed={}", archive.display());
     println!("cargo:warning={} is missing, so nothing can be linked", archive.display());
-    println!("cargo:rustc-link-lib=static=libcapi.a (run rt staticlib capi, or set WATTLERUGBY_ARCHIVE to its folder)");
+    println!("cargo:rustc-link-lib=static=libcapi.a (run packaging/build, or set WATTLERUGBY_ARCHIVE to its folder)");
 }

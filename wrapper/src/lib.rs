@@ -131,7 +131,7 @@
 //!
 //! # The archive
 //!
-//! The library is the archive that `rt staticlib capi` writes: build.rs looks for it in the folder that the variable `WATTLERUGBY_ARCHIVE`
+//! The library is the archive that `packaging/build` writes: build.rs looks for it in the folder that the variable `WATTLERUGBY_ARCHIVE`
 //! names (as libwattlerugby.a or libcapi.a), otherwise in target/staticlib, or in lib/ of a release. `cargo doc` and `cargo check` need none;
 //! where a program is to be built without it, the compiler names the archive that it does not find. The archive is for x86-64 Linux, and so is
 //! this crate: for any other target it does not compile. An archive of another version, in which a call takes or answers something else, does

@@ -1,18 +1,36 @@
 // The program carve of document 01: a grid file on standard input, one line on standard output.
 #![tactic(auto)]
 
-use libc::{STDIN_FILENO, STDOUT_FILENO};
+ghost use Rattle.std.specs.Prelude.{◌≤◌, length, IfOk};
 
-fn print_line(file: &[u8]) {
+use std::io;
+use std::io::{Print, Read};
+
+fn print_line(to: &impl Print, file: &[u8]) -> io::Result<()> {
     let text = line::line(file);
     let bytes = text.bytes;
     let start = text.start;
-    io::write_all(STDOUT_FILENO, &bytes[start..]);
+    to.write_all(&bytes[start..])
+}
+
+// Reads until the buffer is full or the input ends, and answers how many bytes now stand at the buffer's start.
+fn read_full(input: &mut impl Read, buffer: &mut [u8]) -> io::Result<usize>
+    ensures { IfOk result (λ n. n ≤ length buffer.new) }
+{
+    let mut done = 0;
+    while done < buffer.len() {
+        let n = input.read(&mut buffer[done..])?;
+        if n == 0 {
+            break;
+        }
+        done += n;
+    }
+    Ok(done)
 }
 
 // One byte more than the input may have, so that longer input is seen to be longer.
-fn main() {
+fn main(rt: HostRuntime) -> io::Result<()> {
     let mut buffer = [0u8; 65537];
-    let n = io::read_full(STDIN_FILENO, &mut buffer);
-    print_line(&buffer[..n]);
+    let n = read_full(&mut rt.stdin(), &mut buffer)?;
+    print_line(&rt, &buffer[..n])
 }

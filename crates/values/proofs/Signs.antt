@@ -102,13 +102,10 @@ greater-is g (pos n) true =
     (λ e. let l = ltb-false g n e in rw e (ap pos (let q : g ≡ max n g = omega arith in q)))
     (two (ltb g n))
 
--- the same, where M is at hand as bits
-pub raised : {m : ℕ} (d : ℕ) {r w : ℤ} (v : ℤ) → m ≤ 1000000000 → r ≡ cond (lt_z (to_z w32 m) w) w (to_z w32 m) → w ≡ cond (eqb d 1) v (pos 0)
+-- the same, where M and the voxel's part in it are at hand as integers
+pub raised : {m : ℕ} (d : ℕ) {x r w : ℤ} (v : ℤ) → x ≡ pos m → r ≡ cond (lt_z x w) w x → w ≡ cond (eqb d 1) v (pos 0)
     → r ≡ pos (cond (measured_non_negative v && eqb d 1) (max (amount v) m) m)
-raised {m} d v l e f =
-    e
-    ∙ ap₂ (λ (x y : ℤ). cond (lt_z x y) y x) (to_z_pos w32 (let q : m < 2 ^ 31 = omega arith in q)) f
-    ∙ greater-is m v (eqb d 1)
+raised {m} d v x-is e f = e ∙ ap₂ (λ (x y : ℤ). cond (lt_z x y) y x) x-is f ∙ greater-is m v (eqb d 1)
 
 -- no value that begin takes makes M greater than the range
 pub in-range : {m : ℕ} (t : Bool) (v : ℤ) → stray v ≡ false → m ≤ 1000000000 → cond t (max (amount v) m) m ≤ 1000000000

@@ -5,13 +5,13 @@ use Prim.Native.Nat.{ℕ, ◌+◌, ◌-◌}
 use native.Mathlib.Omega.{arith}
 use lib.Bits.{and_le_r}
 use mir.Syntax.{w32}
-use mir.Val.{SFits, to_z}
+use mir.Val.{to_z}
 use mir.Facts.{to_z-of_z}
-use borrow.Author.Rules.{sfits_of, rules}
+use borrow.Author.Rules.{sfits_of}
 use Rattle.rules.specs.Marks.{unmarked}
 use Rattle.keys.specs.Key.{rank_of, key_of}
 use Rattle.keys.proofs.Ranks.{read_fits, compared, rank-greater, plain-rank}
-use Rattle.keys.proofs.Scanning.{Scanning, scanning-none, scanning-first, scanning-step, scanning-done}
+use Rattle.keys.proofs.Scanning.{scanning-none, scanning-first, scanning-step, scanning-done}
 use Rattle.keys.proofs.plain_scan.Goals as goal
 
 pub returns-then-set-eq0 : goal.returns-then-set-eq0
@@ -41,8 +41,8 @@ loop-m-preserved c =
     let t = c.lowest-t.result in
     let r = plain-rank _ (sfits_of {w = w32} c.distance-d.type_inv) c.distance-d.ensures in
     let f = sfits_of {w = w32} c.greater_i32-g.type_inv in (
-      scanning-step unmarked.hurried a.dist.now a.at _ (rank_of (to_z w32 l.g)) l.b l.m t _ _ _ l.invariant.0 c.lowest-t.ensures r.0 r.1
-          (c.leading-b.ensures ∙ ap (λ (x : Bool). cond x t l.b) (compared (to_z w32 l.g) _ l.invariant.1))
+      scanning-step unmarked.hurried a.dist.now a.at _ (rank_of (to_z w32 l.g-bits)) l.b l.m t _ _ _ l.invariant.0 c.lowest-t.ensures r.0 r.1
+          (c.leading-b.ensures ∙ ap (λ (x : Bool). cond x t l.b) (compared (to_z w32 l.g-bits) _ l.invariant.1))
           (ap rank_of (to_z-of_z f ∙ c.greater_i32-g.ensures) ∙ rank-greater _ _ l.invariant.1),
       read_fits f,
     )

@@ -2,22 +2,22 @@
 use mathlib.Core.Path.{refl}
 use Prim.Native.Nat.{◌-◌, ◌<◌}
 use native.Mathlib.Omega.{arith}
-use mathlib.Core.Logic.{⊎_elim}
 use borrow.Author.Rules.{rules}
 use Rattle.order_record.proofs.Places.{Shifting, shifting-start, shifting-out, shifting-on, shifted-few, shifted-is}
 use Rattle.order_record.proofs.served_last.Goals as goal
-use Rattle.order_record.proofs.served_last.Goals.{After-loop-k}
+use Rattle.order_record.proofs.served_last.Goals.{After-loop-k, then-other-place, else-other-place}
 
 pub loop-k-init : goal.loop-k-init
 loop-k-init c = shifting-start c.args.o c.args.place
 
 pub loop-k-preserved : goal.loop-k-preserved
 loop-k-preserved c =
-    ⊎_elim
-    (λ w. rw (w.1, w.2) (shifting-on c.args.o c.args.place _ _ _ _ c.loop-k.invariant c.loop-k-test.true refl c.requires.0
-    (λ e. omega (arith, w.0.taken))))
-    (λ w. rw (w.1, w.2) (shifting-out c.args.o c.args.place _ _ _ _ c.loop-k.invariant c.loop-k-test.true refl (omega (arith, w.0.left))))
-    c.if-other-place.branch
+    elim c.if-other-place.branch [
+      | then-other-place w ↦ rw (w.places-is, w.m-is) (shifting-on c.args.o c.args.place _ _ _ _ c.loop-k.invariant c.loop-k-test.true refl c.requires.0
+          w.if-other-place.true)
+      | else-other-place w ↦ rw (w.places-is, w.m-is) (shifting-out c.args.o c.args.place _ _ _ _ c.loop-k.invariant c.loop-k-test.true refl
+          w.if-other-place.false)
+    ]
 
 -- there is room for the place
 room : (c : After-loop-k) → c.loop-k.m < 16

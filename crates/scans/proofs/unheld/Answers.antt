@@ -1,12 +1,13 @@
 -- `scans::unheld` meets its contract. The sign of the bits joined tells whether a distance before voxel i is negative where it may not be.
-use borrow.Author.Rules.{sfits_of, rules}
+use borrow.Author.Rules.{rules}
 use native.Mathlib.Omega.{arith}
 use mathlib.Core.Path.{◌≡◌, ap, refl, sym, ◌∙◌}
-use Prim.Native.Nat.{ℕ, ◌+◌, ◌-◌, ◌≤◌}
+use Prim.Native.Nat.{ℕ, ◌+◌, ◌≤◌}
 use lib.IntN.{ℤ, pos}
+use lib.Bits.{bit_or}
 use lib.ListN.{length, get_or}
 use mir.Syntax.{w32}
-use mir.Val.{of_z}
+use mir.Val.{SFits, of_z}
 use mir.Facts.{to_z-of_z}
 use Rattle.cells.specs.Groups.{any}
 use Rattle.rules.specs.Grid.{range}
@@ -24,18 +25,20 @@ pub loop-i-preserved : goal.loop-i-preserved
 unfolding unheld_at is_inside
 loop-i-preserved c =
     let a = c.args in
+    let all = c.loop-i.all-bits in
     let below : c.loop-i.i + 1 ≤ length a.status.now = omega (arith, c.loop-i-test.true) in
-    let f = sfits_of {w = w32} c.d-1.given in
+    let distance-fits : SFits w32 (get_or a.dist.now c.loop-i.i (pos 0)) = search rules in
     let h = of_z w32 c.held_up-all.result in
-    let e = c.held_up-all.ensures ∙ ap (λ (x : ℤ). held_up x (get_or a.status.now c.loop-i.i 0)) (to_z-of_z f) in (
+    let e = c.held_up-all.ensures ∙ ap (λ (x : ℤ). held_up x (get_or a.status.now c.loop-i.i 0)) (to_z-of_z distance-fits) in (
       below,
-      high-joined 31 c.loop-i.all h
-          ∙ scan-next (unheld_at a.dist.now a.status.now) c.loop-i.i (sign_bit c.loop-i.all) (sign_bit h) c.loop-i.invariant.1
-          (ap (λ (x : ℤ). sign_bit (of_z w32 x)) e ∙ sign-held-up (get_or a.dist.now c.loop-i.i (pos 0)) (get_or a.status.now c.loop-i.i 0) f),
+      sign_read (bit_or all h)
+          ∙ high-joined 31 all h
+          ∙ scan-next (unheld_at a.dist.now a.status.now) c.loop-i.i (sign_bit all) (sign_bit h) (sym (sign_read all) ∙ c.loop-i.invariant.1)
+          (ap (λ (x : ℤ). sign_bit (of_z w32 x)) e ∙ sign-held-up (get_or a.dist.now c.loop-i.i (pos 0)) (get_or a.status.now c.loop-i.i 0) distance-fits),
     )
 
 pub returns : goal.returns
 returns c =
     let a = c.args in
     let e : c.loop-i.i ≡ length a.status.now = omega (arith, c.loop-i-test.false) in
-    sign_read c.loop-i.all ∙ c.loop-i.invariant.1 ∙ ap (λ (n : ℕ). any (unheld_at a.dist.now a.status.now) (range 0 n)) e
+    c.loop-i.invariant.1 ∙ ap (λ (n : ℕ). any (unheld_at a.dist.now a.status.now) (range 0 n)) e

@@ -2,62 +2,72 @@
 use mathlib.Core.Path.{ap, ◌∙◌}
 use native.Mathlib.Omega.{arith}
 use Prim.Native.Nat.{ℕ, ◌+◌, ◌-◌, ◌*◌}
-use borrow.Author.Rules.{rules}
 use lib.ListN.{length}
 use Rattle.cells.specs.Groups.{any}
 use Rattle.rules.specs.Grid.{range}
 use Rattle.scans.specs.Scans.{used_at}
-use Rattle.scans.proofs.Borders.{RowIn, row_in, used-on-border, used-ends}
+use Rattle.scans.proofs.Borders.{row_in, used-on-border, used-ends}
 use Rattle.scans.proofs.used_row.Goals as goal
-use Rattle.scans.proofs.used_row.Goals.{After-shared_slice_known-2-1, After-struct_known-5-1, Start}
-
-here : (c : Start) → RowIn c.args.s c.args.y c.args.z c.requires.1 (length c.args.status.now)
-here c = row_in c.args.s c.args.y c.args.z c.requires.1 (length c.args.status.now) c.requires.0 c.requires.2
-
-abbrev at_test : After-struct_known-5-1 → Start
-at_test c = c.before.before
-
-abbrev past-test : After-shared_slice_known-2-1 → Start
-past-test c = at_test c.before.before
 
 pub overflow_mul-first : goal.overflow_mul-first
-overflow_mul-first c = let r = here (goal.at.overflow_mul-first c).Start in record { fits = omega arith }
+overflow_mul-first c =
+    let a = c.args in
+    let r = row_in a.s a.y a.z c.requires.1 (length a.status.now) c.requires.0 c.requires.2 in
+    record { fits = omega arith }
 
 pub overflow_add-first : goal.overflow_add-first
-overflow_add-first c = let r = here (goal.at.overflow_add-first c).Start in record { fits = omega arith }
+overflow_add-first c =
+    let a = c.args in
+    let r = row_in a.s a.y a.z c.requires.1 (length a.status.now) c.requires.0 c.requires.2 in
+    record { fits = omega arith }
 
 pub overflow_mul-first-2 : goal.overflow_mul-first-2
-overflow_mul-first-2 c = let r = here (goal.at.overflow_mul-first-2 c).Start in record { fits = omega arith }
+overflow_mul-first-2 c =
+    let a = c.args in
+    let r = row_in a.s a.y a.z c.requires.1 (length a.status.now) c.requires.0 c.requires.2 in
+    record { fits = omega arith }
 
 pub overflow_add-end : goal.overflow_add-end
-overflow_add-end c = let r = here (goal.at.overflow_add-end c).Start in record { fits = omega arith }
+overflow_add-end c =
+    let a = c.args in
+    let r = row_in a.s a.y a.z c.requires.1 (length a.status.now) c.requires.0 c.requires.2 in
+    record { fits = omega arith }
 
 pub used_span-requires : goal.used_span-requires
-used_span-requires c = let r = here (at_test (goal.at.used_span-requires c).After-struct_known-5-1) in (omega arith, omega arith)
+used_span-requires c =
+    let a = c.args in
+    let r = row_in a.s a.y a.z c.requires.1 (length a.status.now) c.requires.0 c.requires.2 in
+    (omega arith, omega arith)
 
 pub returns-then-y-s : goal.returns-then-y-s
 returns-then-y-s c =
-    let p = at_test (goal.at.returns-then-y-s c).After-struct_known-5-1 in
-    let r = here p in
-    let a = p.args in
+    let a = c.args in
+    let r = row_in a.s a.y a.z c.requires.1 (length a.status.now) c.requires.0 c.requires.2 in
     c.used_span.ensures
     ∙ ap (λ (n : ℕ). any (used_at a.status.now) (range (a.s.a * (a.y + a.s.b * a.z)) n)) (omega arith)
-    ∙ used-on-border a.s a.y a.z p.pre.1 a.status.now c.if-y-s.true
+    ∙ used-on-border a.s a.y a.z c.requires.1 a.status.now c.if-y-s.true
 
 pub bounds-status-first : goal.bounds-status-first
-bounds-status-first c = let r = here (past-test c) in omega arith
+bounds-status-first c =
+    let a = c.args in
+    let r = row_in a.s a.y a.z c.requires.1 (length a.status.now) c.requires.0 c.requires.2 in
+    omega arith
 
 pub overflow_sub-result : goal.overflow_sub-result
-overflow_sub-result c = let r = here (past-test c) in omega arith
+overflow_sub-result c =
+    let a = c.args in
+    let r = row_in a.s a.y a.z c.requires.1 (length a.status.now) c.requires.0 c.requires.2 in
+    omega arith
 
 pub bounds-status-end : goal.bounds-status-end
-bounds-status-end c = let r = here (past-test (goal.at.bounds-status-end c).After-shared_slice_known-2-1) in omega arith
+bounds-status-end c =
+    let a = c.args in
+    let r = row_in a.s a.y a.z c.requires.1 (length a.status.now) c.requires.0 c.requires.2 in
+    omega arith
 
 pub returns : goal.returns
 unfolding used_at
 returns c =
-    let p = past-test (goal.at.returns c).After-shared_slice_known-2-1 in
-    let r = here p in
-    let a = p.args in
-    used-ends a.s a.y a.z p.pre.1 a.status.now (a.s.a * (a.y + a.s.b * a.z) + a.s.a - 1) r.row.a-low
-    (omega arith) c.if-y-s.false
+    let a = c.args in
+    let r = row_in a.s a.y a.z c.requires.1 (length a.status.now) c.requires.0 c.requires.2 in
+    used-ends a.s a.y a.z c.requires.1 a.status.now (a.s.a * (a.y + a.s.b * a.z) + a.s.a - 1) r.row.a-low (omega arith) c.if-y-s.false

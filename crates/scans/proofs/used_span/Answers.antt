@@ -1,5 +1,4 @@
 -- `scans::used_span` meets its contract: a status other than 0 has a bit.
-use borrow.Author.Rules.{rules}
 use mathlib.Core.Bool.{not}
 use lib.Dec.{eqb}
 use Rattle.scans.specs.Scans.{used_at}

@@ -5,7 +5,7 @@ use mir.Facts.{to_z-of_z}
 use mir.Syntax.{w32}
 use mir.Val.{SFits, to_z, of_z}
 use native.Mathlib.Omega.{arith}
-use borrow.Author.Rules.{sfits_of, rules}
+use borrow.Author.Rules.{sfits_of}
 use Rattle.rules.specs.Marks.{marked}
 use Rattle.searching.specs.Argmax.{key_at, rank, Greatest}
 use Rattle.searching.proofs.Pins.{plain-is}

@@ -2,7 +2,6 @@
 use mathlib.Core.Bool.{Bool, not, ◌&&◌}
 use mathlib.Core.Path.{refl, ap₂, ◌∙◌}
 use Prim.Native.Nat.{ℕ, ◌+◌, ◌-◌}
-use borrow.Author.Rules.{rules}
 use Rattle.rules.specs.Status.{status_of, is_kept}
 use Rattle.status.proofs.Bytes.{kept_and}
 use Rattle.searching.specs.Argmax.{enclosed, surface_at}

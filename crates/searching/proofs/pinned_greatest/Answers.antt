@@ -1,10 +1,10 @@
 -- `searching::pinned_greatest` meets its contract: the loop has the greatest height before voxel i.
 use mathlib.Core.Path.{◌≡◌, refl, subst}
-use Prim.Native.Nat.{ℕ, ◌-◌, ◌≤◌}
+use Prim.Native.Nat.{ℕ}
 use native.Mathlib.Omega.{arith}
-use borrow.Author.Rules.{sfits_of, rules}
+use borrow.Author.Rules.{sfits_of}
 use lib.Dec.{lit<}
-use mir.Val.{SFits, to_z}
+use mir.Val.{to_z}
 use mir.Syntax.{w32}
 use Rattle.rules.specs.Marks.{marked}
 use Rattle.searching.specs.Argmax.{height_at, key_at, rank, Greatest}
@@ -34,7 +34,7 @@ loop-i-preserved c =
     let f = key_at (marked a.marks.now) a.dist.now a.status.now a.a a.l in
     let y = height_at (marked a.marks.now) a.dist.now a.status.now a.a a.l i in
     let g =
-    greatest-held f a.first i (to_z w32 c.loop-i.best) c.height_at.result y c.greater_i32-best.result v.0 v.2 (sfits_of {w = w32} c.height_at.type_inv)
+    greatest-held f a.first i (to_z w32 c.loop-i.best-bits) c.height_at.result y c.greater_i32-best.result v.0 v.2 (sfits_of {w = w32} c.height_at.type_inv)
     (sfits_of {w = w32} c.greater_i32-best.type_inv) c.height_at.ensures c.greater_i32-best.ensures v.3
     (key-is (marked a.marks.now) a.dist.now a.status.now a.a a.l i) in
     (omega (arith, v.0), omega (arith, c.loop-i-test.true), g.0, g.1)
@@ -45,4 +45,4 @@ returns c =
     let v = c.loop-i.invariant in
     let e : c.loop-i.i ≡ a.end = omega (arith, v.1, c.loop-i-test.false) in
     subst (λ (n : ℕ). Greatest (key_at (marked a.marks.now) a.dist.now a.status.now a.a a.l) a.first n
-    (rank (to_z w32 c.loop-i.best))) e v.3
+    (rank (to_z w32 c.loop-i.best-bits))) e v.3

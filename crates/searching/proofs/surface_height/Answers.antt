@@ -1,6 +1,6 @@
 -- `searching::surface_height` meets its contract.
 use mathlib.Core.Path.{ap, ◌∙◌}
-use borrow.Author.Rules.{sfits_of, rules}
+use borrow.Author.Rules.{sfits_of}
 use lib.IntN.{ℤ}
 use mir.Facts.{to_z-of_z}
 use Rattle.rules.specs.Grid.{distance_at}

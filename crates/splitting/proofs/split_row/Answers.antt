@@ -9,7 +9,7 @@ use Rattle.coarse.specs.Blocks.{split_body}
 use Rattle.splitting.specs.Split.{byte_of, block_row, pair_byte, across}
 use Rattle.splitting.proofs.Splitting.{Inward, inward, byte-edge, byte-inner, paired}
 use Rattle.splitting.proofs.split_row.Goals as goal
-use Rattle.splitting.proofs.split_row.Goals.{After-block_row-above, After-block_row-beside, After-block_row-own, Else-y-s, Start}
+use Rattle.splitting.proofs.split_row.Goals.{After-block_row-above, Else-y-s}
 
 pub overflow_mul-first : goal.overflow_mul-first
 overflow_mul-first c = let R = c.requires.1 in search rules
@@ -64,42 +64,33 @@ block_row-above-requires c =
 
 -- the three rows of blocks
 module _ (c : After-block_row-above) where
-  abbrev beside : After-block_row-beside
-  beside = c.before.before
-
-  abbrev own : After-block_row-own
-  own = beside.before.before
-
-  abbrev start : Start
-  start = own.before.before
-
   abbrev y : ℕ
-  y = start.args.row % start.args.s.b
+  y = c.args.row % c.args.s.b
 
   abbrev z : ℕ
-  z = start.args.row / start.args.s.b
+  z = c.args.row / c.args.s.b
 
-  beside-is : beside.block-row2.result ≡ block_row start.args.s (across y) (z / 2)
-  beside-is = beside.block-row2.ensures ∙ ap (λ (n : ℕ). block_row start.args.s n (z / 2)) beside.before.across.ensures
+  beside-is : c.block_row-beside.result ≡ block_row c.args.s (across y) (z / 2)
+  beside-is = c.block_row-beside.ensures ∙ ap (λ (n : ℕ). block_row c.args.s n (z / 2)) c.across.ensures
 
-  above-is : c.block_row-above.result ≡ block_row start.args.s (y / 2) (across z)
-  above-is = c.block_row-above.ensures ∙ ap (block_row start.args.s (y / 2)) c.across-2.ensures
+  above-is : c.block_row-above.result ≡ block_row c.args.s (y / 2) (across z)
+  above-is = c.block_row-above.ensures ∙ ap (block_row c.args.s (y / 2)) c.across-2.ensures
 
 pub pairs-requires : goal.pairs-requires
 pairs-requires c =
-    let s = start c in
-    let a = s.args in
-    paired a.s a.dist.now a.blocks.now _ s.pre.0 a.row s.pre.1 (own c).block_row.result (beside c).block-row2.result
-    c.block_row-above.result (own c).block_row.ensures (beside-is c) (above-is c) (off-ends (own c).before)
+    let a = c.args in
+    let q = (goal.at.pairs-requires c).After-block_row-above in
+    paired a.s a.dist.now a.blocks.now _ c.requires.0 a.row c.requires.1 c.block_row-own.result c.block_row-beside.result
+    c.block_row-above.result c.block_row-own.ensures (beside-is q) (above-is q) (off-ends (goal.at.pairs-requires c).Else-y-s)
 
 pub returns : goal.returns
 returns c =
-    let s = start c in
-    let a = s.args in
+    let a = c.args in
+    let q = (goal.at.returns c).After-block_row-above in
     let first : ℕ = a.s.a * a.row in
-    let f : ℕ → ℕ → ℕ = λ k d. pair_byte a.dist.now a.blocks.now first (own c).block_row.result (beside c).block-row2.result
+    let f : ℕ → ℕ → ℕ = λ k d. pair_byte a.dist.now a.blocks.now first c.block_row-own.result c.block_row-beside.result
     c.block_row-above.result k in
-    each-as 0 f (λ k d. byte_of a.s a.dist.now (split_body a.s a.blocks.now) k) first (first + a.s.a) a.status.now c.pairs.new.0
-    (byte-inner a.s a.dist.now a.blocks.now _ s.pre.0 a.row s.pre.1 (own c).block_row.result (beside c).block-row2.result
-    c.block_row-above.result (own c).block_row.ensures (beside-is c) (above-is c))
-    (subst (λ (n : ℕ). Each 0 f first (first + n) a.status.now c.pairs.new.0) s.pre.0.even.a-even c.pairs.ensures)
+    each-as 0 f (λ k d. byte_of a.s a.dist.now (split_body a.s a.blocks.now) k) first (first + a.s.a) a.status.now c.pairs.new.status
+    (byte-inner a.s a.dist.now a.blocks.now _ c.requires.0 a.row c.requires.1 c.block_row-own.result c.block_row-beside.result
+    c.block_row-above.result c.block_row-own.ensures (beside-is q) (above-is q))
+    (subst (λ (n : ℕ). Each 0 f first (first + n) a.status.now c.pairs.new.status) c.requires.0.even.a-even c.pairs.ensures)

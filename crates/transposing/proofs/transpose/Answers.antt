@@ -38,7 +38,7 @@ pub loop-j-preserved : goal.loop-j-preserved
 loop-j-preserved c =
     let a = c.args in (
       omega (arith, c.loop-j-test.true),
-      transposed-more a.from.now a.at a.rows a.m a.first c.loop-j.j a.to.now c.loop-j.to c.gather.new.to.1.1.0 c.loop-j.invariant.1
+      transposed-more a.from.now a.at a.rows a.m a.first c.loop-j.j a.to.now c.loop-j.to c.gather.new.to c.loop-j.invariant.1
           c.gather.ensures,
     )
 

@@ -1,5 +1,4 @@
 -- `beside` by the test.
-use mathlib.Core.Path.{◌∙◌}
 use mir.Facts.{to_z-of_z}
 use borrow.Author.Tests.{eq-eqb, ne_eqb}
 use Rattle.values.proofs.beside.Goals as goal

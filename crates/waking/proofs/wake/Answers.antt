@@ -13,7 +13,7 @@ use Rattle.waking.specs.Waking.{from_voxel}
 use Rattle.waking.proofs.Idle.{has-beyond}
 use Rattle.waking.proofs.Waking.{lowest-position, position-below, Rousing, rousing-start, rousing-next, rousing-done}
 use Rattle.waking.proofs.wake.Goals as goal
-use Rattle.waking.proofs.wake.Goals.{After-lowest-p, After-offset}
+use Rattle.waking.proofs.wake.Goals.{After-offset}
 
 pub loop-m-init : goal.loop-m-init
 loop-m-init c =
@@ -23,20 +23,21 @@ loop-m-init c =
 pub lowest-p-requires : goal.lowest-p-requires
 lowest-p-requires c = c.loop-m-test.true
 
--- the position of the lowest bit
-position : (c : After-lowest-p) → c.lowest-p.result / 2 < 27
-position c =
-    lowest-position c.args.idle c.loop-m.m c.lowest-p.result c.requires.0.few c.loop-m.invariant.0 c.lowest-p.ensures
-
 pub offset-requires : goal.offset-requires
 offset-requires c =
     let p = c.requires.0 in
-    record { row = p.room.row; layer = p.room.layer; below = position (goal.at.offset-requires c).After-lowest-p }
+    record {
+      row = p.room.row;
+      layer = p.room.layer;
+      below = lowest-position c.args.idle c.loop-m.m c.lowest-p.result p.few c.loop-m.invariant.0 c.lowest-p.ensures;
+    }
 
+-- the voxel at the lowest bit
 inside : (c : After-offset) → let a = c.args in a.at + c.offset.result < length a.status.now
 inside c =
     let a = c.args in
-    omega (arith, c.offset.ensures, position-below a.a a.l a.at _ (length a.status.now) c.requires.0.room (position c.before.before))
+    omega (arith, c.offset.ensures, position-below a.a a.l a.at _ (length a.status.now) c.requires.0.room
+    (lowest-position a.idle c.loop-m.m c.lowest-p.result c.requires.0.few c.loop-m.invariant.0 c.lowest-p.ensures))
 
 pub overflow_add-at : goal.overflow_add-at
 overflow_add-at c = let i = inside c in search rules
