@@ -1,6 +1,7 @@
 """What the tools of this folder share: the repository's crates and files, and the declarations of a file."""
 import re
 import signal
+import subprocess
 import sys
 from pathlib import Path
 from typing import NamedTuple
@@ -18,10 +19,10 @@ def stop(message, status=2):
 
 
 def crates():
-    """Each crate of crates.txt with what it lists."""
+    """Each crate of crates.txt with what it lists. A word after the name, as staticlib, says what it is built as."""
     lines = (ROOT / "crates.txt").read_text(encoding="utf-8").splitlines()
     named = (line.split("#")[0].partition(":") for line in lines)
-    return {name.strip(): listed.split() for name, _, listed in named if name.strip()}
+    return {name.split()[0]: listed.split() for name, _, listed in named if name.strip()}
 
 
 def known(crate):
@@ -34,6 +35,17 @@ def files(crate):
     """The code, specifications and proofs of a crate."""
     folder = ROOT / "crates" / crate
     return sorted(p for part in ("src", "specs", "proofs") for p in (folder / part).rglob("*") if p.suffix in (".rt", ".antt"))
+
+
+def checked(crate, function, *flags):
+    """What a check of one function prints. One that is not proved yet is what it is asked for, so rt's status says nothing."""
+    path = "::".join([crate, *function.split("/")])
+    folder = ROOT / "crates" / crate
+    try:
+        done = subprocess.run(["rt", "check", "--only", path, *flags], cwd=folder, stdout=subprocess.PIPE, stderr=subprocess.STDOUT)
+    except FileNotFoundError:
+        stop("rt is not on the path")
+    return done.stdout.decode()
 
 
 def shown(path):

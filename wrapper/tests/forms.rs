@@ -55,9 +55,14 @@ fn bare(text: &str) -> String {
     text.lines().map(|line| line.split("//").next().expect("a split has a first part")).collect::<Vec<_>>().join("\n")
 }
 
-/// Code without what its contracts and invariants state.
+/// Code without what is stated in it, by `prove!` and by the clauses of closures.
 fn unstated(text: &str) -> String {
-    text.split('⌜').enumerate().map(|(i, part)| if i == 0 { part } else { part.split('⌝').nth(1).unwrap_or("") }).collect()
+    const STATED: [(&str, char); 4] = [("prove!", '('), ("prove_eq!", '('), ("requires", '{'), ("ensures", '{')];
+    let first = STATED.iter().filter_map(|(word, open)| text.find(word).map(|at| (at, *open))).min();
+    let Some((at, open)) = first else { return text.to_string() };
+    let stated = &text[at..];
+    let (_, rest) = enclosed(&stated[stated.find(open).expect("what is stated")..]);
+    text[..at].to_string() + &unstated(rest)
 }
 
 /// The paths that an opening parenthesis follows: what is called.
@@ -275,7 +280,7 @@ fn a_form_that_goes_is_missed() {
         ("add hex 9E3779B9", "practice", "wrapping_add_u32(s, 0x9E3779B9)", "(s as u64 + 0x9E3779B9) as u32"),
         ("add hex 9E3779B9", "capi", "practice::practice(", "practice::filled("),
         ("It reads the 27", "local_test", "[[u8; 3]; 3]", "u32"),
-        ("It reads the 27", "local_test", "ghost use mathlib.Core.Path", "pub fn of_bits() {}\nghost use mathlib.Core.Path"),
+        ("It reads the 27", "local_test", "ghost use Rattle.std.specs.Prelude", "pub fn of_bits() {}\nghost use Rattle.std.specs.Prelude"),
         ("It reads the 27", "capi", "local_test::local_test", "local_test::of_bits"),
         ("hands back its value bytes", "layers", "pub values: &'a [u8]", "pub from: usize"),
         ("hands back its value bytes", "layers", "read_layer(sides", "layer_of(sides"),
@@ -287,11 +292,11 @@ fn a_form_that_goes_is_missed() {
         (
             "The answer of take",
             "rules",
-            "        k: u32,\n        m: u32,\n        face: u32,\n        next: Record,\n    },\n    Refused(u8),\n}\n\npub enum Opened",
-            "    },\n}\n\npub enum Opened",
+            "        k: u32,\n        m: u32,\n        face: u32,\n        next: Record,\n    },\n    Refused(u8),\n}\n\n#[derive(Clone, Copy)]\npub enum Opened",
+            "    },\n}\n\n#[derive(Clone, Copy)]\npub enum Opened",
         ),
         ("t is p / (p + q)", "surface", "p as f64 / (p + q) as f64", "1.0 / (1.0 + q as f64 / p as f64)"),
-        ("t is p / (p + q)", "capi", "BoundedAt (given", "Anywhere (given"),
+        ("t is p / (p + q)", "capi", "BoundedAt given", "Anywhere given"),
     ];
     for (sentence, krate, old, new) in taken {
         let changed = std::cell::Cell::new(false);

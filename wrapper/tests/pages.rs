@@ -245,11 +245,12 @@ fn the_rules_are_as_long_as_is_said() {
 
 // ---- README: the picture of crates
 
-/// The crates of crates.txt, each with what it cites.
+/// The crates of crates.txt, each with what it cites. What follows a name, as staticlib, says what the crate is built as.
 fn crates() -> HashMap<String, Vec<String>> {
     let text = text(&root().join("crates.txt"));
     let lines = text.lines().filter(|line| !line.starts_with('#')).filter_map(|line| line.split_once(':'));
-    lines.map(|(name, cited)| (name.to_string(), cited.split_whitespace().map(str::to_string).collect())).collect()
+    let words = |text: &str| text.split_whitespace().map(str::to_string).collect::<Vec<String>>();
+    lines.map(|(name, cited)| (words(name).swap_remove(0), words(cited))).collect()
 }
 
 /// The names in README's picture, each with its row. What stands to the right of them tells what they are.

@@ -5,7 +5,6 @@ use Prim.Native.Nat.{ℕ, zero, suc, ◌+◌, ◌-◌, ◌*◌, ◌/◌, ◌%◌
 use native.Mathlib.Nat.{div-one, pow-suc}
 use native.Mathlib.Omega.{arith}
 use lib.Dec.{eqb}
-use lib.Bits.{bit_and}
 use lib.Count.{count_trailing_zeros, under}
 use Rattle.prelude.proofs.Bools.{and_zero, not-both}
 use Rattle.bits.specs.Bits.{has}

@@ -1,13 +1,13 @@
 -- Members of a list; `any` and `filter` by members.
 use mathlib.Core.Path.{◌≡◌, refl, ap, ap₂, sym, ◌∙◌, subst}
 use mathlib.Core.Logic.{◌⊎◌, inl, inr}
-use mathlib.Core.Bool.{Bool, true, false, cond, ◌||◌, true≢false}
+use mathlib.Core.Bool.{Bool, true, false, ◌||◌, true≢false}
 use mathlib.Core.List.{List, [], ◌∷◌, ◌++◌, map}
-use Prim.Native.Nat.{ℕ, zero, suc, ◌+◌, ◌≤◌, ◌<◌}
+use Prim.Native.Nat.{ℕ, zero, suc, ◌<◌}
 use native.Mathlib.Omega.{arith}
 use lib.ListN.{length, get_or, take, drop, take-append-drop}
 use Rattle.prelude.specs.Lists.{any, cons_if, filter}
-use Rattle.prelude.proofs.Bools.{or-true, true-or, or-false, or_assoc, not-both}
+use Rattle.prelude.proofs.Bools.{or-true, true-or, or-false, or_assoc}
 
 pub data Mem {A : Type 0} (x : A) : List A → Type 0 where
   here : {xs : List A} → Mem x (x ∷ xs)

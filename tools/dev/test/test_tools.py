@@ -11,7 +11,7 @@ TOOLS = Path(__file__).resolve().parents[1]
 
 LAW = "plus-zero : (n : ℕ) → n + 0 ≡ n\nplus-zero n = refl\n"
 RULES = """-- Rules.
-use Prim.Native.Nat.{ℕ}
+use Rattle.std.specs.Prelude.{ℕ}
 
 unfoldable pub half : ℕ → ℕ
 half n = n / 2
@@ -26,7 +26,7 @@ module _ {A : Type 0} where
 """
 CODE = """// Half of n.
 pub fn half(n: u32) -> u32
-    ensures { λ r. ⌜ r ≡ half n ⌝ }
+    ensures { result ≡ half n }
 {
     n / 2
 }
@@ -35,14 +35,14 @@ fn one() -> u32 {
     1
 }
 """
-WORKED = "use Rattle·low·specs.specs.Rules.{Worked}\n\nworked : Worked\nworked = record { four = refl; T1 = refl }\n\nunused : ℕ\nunused = 3\n"
+WORKED = "use Rattle.low.specs.Rules.{Worked}\n\nworked : Worked\nworked = record { four = refl; T1 = refl }\n\nunused : ℕ\nunused = 3\n"
 LONG = """first-law : (n m : ℕ) → n + (m + 7) ≡ (n + m) + 7
 first-law n m =
     let z : n + m ≡ m + n = omega (arith, first n m) in
-    let y : n + m + 0 ≡ m + n = omega arith in ap (_+_ 7) (sym z)
+    let y : n + m + 0 ≡ m + n = omega arith in ap (◌+◌ 7) (sym z)
 """
 FILES = {
-    "crates.txt": "# the rules\nlow:\nspare:\nhigh: low spare\ntop: high low\n",
+    "crates.txt": "# the rules\nlow:\nspare:\nhigh: low spare\ntop staticlib: high low\n",
     "crates/low/src/lib.rt": CODE,
     "crates/low/specs/Rules.antt": RULES,
     "crates/low/proofs/Laws.antt": LAW,
@@ -54,27 +54,31 @@ FILES = {
     "crates/top/src/lib.rt": "fn eighth(n: u32) -> u32 {\n    high::quarter(n / 2)\n}\n",
     "crates/high/proofs/Laws.antt": LAW + "\nquarter-law : ℕ\nquarter-law = plus-zero 3\n",
 }
-WALK = """      pub record Start : Type 0 where
-        pub κs : Lifetimes.Lfts 1
-        pub args : Args κs
-        pub pre : Pre
-
-      abbrev pub Need-add-i : Type 0
-      Need-add-i = (c : Start) → s0 .asks
-
-        pub record Args : Type 0 where
-          pub n : Num
-
-        pub record Then1·own : Type 0 where
-          pub taken : Nat._<_
-
-      pub record Then1 : Type 0 where
-        pub before : Start
-        pub if1 : Then1·own before
-
-      Need-returns =
-          (c : Then1) →
-          Post
+# what a check prints of goals that no answer proves, and of an answer with a hole
+ASKED = """fn low::half: no proof: expected answers in ./proofs/half/Answers.antt; `search` did not prove `overflow_add-i`
+note: `overflow_add-i` of proofs/half/Answers.antt must prove: Fits w32 (c.args.n + 1)
+  names you can use, by step:
+  | c: .lifetimes, .requires
+  | c.args: .n
+note: `returns` of proofs/half/Answers.antt must prove: c.args.n ≡ 2
+  names you can use: as in `overflow_add-i` above
+  the goal has names of Rattle's own, which may change: c.blocks: leave it to a tactic
+note: `returns-2` of proofs/half/Answers.antt must prove: c.args.n ≡ 4
+  names you can use, by step:
+  | as in `returns` above, as far as c
+  | c.one: .result, .ensures
+note: `returns` of proofs/one/Answers.antt must prove: 1 ≡ 2
+  names you can use, by step:
+  | c: .other
+./proofs/half/Answers.antt:6:22: goal ? in `then-small`
+    c : goal.then-small
+  ⊢ c.args.n ≡ 3
+  names you can use, by step:
+    c: .lifetimes
+    c.if-n-lt4: .true
+  the newest fields, with their types:
+    c.args.n : ℕ
+logic=not-proved
 """
 
 
@@ -123,7 +127,7 @@ class Tools(unittest.TestCase):
         (self.root / "crates/rules/specs").mkdir(parents=True)
         self.git("mv", "crates/low/specs/Rules.antt", "crates/rules/specs/Half.antt")
         self.write("crates/rules/specs/Half.antt", RULES.replace("n / 2", "(n + 0) / 2") + "\npub double : ℕ → ℕ\ndouble n = n + n\n")
-        self.write("crates/low/src/lib.rt", CODE.replace("r ≡ half n", "half n ≡ r"))
+        self.write("crates/low/src/lib.rt", CODE.replace("result ≡ half n", "half n ≡ result"))
         self.write("crates/high/proofs/New.antt", "new : ℕ\nnew = 1\n")
         (self.root / "crates/low/proofs/Worked.antt").unlink()
         self.commit()
@@ -151,30 +155,40 @@ class Tools(unittest.TestCase):
         self.assertRegex(printed, r"2 high +3 +0 +5  low 2; not cited: spare")
         # top does not cite low, but high does
         self.assertRegex(printed, r"3 top +3 +0 +0  high 1; not cited: low\nhigh lists spare in vain\n$")
+        # an answer is cited by the prover
+        answers = "use Rattle.high.proofs.quarter.Goals as goal\n\npub returns : goal.returns\nreturns c = search rules\n"
+        self.write("crates/high/proofs/quarter/Answers.antt", answers)
         printed = self.tool("layers", "--dead")
         self.assertIn("crates/low/proofs/Worked.antt:3: worked shows Worked\n", printed)
         others = printed.partition("others:\n")[2].split("\n")
         self.assertIn("  crates/low/proofs/Worked.antt:6: unused", others)
         self.assertIn("  crates/high/proofs/Laws.antt:4: quarter-law", others)
         self.assertNotIn("plus-zero", printed)
+        self.assertNotIn("returns", printed)
 
     def test_places(self):
-        self.write("made/Rattle·low·proofs/proofs/half/Lts.antt", WALK)
-        made = ("--generated", self.root / "made")
-        places = "Start: .args (n), .pre\n    asks add-i\nThen1 after Start: .if1 (taken)\n    asks returns\n"
-        self.assertEqual(self.tool("places", "low", "half", *made), places)
-        self.assertEqual(self.tool("places", "low", "half", "returns", *made), "c .if1 (taken)\nc .before .args (n), .pre\n")
-        self.assertIn("low has half", self.tool("places", "low", "third", *made, status=1))
-        self.assertIn("no crate", self.tool("places", "lowest", "half", *made, status=2))
+        kept = ("--output", self.write("said", ASKED))
+        known = "    c: .lifetimes, .requires\n    c.args: .n\n"
+        second = "returns-2\n    c: .lifetimes, .requires\n    c.one: .result, .ensures\n"
+        small = "then-small\n    c: .lifetimes\n    c.if-n-lt4: .true\n"
+        self.assertEqual(self.tool("places", "low", "half", *kept), f"overflow_add-i\n{known}returns\n{known}{second}{small}")
+        self.assertEqual(self.tool("places", "low", "half", "then-small", *kept), small)
+        self.assertIn("there are overflow_add-i, returns, returns-2, then-small", self.tool("places", "low", "half", "loop", *kept, status=1))
+        self.assertIn("no goal of third is open", self.tool("places", "low", "third", *kept, status=1))
+        self.assertIn("no crate", self.tool("places", "lowest", "half", *kept, status=2))
 
     def test_skeleton(self):
-        said = "help: write ./proofs/one/Proof.antt with these lines, and check again: ..\n"
-        said += "    use a\n\n    returns : b\n    returns c = ?\nlogic=not-proved\n"
+        said = "help: write ./proofs/one/Answers.antt with these lines, and check again: ..\n"
+        said += "    use a\n    \n    pub returns : b\n    returns c = ?\nlogic=not-proved\n"
         kept = self.write("said", said)
-        self.assertIn("1 holes", self.tool("skeleton", "low", "one", "--output", kept))
-        self.assertEqual((self.root / "crates/low/proofs/one/Proof.antt").read_text(), "use a\n\nreturns : b\nreturns c = ?\n")
+        self.assertIn("proofs/one/Answers.antt: 1 holes", self.tool("skeleton", "low", "one", "--output", kept))
+        answers = self.root / "crates/low/proofs/one/Answers.antt"
+        self.assertEqual(answers.read_text(), "use a\n\npub returns : b\nreturns c = ?\n")
+        # an invariant that is asked for later has a file of its own
+        later = self.write("later", said.replace("Answers", "Invariants").replace("returns", "invariant-loop"))
+        self.assertIn("proofs/one/Invariants.antt: 1 holes", self.tool("skeleton", "low", "one", "--output", later))
         self.assertIn("stands already", self.tool("skeleton", "low", "one", "--output", kept, status=1))
-        self.assertIn("prints no proof", self.tool("skeleton", "low", "half", "--output", kept, status=1))
+        self.assertIn("asks for no answer", self.tool("skeleton", "low", "half", "--output", kept, status=1))
 
     def test_costs(self):
         times = "crate low 8\ncrate high 2\nedit low/third 5\nedit low/whole 4\nedits: 2, 9 seconds in all\n"
@@ -187,11 +201,18 @@ class Tools(unittest.TestCase):
         self.assertIn("wrong implementations compiled: 20 s, 35 s of processor time\nwrong implementations run: 9 s\n", printed)
         self.assertIn("  low: 8 s, edits of code: 2\n  low: edits at one place: third, whole\n", printed)
         self.write("crates/low/must-fail/one.edit", "file: src/lib.rt\nold: 1\nnew: 2\n")
-        log = "library x: modules loaded=900 checked=0\nlibrary y: modules loaded=101 checked=0\nrt: low proved (6 s)\n"
+        log = "== low\nstatements x: modules loaded=900 checked=0\nstatements y: modules loaded=101 checked=0\nrt: low proved\n"
+        log += "rt: must-fail low/one.edit: refused, as it must be: note: src/lib.rt:1:1: it is not proved\n"
+        printed = self.tool("costs", self.write("log", log), status=1)
+        self.assertIn("edits a crate: low 3\n", printed)
+        self.assertIn("low: 1001 modules, edits: 3", printed)
+        self.assertNotIn("edits of code:", printed)
+        # as the gate writes it, and as an older kit told seconds
+        self.assertIn("low: 1002 modules, edits: 3", self.tool("costs", self.write("log", "modules low 1002\n"), status=1))
+        log = "library x: modules loaded=1001 checked=0\nrt: low proved (6 s)\n"
         log += "rt: must-fail low/one: refused, as it must be (first at a:1:1; 5 s)\n"
         printed = self.tool("costs", self.write("log", log), status=1)
         self.assertIn("low: 1001 modules, edits: 3", printed)
-        self.assertNotIn("edits of code:", printed)
         self.assertIn("   5 s low/one", printed)
         file.unlink()
         self.assertIn("is not there", self.tool("costs", status=2))

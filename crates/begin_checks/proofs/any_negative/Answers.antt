@@ -1,8 +1,8 @@
 -- `any_negative`: the loop has looked at the values before i.
-use borrow.Author.Rules.{sfits_of, rules}
+use borrow.Author.Rules.{sfits_of}
 use native.Mathlib.Omega.{arith}
 use mathlib.Core.Path.{◌≡◌, ap, ◌∙◌, sym}
-use Prim.Native.Nat.{ℕ, ◌-◌, ◌≤◌}
+use Prim.Native.Nat.{ℕ, ◌-◌}
 use lib.IntN.{pos}
 use mir.Facts.{to_z-of_z}
 use Rattle.cells.specs.Groups.{any}

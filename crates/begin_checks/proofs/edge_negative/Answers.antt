@@ -1,6 +1,6 @@
 -- `edge_negative`: the rows before this one have been looked at.
 use mathlib.Core.Path.{◌≡◌, sym, ap, ◌∙◌}
-use Prim.Native.Nat.{ℕ, ◌*◌, ◌-◌, ◌≤◌}
+use Prim.Native.Nat.{ℕ, ◌*◌}
 use native.Mathlib.Omega.{arith}
 use native.Mathlib.Nat.{mul-zero}
 use Rattle.cells.specs.Groups.{any}
@@ -8,7 +8,6 @@ use Rattle.rules.specs.Grid.{range}
 use Rattle.prelude.proofs.Ranges.{any-run-none, scan-join}
 use Rattle.loops.proofs.Rows.{row_of, rows_more, rows_all, rows_few}
 use Rattle.begin_checks.specs.Given.{edge_negative}
-use borrow.Author.Rules.{rules}
 use Rattle.begin_checks.proofs.edge_negative.Goals as goal
 
 pub overflow_mul-rows : goal.overflow_mul-rows

@@ -1,14 +1,9 @@
 -- `edge_negative`: the rows before this one have been looked at.
-use mathlib.Core.Path.{◌≡◌, sym, ap, ◌∙◌}
-use Prim.Native.Nat.{ℕ, ◌*◌, ◌-◌, ◌≤◌}
-use native.Mathlib.Omega.{arith}
-use native.Mathlib.Nat.{mul-zero}
+use mathlib.Core.Path.{◌≡◌}
+use Prim.Native.Nat.{◌*◌, ◌-◌, ◌≤◌}
 use Rattle.cells.specs.Groups.{any}
 use Rattle.rules.specs.Grid.{range}
-use Rattle.prelude.proofs.Ranges.{any-run-none, scan-join}
-use Rattle.loops.proofs.Rows.{row_of, rows_more, rows_all, rows_few}
 use Rattle.begin_checks.specs.Given.{edge_negative}
-use borrow.Author.Rules.{rules}
 use Rattle.begin_checks.proofs.edge_negative.Given as goal
 
 abbrev pub invariant-loop-row : goal.invariant-loop-row

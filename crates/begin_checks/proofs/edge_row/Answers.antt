@@ -1,6 +1,5 @@
 -- `edge_row`: a row near an end, or the ends of any other.
 use native.Mathlib.Omega.{arith}
-use borrow.Author.Rules.{rules}
 use Rattle.begin_checks.specs.Given.{negative_at}
 use Rattle.begin_checks.proofs.Edges.{row-on-edge, row_ends}
 use Rattle.begin_checks.proofs.edge_row.Goals as goal

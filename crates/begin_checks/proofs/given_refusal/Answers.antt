@@ -3,12 +3,11 @@ use mathlib.Core.Path.{◌≡◌, refl, sym, ap, ap₂, ◌∙◌}
 use mathlib.Core.Bool.{Bool, true, false, not, ◌||◌}
 use Prim.Native.Nat.{ℕ, ◌-◌}
 use native.Mathlib.Omega.{arith}
-use borrow.Author.Rules.{rules}
 use borrow.Author.Tests.{eq-eqb, ne_eqb, lt-ltb, le-ltb}
 use lib.Dec.{eqb, ltb}
 use lib.ListN.{length}
 use Rattle.cells.specs.Groups.{any}
-use Rattle.prelude.proofs.Bools.{not-true, not-false, or-one}
+use Rattle.prelude.proofs.Bools.{or-one}
 use Rattle.rules.specs.Value.{stray}
 use Rattle.rules.specs.Grid.{size, range}
 use Rattle.rules.specs.Checks.{first_failing}
@@ -83,12 +82,13 @@ returns-then-edge_negative c =
     (sym c.edge_negative.ensures ∙ c.if-edge_negative.true) refl
 
 -- past the edges: the last scan decides
-decided : (c : Else-edge_negative) (t : Bool) → let a = c.args in any (negative_at a.values.now) (range 0 (size a.sides)) ≡ t
+decided : (c : Else-edge_negative) (t : Bool) → let a = c.args in
+    wrong-length a.sides a.values.now a.marks.now ≡ false → any stray a.values.now ≡ false → stray_mark a.marks.now ≡ false
+    → any (negative_at a.values.now) (range 0 (size a.sides)) ≡ t
     → turns a.sides a.values.now a.marks.now false false false false t ≡ first_failing (given_checks a.sides a.values.now a.marks.now)
-decided c t e =
+decided c t lengths values marks scan =
     let a = c.args in
-    number_is a.sides a.values.now a.marks.now false false false false t (right (goal.at.any_negative-requires c).Else-marks-n) (known (goal.at.any_negative-requires c).Else-any_beyond) (unstray (goal.at.any_negative-requires c).Else-all-gt3)
-    (sym c.edge_negative.ensures ∙ c.if-edge_negative.false) e
+    number_is a.sides a.values.now a.marks.now false false false false t lengths values marks (sym c.edge_negative.ensures ∙ c.if-edge_negative.false) scan
 
 scanned : (c : After-any_negative) (t : Bool) → c.any_negative.result ≡ t → let a = c.args in any (negative_at a.values.now) (range 0 (size a.sides)) ≡ t
 scanned c t e =
@@ -99,7 +99,12 @@ scanned c t e =
 
 pub returns-then-not-any_negative : goal.returns-then-not-any_negative
 returns-then-not-any_negative c =
-    let g = goal.at.returns-then-not-any_negative c in decided g.Else-edge_negative false (scanned g.After-any_negative false c.if-not-any_negative.true)
+    let g = goal.at.returns-then-not-any_negative c in
+    decided g.Else-edge_negative false (right g.Else-marks-n) (known g.Else-any_beyond) (unstray g.Else-all-gt3)
+    (scanned g.After-any_negative false c.if-not-any_negative.true)
 
 pub returns : goal.returns
-returns c = let g = goal.at.returns c in decided g.Else-edge_negative true (scanned g.After-any_negative true c.if-not-any_negative.false)
+returns c =
+    let g = goal.at.returns c in
+    decided g.Else-edge_negative true (right g.Else-marks-n) (known g.Else-any_beyond) (unstray g.Else-all-gt3)
+    (scanned g.After-any_negative true c.if-not-any_negative.false)

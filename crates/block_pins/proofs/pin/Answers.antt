@@ -1,14 +1,10 @@
 -- `pin`: the rows before this one are written.
-use Prim.Native.Nat.{◌*◌, ◌-◌, ◌/◌, ◌≤◌}
+use Prim.Native.Nat.{◌/◌}
 use native.Mathlib.Omega.{arith}
 use native.Mathlib.Nat.{mul-zero}
-use borrow.Author.Rules.{rules}
 use Rattle.rules.specs.Grid.{voxels}
-use Rattle.loops.specs.InPlace.{Each}
 use Rattle.loops.proofs.InPlace.{each_none, each_all}
 use Rattle.loops.proofs.Rows.{each_row}
-use Rattle.rules.specs.Marks.{marked}
-use Rattle.block_pins.specs.Pins.{pin_at}
 use Rattle.blocks.proofs.Rows.{rows-low, past-rows, row-blocked}
 use Rattle.block_pins.proofs.Pins.{pins-are}
 use Rattle.block_pins.proofs.pin.Goals as goal

@@ -1,61 +1,56 @@
 -- `pin_row`: the blocks from first up to j are written.
 use mathlib.Core.Path.{◌≡◌, ◌∙◌, ap, subst}
 use mathlib.Core.Bool.{Bool, cond}
-use Prim.Native.Nat.{ℕ, ◌+◌, ◌-◌, ◌*◌, ◌/◌, ◌≤◌}
+use Prim.Native.Nat.{ℕ, ◌+◌, ◌*◌, ◌/◌}
 use native.Mathlib.Omega.{arith}
-use lib.ListN.{length}
 use Rattle.cells.specs.Groups.{any}
 use Rattle.rules.specs.Marks.{marked}
 use Rattle.coarse.specs.Blocks.{block_marks}
 use Rattle.block_pins.specs.Pins.{pin_at}
-use Rattle.blocks.proofs.Rows.{Small, small, corners-are, corners-room}
+use Rattle.blocks.proofs.Rows.{small, corners-are, corners-room}
 use borrow.Author.Rules.{rules}
 use Rattle.loops.specs.InPlace.{Each}
 use Rattle.loops.proofs.InPlace.{each_none, each_more}
 use Rattle.block_pins.proofs.pin_row.Goals as goal
-use Rattle.block_pins.proofs.pin_row.Goals.{After-struct_known-1}
-
-few : (c : After-struct_known-1) → let a = c.args in Small a.s (length a.marks.now) (length a.pins.now) a.row
-few c = small _ _ _ _ c.requires
 
 pub overflow_mul-first : goal.overflow_mul-first
-overflow_mul-first c = let m = few c in search rules
+overflow_mul-first c = let m = small _ _ _ _ c.requires in search rules
 
 pub overflow_add-end : goal.overflow_add-end
-overflow_add-end c = let m = few (goal.at.overflow_add-end c).After-struct_known-1 in search rules
+overflow_add-end c = let m = small _ _ _ _ c.requires in search rules
 
 pub nonzero_rem-from : goal.nonzero_rem-from
-nonzero_rem-from c = let m = few (goal.at.nonzero_rem-from c).After-struct_known-1 in search rules
+nonzero_rem-from c = let m = small _ _ _ _ c.requires in search rules
 
 pub overflow_mul-from : goal.overflow_mul-from
-overflow_mul-from c = let m = few (goal.at.overflow_mul-from c).After-struct_known-1 in search rules
+overflow_mul-from c = let m = small _ _ _ _ c.requires in search rules
 
 pub nonzero_div-from-3 : goal.nonzero_div-from-3
-nonzero_div-from-3 c = let m = few (goal.at.nonzero_div-from-3 c).After-struct_known-1 in search rules
+nonzero_div-from-3 c = let m = small _ _ _ _ c.requires in search rules
 
 pub overflow_mul-from-2 : goal.overflow_mul-from-2
-overflow_mul-from-2 c = let m = few (goal.at.overflow_mul-from-2 c).After-struct_known-1 in search rules
+overflow_mul-from-2 c = let m = small _ _ _ _ c.requires in search rules
 
 pub overflow_mul-from-3 : goal.overflow_mul-from-3
-overflow_mul-from-3 c = let m = few (goal.at.overflow_mul-from-3 c).After-struct_known-1 in search rules
+overflow_mul-from-3 c = let m = small _ _ _ _ c.requires in search rules
 
 pub overflow_add-from : goal.overflow_add-from
-overflow_add-from c = let m = few (goal.at.overflow_add-from c).After-struct_known-1 in search rules
+overflow_add-from c = let m = small _ _ _ _ c.requires in search rules
 
 pub overflow_mul-from-4 : goal.overflow_mul-from-4
-overflow_mul-from-4 c = let m = few (goal.at.overflow_mul-from-4 c).After-struct_known-1 in search rules
+overflow_mul-from-4 c = let m = small _ _ _ _ c.requires in search rules
 
 pub overflow_mul-l : goal.overflow_mul-l
-overflow_mul-l c = let m = few (goal.at.overflow_mul-l c).After-struct_known-1 in search rules
+overflow_mul-l c = let m = small _ _ _ _ c.requires in search rules
 
 pub loop-j-init : goal.loop-j-init
 loop-j-init c = (omega arith, omega arith, each_none _ _ _ _ _ (omega arith))
 
 pub overflow_mul-j : goal.overflow_mul-j
-overflow_mul-j c = let m = few (goal.at.overflow_mul-j c).After-struct_known-1 in search rules
+overflow_mul-j c = let m = small _ _ _ _ c.requires in search rules
 
 pub overflow_add-from-in-loop-j : goal.overflow_add-from-in-loop-j
-overflow_add-from-in-loop-j c = let m = few (goal.at.overflow_add-from-in-loop-j c).After-struct_known-1 in search rules
+overflow_add-from-in-loop-j c = let m = small _ _ _ _ c.requires in search rules
 
 pub pins_block-requires : goal.pins_block-requires
 pins_block-requires c =
@@ -63,24 +58,24 @@ pins_block-requires c =
 
 pub bounds-pins-j : goal.bounds-pins-j
 bounds-pins-j c =
-    let m = few (goal.at.bounds-pins-j c).After-struct_known-1 in
+    let m = small _ _ _ _ c.requires in
     omega (arith, c.loop-j-test.true, c.loop-j.invariant.2.len, m.last)
 
 pub overflow_add-j : goal.overflow_add-j
-overflow_add-j c = let m = few (goal.at.overflow_add-j c).After-struct_known-1 in search rules
+overflow_add-j c = let m = small _ _ _ _ c.requires in search rules
 
 pub loop-j-preserved : goal.loop-j-preserved
 unfolding block_marks
 loop-j-preserved c =
-    let t = c.before.before in
-    let m = few (goal.at.loop-j-preserved t).After-struct_known-1 in
-    let v = t.loop-j.invariant in
-    let h = t.loop-j-test.true in (
+    let m = small _ _ _ _ c.requires in
+    let l = c.loop-j in
+    let v = l.invariant in
+    let h = c.loop-j-test.true in (
       search rules,
       search rules,
-      each_more _ _ _ t.loop-j.j _ t.loop-j.pins _ v.0 (omega (arith, h, v.2.len)) v.2
+      each_more _ _ _ l.j _ l.pins _ v.0 (omega (arith, h, v.2.len)) v.2
           (c.flag-v.ensures ∙ ap (λ (t : Bool). cond {A = ℕ} t 1 0) (c.pins_block.ensures
-          ∙ ap (any (marked t.args.marks.now).pinned) (corners-are _ _ _ _ t.requires t.loop-j.j v.0 h))),
+          ∙ ap (any (marked c.args.marks.now).pinned) (corners-are _ _ _ _ c.requires l.j v.0 h))),
     )
 
 pub shape_of-pins : goal.shape_of-pins

@@ -1,17 +1,8 @@
 -- `pin_row`: the blocks from first up to j are written.
-use mathlib.Core.Path.{◌≡◌, ◌∙◌, ap, subst}
-use mathlib.Core.Bool.{Bool, cond}
-use Prim.Native.Nat.{ℕ, ◌+◌, ◌-◌, ◌*◌, ◌/◌, ◌≤◌}
-use native.Mathlib.Omega.{arith}
-use lib.ListN.{length}
-use Rattle.cells.specs.Groups.{any}
+use Prim.Native.Nat.{◌-◌, ◌≤◌}
 use Rattle.rules.specs.Marks.{marked}
-use Rattle.coarse.specs.Blocks.{block_marks}
 use Rattle.block_pins.specs.Pins.{pin_at}
-use Rattle.blocks.proofs.Rows.{Small, small, corners-are, corners-room}
-use borrow.Author.Rules.{rules}
 use Rattle.loops.specs.InPlace.{Each}
-use Rattle.loops.proofs.InPlace.{each_none, each_more}
 use Rattle.block_pins.proofs.pin_row.Given as goal
 
 abbrev pub invariant-loop-j : goal.invariant-loop-j

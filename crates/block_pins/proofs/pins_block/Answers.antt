@@ -2,7 +2,6 @@
 use mathlib.Core.Path.{ap₂, ◌∙◌}
 use mathlib.Core.Bool.{◌||◌}
 use Rattle.block_pins.proofs.Pins.{any-corners}
-use borrow.Author.Rules.{rules}
 use Rattle.block_pins.proofs.pins_block.Goals as goal
 
 pub returns : goal.returns

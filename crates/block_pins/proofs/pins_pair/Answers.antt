@@ -1,7 +1,6 @@
 -- `pins_pair` by the two marks.
 use native.Mathlib.Omega.{arith}
 use Rattle.block_pins.proofs.Pins.{pair-pinned}
-use borrow.Author.Rules.{rules}
 use Rattle.block_pins.proofs.pins_pair.Goals as goal
 
 pub returns : goal.returns

@@ -13,13 +13,12 @@ pub loop-i-init : goal.loop-i-init
 loop-i-init c = (omega arith, omega arith, each_none _ _ _ _ _ (omega arith))
 
 pub loop-i-preserved : goal.loop-i-preserved
-loop-i-preserved c =
-    (
-      search rules,
-      search rules,
-      each_more _ _ _ c.loop-i.i _ c.loop-i.status c.chosen-v.result (omega arith) (search rules) c.loop-i.invariant.2
-          c.chosen-v.ensures,
-    )
+loop-i-preserved c = (
+  search rules,
+  search rules,
+  each_more _ _ _ c.loop-i.i _ c.loop-i.status c.chosen-v.result (omega arith) (search rules) c.loop-i.invariant.2
+      c.chosen-v.ensures,
+)
 
 pub shape_of-status : goal.shape_of-status
 shape_of-status c = c.loop-i.invariant.2.len

@@ -1,5 +1,4 @@
 -- `fitness::any_pending` meets its contract: bit 1 of all statuses joined.
-use borrow.Author.Rules.{rules}
 use native.Mathlib.Omega.{arith}
 use mathlib.Core.Path.{◌≡◌, refl, ap, ◌∙◌}
 use Prim.Native.Nat.{ℕ, ◌-◌}

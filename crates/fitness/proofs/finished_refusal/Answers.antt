@@ -2,7 +2,6 @@
 use mathlib.Core.Path.{refl, sym, ap}
 use mathlib.Core.Bool.{not}
 use mathlib.Core.List.{List, [], ◌∷◌}
-use borrow.Author.Rules.{rules}
 use Rattle.rules.specs.Checks.{Check, ◌when◌, first_failing}
 use Rattle.rules.specs.Machine.{State, state, state_checks}
 use Rattle.rules.proofs.Checks.{fails-first, holds-first, refused-first, held_first}

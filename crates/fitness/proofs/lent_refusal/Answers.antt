@@ -1,8 +1,6 @@
 -- `fitness::lent_refusal` meets its contract: each return is a law of `Numbers`.
 use mathlib.Core.Path.{◌≡◌, sym, ◌∙◌}
 use mathlib.Core.Bool.{true}
-use borrow.Author.Rules.{rules}
-use Rattle.prelude.proofs.Bools.{not-true, not-false}
 use Rattle.rules.specs.Grid.{fit_sides}
 use Rattle.rules.specs.Machine.{State, state}
 use Rattle.rules.specs.Fit.{Lent}

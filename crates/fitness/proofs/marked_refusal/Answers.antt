@@ -1,7 +1,6 @@
 -- `fitness::marked_refusal` meets its contract: checks 1 and 2, the length of the marks, then 7, 29 and 8.
 use mathlib.Core.Path.{◌≡◌, sym, ◌∙◌}
 use mathlib.Core.List.{[], ◌∷◌}
-use borrow.Author.Rules.{rules}
 use borrow.Author.Tests.{lt-ltb, le-ltb}
 use lib.Dec.{ltb}
 use Rattle.rules.specs.Checks.{◌when◌, first_failing}
@@ -12,7 +11,7 @@ use Rattle.rules.proofs.Checks.{fails-first, holds-first}
 use Rattle.fitness.proofs.Numbers.{held-lent}
 use Rattle.fitness.proofs.Marked.{rest, lent-refused, marks-refused, after-lengths, stray-marks}
 use Rattle.fitness.proofs.marked_refusal.Goals as goal
-use Rattle.fitness.proofs.marked_refusal.Goals.{Else-marks-status, Else-n-ne0, Else-unfit_state}
+use Rattle.fitness.proofs.marked_refusal.Goals.{After-worked_refusal, Else-marks-status, Else-n-ne0, Else-unfit_state}
 
 pub returns-then-n-ne0 : goal.returns-then-n-ne0
 returns-then-n-ne0 c =
@@ -58,11 +57,13 @@ returns-then-all-gt3 c =
     let l = (goal.at.returns-then-all-gt3 c).Else-marks-status in
     sym (past-fit (goal.at.returns-then-all-gt3 c).Else-unfit_state (behind l) ∙ fails-first 29 _ _ (stray l ∙ lt-ltb _ _ c.if-all-gt3.true))
 
+-- past 29
+past-marks : (c : After-worked_refusal) → let a = c.args in
+    first_failing (marked_checks a.marks.now (state a.given a.dist.now a.status.now)) ≡ first_failing (8 when a.given.finished ∷ [])
+past-marks c =
+    let l = (goal.at.returns c).Else-marks-status in
+    past-fit (goal.at.returns c).Else-unfit_state (behind l) ∙ holds-first 29 _ _ (stray l ∙ le-ltb _ _ c.if-all-gt3.false)
+
 pub returns : goal.returns
 unfolding first_failing
-returns c =
-    let l = (goal.at.returns c).Else-marks-status in
-    -- past 29
-    let past-marks : first_failing (marked_checks c.args.marks.now (state c.args.given c.args.dist.now c.args.status.now)) ≡ first_failing (8 when c.args.given.finished ∷ []) =
-        past-fit (goal.at.returns c).Else-unfit_state (behind l) ∙ holds-first 29 _ _ (stray l ∙ le-ltb _ _ c.if-all-gt3.false) in
-    c.worked_refusal.ensures ∙ sym past-marks
+returns c = c.worked_refusal.ensures ∙ sym (past-marks c)

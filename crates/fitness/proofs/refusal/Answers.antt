@@ -1,7 +1,6 @@
 -- `fitness::refusal` meets its contract: checks 1 and 2, then number 7.
 use mathlib.Core.Path.{refl, sym, ◌∙◌}
 use mathlib.Core.List.{List, [], ◌∷◌}
-use borrow.Author.Rules.{rules}
 use Rattle.rules.specs.Checks.{Check, ◌when◌, first_failing}
 use Rattle.rules.specs.Machine.{State, state, unfit}
 use Rattle.rules.proofs.Checks.{fails-first, holds-first, refused-first, held_first}

@@ -1,7 +1,6 @@
 -- `fitness::unfit_state` meets its contract: the counts, then the voxels.
 use mathlib.Core.Path.{sym, ◌∙◌}
 use native.Mathlib.Omega.{arith}
-use borrow.Author.Rules.{rules}
 use Rattle.rules.specs.Machine.{State, state}
 use Rattle.rules.proofs.Places.{fit}
 use Rattle.rules.proofs.Rows.{size-high}

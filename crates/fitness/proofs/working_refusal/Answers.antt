@@ -1,7 +1,6 @@
 -- `fitness::working_refusal` meets its contract: the checks of a state, then number 8.
 use mathlib.Core.Path.{refl}
 use mathlib.Core.List.{List, [], ◌∷◌}
-use borrow.Author.Rules.{rules}
 use Rattle.rules.specs.Checks.{Check, ◌when◌, first_failing}
 use Rattle.rules.specs.Machine.{State, state, state_checks}
 use Rattle.rules.proofs.Checks.{refused-first, held_first}

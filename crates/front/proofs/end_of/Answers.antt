@@ -1,12 +1,10 @@
 -- `front::end_of` meets its contract.
 use mathlib.Core.Path.{ap}
-use Prim.Native.Nat.{ℕ, ◌+◌, ◌-◌, ◌≤◌, ◌<◌}
+use Prim.Native.Nat.{ℕ, ◌+◌, ◌<◌}
 use native.Mathlib.Omega.{arith}
 use native.Mathlib.Decide.{ℕ_discrete}
-use borrow.Author.Rules.{rules}
 use mathlib.Core.List.{List}
-use lib.ListN.{length, get_or}
-use Rattle.front.specs.Front.{Falling}
+use lib.ListN.{get_or}
 use Rattle.front.proofs.end_of.Invariants.{Passing}
 use Rattle.front.proofs.end_of.Goals as goal
 

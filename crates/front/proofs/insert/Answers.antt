@@ -1,10 +1,8 @@
 -- `front::insert` meets its contract.
 use mathlib.Core.Path.{refl}
-use Prim.Native.Nat.{◌-◌}
 use native.Mathlib.Omega.{arith}
-use borrow.Author.Rules.{rules}
-use lib.ListN.{length, length-set}
-use Rattle.front.proofs.Inserting.{Moving, moving-start, moving-step, moving-done}
+use lib.ListN.{length-set}
+use Rattle.front.proofs.Inserting.{moving-start, moving-step, moving-done}
 use Rattle.front.proofs.insert.Goals as goal
 
 pub loop-front-init : goal.loop-front-init

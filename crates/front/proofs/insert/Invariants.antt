@@ -1,10 +1,7 @@
 -- `front::insert` meets its contract.
-use mathlib.Core.Path.{refl}
 use Prim.Native.Nat.{◌-◌}
-use native.Mathlib.Omega.{arith}
-use borrow.Author.Rules.{rules}
-use lib.ListN.{length, length-set}
-use Rattle.front.proofs.Inserting.{Moving, moving-start, moving-step, moving-done}
+use lib.ListN.{length}
+use Rattle.front.proofs.Inserting.{Moving}
 use Rattle.front.proofs.insert.Given as goal
 
 abbrev pub invariant-loop-front : goal.invariant-loop-front

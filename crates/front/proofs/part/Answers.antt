@@ -3,7 +3,6 @@ use mathlib.Core.Path.{◌≡◌, sym, ap, ◌∙◌}
 use mathlib.Core.Bool.{false}
 use Prim.Native.Nat.{ℕ, ◌+◌, ◌-◌, ◌*◌, ◌<◌, max}
 use native.Mathlib.Omega.{arith}
-use borrow.Author.Rules.{rules}
 use lib.Bits.{and_le_r}
 use mathlib.Core.List.{List}
 use lib.IntN.{ℤ}
@@ -11,7 +10,6 @@ use lib.ListN.{length, length-set}
 use Rattle.rules.specs.Marks.{marked}
 use Rattle.keys.specs.Key.{key_at, voxel_key, width}
 use Rattle.keys.proofs.Ranks.{pending-inside, key-some, key-by, keyed}
-use Rattle.front.specs.Front.{Parting}
 use Rattle.front.proofs.Taking.{Taking, taking-start, taking_step, taking-done}
 use Rattle.front.proofs.part.Goals as goal
 use Rattle.front.proofs.part.Goals.{After-lowest, At-loop-m}
@@ -61,7 +59,8 @@ offset_bounds-front-e c = record { fits = omega (arith, (taking (goal.at.offset_
 
 pub bounds-front-e : goal.bounds-front-e
 bounds-front-e c =
-    omega (arith, (taking (goal.at.bounds-front-e c).At-loop-m).same, (taking (goal.at.bounds-front-e c).At-loop-m).high, c.requires.room)
+    let t = taking (goal.at.bounds-front-e c).At-loop-m in
+    omega (arith, t.same, t.high, c.requires.room)
 
 pub overflow_add-e : goal.overflow_add-e
 overflow_add-e c =
@@ -75,16 +74,19 @@ loop-m-smaller c =
 pub loop-m-preserved : goal.loop-m-preserved
 loop-m-preserved c = λ P.
     let a = c.args in
-    taking_step (key a.dist.now a.marks.now a.status.now) a.k a.floor P.falls a.front.now c.loop-m.front c.loop-m.e c.loop-m.g c.loop-m.m c.lowest.result
-    (c.loop-m.invariant P) c.lowest.ensures P.room c.voxel_key-x.result _ _ (c.voxel_key-x.ensures ∙ sym (inside (goal.at.loop-m-preserved c).After-lowest).1)
-    (ap (λ (n : ℕ). c.loop-m.e + n) c.above-e.ensures.0) (c.greater_u64-g.ensures ∙ ap (max c.loop-m.g) c.up_to.ensures)
+    let l = c.loop-m in
+    taking_step (key a.dist.now a.marks.now a.status.now) a.k a.floor P.falls a.front.now l.front l.e l.g l.m c.lowest.result
+    (l.invariant P) c.lowest.ensures P.room c.voxel_key-x.result _ _
+    (c.voxel_key-x.ensures ∙ sym (inside (goal.at.loop-m-preserved c).After-lowest).1)
+    (ap (λ (n : ℕ). l.e + n) c.above-e.ensures.0) (c.greater_u64-g.ensures ∙ ap (max l.g) c.up_to.ensures)
 
 pub offset_bounds-front-e-2 : goal.offset_bounds-front-e-2
 offset_bounds-front-e-2 c = record { fits = omega (arith, (taking (goal.at.offset_bounds-front-e-2 c).At-loop-m).high) }
 
 pub bounds-front-e-2 : goal.bounds-front-e-2
 bounds-front-e-2 c =
-    omega (arith, (taking (goal.at.bounds-front-e-2 c).At-loop-m).same, (taking (goal.at.bounds-front-e-2 c).At-loop-m).high, c.requires.room)
+    let t = taking (goal.at.bounds-front-e-2 c).At-loop-m in
+    omega (arith, t.same, t.high, c.requires.room)
 
 pub shape_of-front : goal.shape_of-front
 shape_of-front c = simp length-set (taking (goal.at.shape_of-front c).At-loop-m).same
@@ -92,5 +94,6 @@ shape_of-front c = simp length-set (taking (goal.at.shape_of-front c).At-loop-m)
 pub returns : goal.returns
 returns c =
     let a = c.args in
-    taking-done (key a.dist.now a.marks.now a.status.now) a.k a.floor c.requires.falls a.front.now c.loop-m.front c.loop-m.e c.loop-m.g c.loop-m.m c.requires.room
+    let l = c.loop-m in
+    taking-done (key a.dist.now a.marks.now a.status.now) a.k a.floor c.requires.falls a.front.now l.front l.e l.g l.m c.requires.room
     (omega (arith, c.loop-m-test.false)) (taking (goal.at.returns c).At-loop-m)

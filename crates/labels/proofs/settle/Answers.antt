@@ -13,11 +13,10 @@ pub loop-i-init : goal.loop-i-init
 loop-i-init c = (omega arith, each_none _ _ _ _ _ (omega arith))
 
 pub loop-i-preserved : goal.loop-i-preserved
-loop-i-preserved c =
-    (
-      search rules,
-      each_more _ _ _ c.loop-i.i _ c.loop-i.label c.settled-d.result (omega arith) (search rules) c.loop-i.invariant.1 c.settled-d.ensures,
-    )
+loop-i-preserved c = (
+  search rules,
+  each_more _ _ _ c.loop-i.i _ c.loop-i.label c.settled-d.result (omega arith) (search rules) c.loop-i.invariant.1 c.settled-d.ensures,
+)
 
 pub shape_of-label : goal.shape_of-label
 shape_of-label c = c.loop-i.invariant.1.len

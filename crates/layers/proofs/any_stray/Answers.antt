@@ -28,11 +28,10 @@ pub value-v-requires : goal.value-v-requires
 value-v-requires c = (c.requires.0, room c)
 
 pub loop-i-preserved : goal.loop-i-preserved
-loop-i-preserved c =
-    (
-      omega (arith, c.loop-i-test.true),
-      scan-next _ c.loop-i.i _ _ c.loop-i.invariant.1 (c.beyond-found.ensures ∙ ap stray (to_z-of_z (sfits_of {w = w32} c.value-v.type_inv) ∙ c.value-v.ensures)),
-    )
+loop-i-preserved c = (
+  omega (arith, c.loop-i-test.true),
+  scan-next _ c.loop-i.i _ _ c.loop-i.invariant.1 (c.beyond-found.ensures ∙ ap stray (to_z-of_z (sfits_of {w = w32} c.value-v.type_inv) ∙ c.value-v.ensures)),
+)
 
 pub returns : goal.returns
 returns c =

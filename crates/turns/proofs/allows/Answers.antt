@@ -1,7 +1,6 @@
 -- `turns::allows` meets its contract.
 use Prim.Native.Nat.{◌≤◌, ◌<◌}
 use native.Mathlib.Omega.{arith}
-use borrow.Author.Rules.{rules}
 use Rattle.turns.proofs.Allowing.{too_many, as-opening, as-ordinary}
 use Rattle.turns.proofs.allows.Goals as goal
 

@@ -1,6 +1,5 @@
 -- `turns::can_open` meets its contract.
 use native.Mathlib.Omega.{arith}
-use borrow.Author.Rules.{rules}
 use Rattle.turns.proofs.Opening.{open_gone, layer, span, open-within, open-last}
 use mathlib.Core.Path.{ap}
 use mathlib.Core.Bool.{not}

@@ -6,7 +6,7 @@ use native.Mathlib.Omega.{arith}
 use lib.Dec.{ltb, leb}
 use lib.ListN.{length}
 use borrow.Author.Rules.{rules}
-use borrow.Author.Tests.{ltb-false, le-leb, lt-leb, not-true, not-false}
+use borrow.Author.Tests.{ltb-false, le-leb, lt-leb}
 use Rattle.rules.specs.Grid.{size}
 use Rattle.rules.specs.Machine.{is_inside}
 use Rattle.rules.specs.Checks.{first_failing}

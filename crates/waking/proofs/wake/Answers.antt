@@ -36,8 +36,12 @@ offset-requires c =
 inside : (c : After-offset) → let a = c.args in a.at + c.offset.result < length a.status.now
 inside c =
     let a = c.args in
-    omega (arith, c.offset.ensures, position-below a.a a.l a.at _ (length a.status.now) c.requires.0.room
-    (lowest-position a.idle c.loop-m.m c.lowest-p.result c.requires.0.few c.loop-m.invariant.0 c.lowest-p.ensures))
+    omega (
+      arith,
+      c.offset.ensures,
+      position-below a.a a.l a.at _ (length a.status.now) c.requires.0.room
+          (lowest-position a.idle c.loop-m.m c.lowest-p.result c.requires.0.few c.loop-m.invariant.0 c.lowest-p.ensures),
+    )
 
 pub overflow_add-at : goal.overflow_add-at
 overflow_add-at c = let i = inside c in search rules

@@ -1,0 +1,24 @@
+-- `surface::beyond` meets its contract.
+use borrow.Author.Rules.{rules}
+use mathlib.Core.Path.{ap, ap₂, ◌∙◌}
+use mathlib.Core.Bool.{◌||◌}
+use Prim.Native.Nat.{ℕ, ◌+◌}
+use native.Mathlib.Omega.{arith}
+use lib.Dec.{leb, ltb}
+use Rattle.rules.specs.Grid.{Voxel}
+use Rattle.surface.specs.Surface.{coordinate, no_next}
+use Rattle.surface.proofs.Axis.{along-le}
+use Rattle.surface.proofs.beyond.Goals as goal
+
+pub overflow_add-result : goal.overflow_add-result
+overflow_add-result c =
+    let v = c.coordinates_of-v.result in
+    let h = c.coordinates_of-v.ensures.1 in
+    omega (arith, along-le c.args.axis v.x v.y v.z 63 h.x-le h.y-le h.z-le)
+
+pub returns : goal.returns
+unfolding no_next
+returns c =
+    let axis = c.args.axis in
+    ap₂ (λ (m n : ℕ). ltb 2 axis || leb m (n + 1)) c.along-end.ensures
+    (c.along-at.ensures ∙ ap (λ (v : Voxel). coordinate axis v) c.coordinates_of-v.ensures.0)

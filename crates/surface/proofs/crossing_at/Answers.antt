@@ -1,0 +1,110 @@
+-- `surface::crossing_at` meets its contract: it reads both distances, and the rule's bound holds of what it answers.
+-- ---- the next voxel's index
+-- ---- the answer
+-- ---- the needs
+use borrow.Author.Rules.{rules}
+use mathlib.Core.Path.{◌≡◌, sym, ap, ◌∙◌, subst}
+use mathlib.Core.Bool.{true, false}
+use mathlib.Core.Option.{Option, none, some}
+use Prim.Native.Nat.{ℕ, ◌+◌, ◌<◌}
+use native.Mathlib.Omega.{arith}
+use lib.IntN.{ℤ}
+use lib.ListN.{length}
+use mir.Syntax.{w32}
+use mir.Val.{SFits}
+use Rattle.rules.specs.Grid.{Voxel, voxel, size, distance_at}
+use Rattle.rules.specs.Answer.{done}
+use Rattle.surface.specs.declared.Point.{Point}
+use Rattle.surface.specs.Surface.{next, crossing_of, next_index, crossing_at, BoundedAt}
+use Rattle.surface.proofs.Bound.{Word, crossing_at-bounded}
+use Rattle.surface.proofs.Indices.{next-below, next-index, voxel-next}
+use Rattle.surface.proofs.Between.{neither, from-here, from_next}
+use Rattle.surface.proofs.crossing_at.Goals as goal
+use Rattle.surface.proofs.crossing_at.Goals.{After-stride, After-there-1, Start}
+
+module _ (c : After-stride) where
+  abbrev j : ℕ
+  j = c.args.i + c.stride.result
+
+  j-is : j ≡ next_index c.args.sides c.args.i c.args.axis
+  j-is =
+      ap (λ (n : ℕ). c.args.i + n) c.stride.ensures.0
+      ∙ sym (next-index c.args.sides c.requires.0.fit c.args.i c.args.axis)
+
+  j-below : j < size c.args.sides
+  j-below = omega (arith, j-is, next-below c.args.sides c.args.i c.args.axis c.requires.0)
+
+  j-lt : j < length c.args.dist.now
+  j-lt = omega (arith, j-below, c.requires.1)
+
+  -- the voxel of that index
+  j-next : voxel c.args.sides j ≡ next c.args.axis (voxel c.args.sides c.args.i)
+  j-next = ap (voxel c.args.sides) j-is ∙ voxel-next c.args.sides c.args.i c.args.axis c.requires.0
+
+module _ (c : After-there-1) where
+  abbrev t : Start
+  t = c
+
+  abbrev v : Voxel
+  v = voxel t.args.sides t.args.i
+
+  abbrev here : ℤ
+  here = distance_at t.args.dist.now t.args.i
+
+  abbrev there : ℤ
+  there = distance_at t.args.dist.now (j c.before.before)
+
+  here-fits : SFits w32 here
+  here-fits = record { sfits = c.here-1.given }
+
+  there-fits : SFits w32 there
+  there-fits = record { sfits = c.there-1.given }
+
+  abbrev Bound : Option Point → Type 0
+  Bound o = BoundedAt t.args.sides t.args.dist.now t.args.i t.args.axis o
+
+  abbrev answer : Option Point
+  answer = crossing_at t.args.sides t.args.dist.now t.args.i t.args.axis
+
+  meets :
+      (o : Option Point)
+      → o ≡ crossing_of t.args.axis v here there
+      → (done o ≡ done answer) × ((q : Option Point) → done o ≡ done q → Bound q)
+  unfolding crossing_at
+  meets o e =
+      let a : o ≡ answer = e ∙ ap (λ (n : ℕ). crossing_of t.args.axis v here (distance_at t.args.dist.now n)) (j-is c.before.before) in
+      (ap done a, λ q f. subst (λ (o : Option Point). Bound o) (same answer o q a f) bounded)
+    where
+      same : (a o q : Option Point) → o ≡ a → done o ≡ done q → a ≡ q
+      same a o q e f = cc
+
+      bounded : Bound answer
+      bounded =
+          crossing_at-bounded t.args.sides t.args.dist.now t.args.i t.args.axis t.pre.0 here-fits.sfits
+          (subst (λ (n : ℕ). Word (distance_at t.args.dist.now n)) (j-is c.before.before) there-fits.sfits)
+
+pub bounds-dist-j : goal.bounds-dist-j
+bounds-dist-j c = j-lt (goal.at.bounds-dist-j c).After-stride
+
+pub returns-then-there-lt0 : goal.returns-then-there-lt0
+returns-then-there-lt0 c =
+    meets (goal.at.returns-then-there-lt0 c).After-there-1 none (neither (t (goal.at.returns-then-there-lt0 c).After-there-1).args.axis (v (goal.at.returns-then-there-lt0 c).After-there-1) (here (goal.at.returns-then-there-lt0 c).After-there-1) (there (goal.at.returns-then-there-lt0 c).After-there-1) (here-fits (goal.at.returns-then-there-lt0 c).After-there-1) (there-fits (goal.at.returns-then-there-lt0 c).After-there-1) true c.if-here-lt0.true c.if-there-lt0.true)
+
+pub returns-then-here-lt0 : goal.returns-then-here-lt0
+returns-then-here-lt0 c =
+    meets (goal.at.returns-then-here-lt0 c).After-there-1 (some c.point_between.result)
+    (from-here (t (goal.at.returns-then-here-lt0 c).After-there-1).args.axis (v (goal.at.returns-then-here-lt0 c).After-there-1) (here (goal.at.returns-then-here-lt0 c).After-there-1) (there (goal.at.returns-then-here-lt0 c).After-there-1) (here-fits (goal.at.returns-then-here-lt0 c).After-there-1) (there-fits (goal.at.returns-then-here-lt0 c).After-there-1) c.point_between.result c.if-here-lt0.true c.if-there-lt0.false
+    c.point_between.ensures)
+
+pub point_between-requires-then-there-lt0-2 : goal.point_between-requires-then-there-lt0-2
+point_between-requires-then-there-lt0-2 c = ((t (goal.at.point_between-requires-then-there-lt0-2 c).After-there-1).requires.0.fit, j-below (goal.at.point_between-requires-then-there-lt0-2 c).After-stride)
+
+pub returns-then-there-lt0-2 : goal.returns-then-there-lt0-2
+returns-then-there-lt0-2 c =
+    meets (goal.at.returns-then-there-lt0-2 c).After-there-1 (some c.point_between-then-there-lt0-2.result)
+    (from_next (t (goal.at.returns-then-there-lt0-2 c).After-there-1).args.axis (v (goal.at.returns-then-there-lt0-2 c).After-there-1) (here (goal.at.returns-then-there-lt0-2 c).After-there-1) (there (goal.at.returns-then-there-lt0-2 c).After-there-1) (here-fits (goal.at.returns-then-there-lt0-2 c).After-there-1) (there-fits (goal.at.returns-then-there-lt0-2 c).After-there-1) (voxel (t (goal.at.returns-then-there-lt0-2 c).After-there-1).args.sides (j (goal.at.returns-then-there-lt0-2 c).After-stride))
+    c.point_between-then-there-lt0-2.result (j-next (goal.at.returns-then-there-lt0-2 c).After-stride) c.if-here-lt0.false c.if-there-lt0-2.true c.point_between-then-there-lt0-2.ensures)
+
+pub returns : goal.returns
+returns c =
+    meets (goal.at.returns c).After-there-1 none (neither (t (goal.at.returns c).After-there-1).args.axis (v (goal.at.returns c).After-there-1) (here (goal.at.returns c).After-there-1) (there (goal.at.returns c).After-there-1) (here-fits (goal.at.returns c).After-there-1) (there-fits (goal.at.returns c).After-there-1) false c.if-here-lt0.false c.if-there-lt0-2.false)

@@ -1,0 +1,56 @@
+-- `surface::crossing_refusal` meets its contract: the checks of a finished grid, then 5 and 6.
+-- ---- where the checks of a finished grid hold
+-- ---- the needs
+use borrow.Author.Rules.{rules}
+use mathlib.Core.Path.{◌≡◌, refl, sym, ◌∙◌, subst}
+use Prim.Native.Nat.{ℕ, ◌≤◌, ◌<◌}
+use Rattle.rules.specs.Grid.{size}
+use Rattle.rules.specs.Checks.{first_failing}
+use Rattle.rules.specs.Machine.{State, state, finished_checks}
+use Rattle.rules.specs.Fit.{Ended}
+use Rattle.rules.proofs.Checks.{refused-first, held_first, all_hold}
+use Rattle.rules.proofs.Fit.{ended}
+use Rattle.surface.specs.Surface.{next_checks, crossing_checks}
+use Rattle.surface.proofs.Crossable.{five, six, neither}
+use Rattle.surface.proofs.crossing_refusal.Goals as goal
+use Rattle.surface.proofs.crossing_refusal.Goals.{Else-n-ne0, Else-voxel_count-index, Start}
+
+abbrev lent-to : Start → State
+lent-to c = state c.args.given c.args.dist.now c.args.status.now
+
+module _ (c : Else-n-ne0) where
+  found : Ended (lent-to c.before.before.before)
+  found = ended (lent-to c.before.before.before) (all_hold (finished_checks (lent-to c.before.before.before)) refl (sym c.finished_refusal-n.ensures ∙ c.if-n-ne0.false))
+
+  follows :
+      (m : ℕ)
+      → first_failing (next_checks c.args.index c.args.axis c.args.given.sides) ≡ m
+      → m ≡ first_failing (crossing_checks c.args.index c.args.axis (lent-to c.before.before.before))
+  follows m e = held_first (finished_checks (lent-to c.before.before.before)) _ _ c.finished_refusal-n.ensures refl c.if-n-ne0.false m (sym e)
+
+under : (c : Else-voxel_count-index) → let p = c.before.before.before in p.args.index < size p.args.given.sides
+under c = let p = c.before.before.before in subst (λ (n : ℕ). p.args.index < n) c.voxel_count.ensures.0 c.if-voxel_count-index.false
+
+pub returns-then-n-ne0 : goal.returns-then-n-ne0
+returns-then-n-ne0 c =
+    let g = lent-to (goal.at.returns-then-n-ne0 c).Start in
+    refused-first (finished_checks g) _ _ c.finished_refusal-n.ensures c.if-n-ne0.true
+
+pub voxel_count-requires : goal.voxel_count-requires
+voxel_count-requires c = (found (goal.at.voxel_count-requires c).Else-n-ne0).fit.voxels.lent.sides
+
+pub returns-then-voxel_count-index : goal.returns-then-voxel_count-index
+returns-then-voxel_count-index c =
+    follows (goal.at.returns-then-voxel_count-index c).Else-n-ne0 5
+    (five c.args.index c.args.axis c.args.given.sides (subst (λ (n : ℕ). n ≤ c.args.index) c.voxel_count.ensures.0 c.if-voxel_count-index.true))
+
+pub beyond-requires : goal.beyond-requires
+beyond-requires c = ((found (goal.at.beyond-requires c).Else-n-ne0).fit.voxels.lent.sides, under c)
+
+pub returns-then-beyond : goal.returns-then-beyond
+returns-then-beyond c =
+    follows (goal.at.returns-then-beyond c).Else-n-ne0 6 (six c.args.index c.args.axis c.args.given.sides (under (goal.at.returns-then-beyond c).Else-voxel_count-index) _ c.beyond.ensures c.if-beyond.true)
+
+pub returns : goal.returns
+returns c =
+    follows (goal.at.returns c).Else-n-ne0 0 (neither c.args.index c.args.axis c.args.given.sides (under (goal.at.returns c).Else-voxel_count-index) _ c.beyond.ensures c.if-beyond.false)
