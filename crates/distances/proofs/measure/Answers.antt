@@ -43,5 +43,5 @@ pub returns : goal.returns
 returns c =
     λ S E.
     let a = c.args in
-    swept-measured a.sides (fit a.sides E.fit) a.d.now c.axis.new.d c.axis-2.new.d c.axis-3.new.0 E.seeds.len
+    swept-measured a.sides (fit a.sides E.fit) a.d.now c.axis.new.d c.axis-2.new.d c.axis-3.new.d E.seeds.len
     c.axis.ensures c.axis-2.ensures c.axis-3.ensures S E

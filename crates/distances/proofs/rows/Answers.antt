@@ -15,9 +15,9 @@ returns-then-level c =
 
 pub both-requires : goal.both-requires
 both-requires c =
-    layer-slab c.args.d.now c.args.st c.args.m c.args.at c.requires.0 c.requires.1 c.transpose.new.to.1.1.1.0 c.transpose.ensures
+    layer-slab c.args.d.now c.args.st c.args.m c.args.at c.requires.0 c.requires.1 c.transpose.new.to c.transpose.ensures
 
 pub returns : goal.returns
 returns c =
-    rows_both c.args.d.now c.args.st c.args.m c.args.at c.requires.0 c.requires.1 c.transpose.new.to.1.1.1.0 c.transpose.ensures
-    c.both.new.0 c.transpose-2.new.1.1.1.1.0 c.both.ensures c.transpose-2.ensures
+    rows_both c.args.d.now c.args.st c.args.m c.args.at c.requires.0 c.requires.1 c.transpose.new.to c.transpose.ensures
+    c.both.new.d c.transpose-2.new.to c.both.ensures c.transpose-2.ensures

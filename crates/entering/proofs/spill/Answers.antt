@@ -75,8 +75,8 @@ loop-e-preserved c =
     let a = c.args in
     let k = c.loop-e in
     spilling-step (marked a.marks.now) a.dist.now a.status.now a.offsets.now a.tree.now a.front.now k.offsets k.tree
-    k.front a.head k.e k.inv c.loop-e-test.true _ _
-    (raised_at _ _ _ _ _ _ _ c.voxel.ensures.0 c.raise.ensures) c.raise.auto.1.1.0 c.raise.auto.1.1.1.0
+    k.front a.head k.e k.invariant c.loop-e-test.true _ _
+    (raised_at _ _ _ _ _ _ _ c.voxel.ensures.0 c.raise.ensures) c.raise.auto.offsets c.raise.auto.tree
 
 pub shape_of-offsets : goal.shape_of-offsets
 shape_of-offsets c = c.loop-e.invariant.stretched

@@ -1,7 +1,4 @@
 -- `surface::crossing_at` meets its contract: it reads both distances, and the rule's bound holds of what it answers.
--- ---- the next voxel's index
--- ---- the answer
--- ---- the needs
 use borrow.Author.Rules.{rules}
 use mathlib.Core.Path.{◌≡◌, sym, ap, ◌∙◌, subst}
 use mathlib.Core.Bool.{true, false}
@@ -20,7 +17,9 @@ use Rattle.surface.proofs.Bound.{Word, crossing_at-bounded}
 use Rattle.surface.proofs.Indices.{next-below, next-index, voxel-next}
 use Rattle.surface.proofs.Between.{neither, from-here, from_next}
 use Rattle.surface.proofs.crossing_at.Goals as goal
-use Rattle.surface.proofs.crossing_at.Goals.{After-stride, After-there-1, Start}
+use Rattle.surface.proofs.crossing_at.Goals.{After-stride, After-there-1}
+
+-- ---- the next voxel's index
 
 module _ (c : After-stride) where
   abbrev j : ℕ
@@ -41,18 +40,25 @@ module _ (c : After-stride) where
   j-next : voxel c.args.sides j ≡ next c.args.axis (voxel c.args.sides c.args.i)
   j-next = ap (voxel c.args.sides) j-is ∙ voxel-next c.args.sides c.args.i c.args.axis c.requires.0
 
+-- ---- the answer
+
 module _ (c : After-there-1) where
-  abbrev t : Start
-  t = c
+  abbrev k : ℕ
+  k = c.args.i + c.stride.result
+
+  k-is : k ≡ next_index c.args.sides c.args.i c.args.axis
+  k-is =
+      ap (λ (n : ℕ). c.args.i + n) c.stride.ensures.0
+      ∙ sym (next-index c.args.sides c.requires.0.fit c.args.i c.args.axis)
 
   abbrev v : Voxel
-  v = voxel t.args.sides t.args.i
+  v = voxel c.args.sides c.args.i
 
   abbrev here : ℤ
-  here = distance_at t.args.dist.now t.args.i
+  here = distance_at c.args.dist.now c.args.i
 
   abbrev there : ℤ
-  there = distance_at t.args.dist.now (j c.before.before)
+  there = distance_at c.args.dist.now k
 
   here-fits : SFits w32 here
   here-fits = record { sfits = c.here-1.given }
@@ -61,18 +67,18 @@ module _ (c : After-there-1) where
   there-fits = record { sfits = c.there-1.given }
 
   abbrev Bound : Option Point → Type 0
-  Bound o = BoundedAt t.args.sides t.args.dist.now t.args.i t.args.axis o
+  Bound o = BoundedAt c.args.sides c.args.dist.now c.args.i c.args.axis o
 
   abbrev answer : Option Point
-  answer = crossing_at t.args.sides t.args.dist.now t.args.i t.args.axis
+  answer = crossing_at c.args.sides c.args.dist.now c.args.i c.args.axis
 
   meets :
       (o : Option Point)
-      → o ≡ crossing_of t.args.axis v here there
+      → o ≡ crossing_of c.args.axis v here there
       → (done o ≡ done answer) × ((q : Option Point) → done o ≡ done q → Bound q)
   unfolding crossing_at
   meets o e =
-      let a : o ≡ answer = e ∙ ap (λ (n : ℕ). crossing_of t.args.axis v here (distance_at t.args.dist.now n)) (j-is c.before.before) in
+      let a : o ≡ answer = e ∙ ap (λ (n : ℕ). crossing_of c.args.axis v here (distance_at c.args.dist.now n)) k-is in
       (ap done a, λ q f. subst (λ (o : Option Point). Bound o) (same answer o q a f) bounded)
     where
       same : (a o q : Option Point) → o ≡ a → done o ≡ done q → a ≡ q
@@ -80,31 +86,45 @@ module _ (c : After-there-1) where
 
       bounded : Bound answer
       bounded =
-          crossing_at-bounded t.args.sides t.args.dist.now t.args.i t.args.axis t.pre.0 here-fits.sfits
-          (subst (λ (n : ℕ). Word (distance_at t.args.dist.now n)) (j-is c.before.before) there-fits.sfits)
+          crossing_at-bounded c.args.sides c.args.dist.now c.args.i c.args.axis c.requires.0 here-fits.sfits
+          (subst (λ (n : ℕ). Word (distance_at c.args.dist.now n)) k-is there-fits.sfits)
+
+-- ---- the goals
 
 pub bounds-dist-j : goal.bounds-dist-j
 bounds-dist-j c = j-lt (goal.at.bounds-dist-j c).After-stride
 
 pub returns-then-there-lt0 : goal.returns-then-there-lt0
 returns-then-there-lt0 c =
-    meets (goal.at.returns-then-there-lt0 c).After-there-1 none (neither (t (goal.at.returns-then-there-lt0 c).After-there-1).args.axis (v (goal.at.returns-then-there-lt0 c).After-there-1) (here (goal.at.returns-then-there-lt0 c).After-there-1) (there (goal.at.returns-then-there-lt0 c).After-there-1) (here-fits (goal.at.returns-then-there-lt0 c).After-there-1) (there-fits (goal.at.returns-then-there-lt0 c).After-there-1) true c.if-here-lt0.true c.if-there-lt0.true)
+    let r = (goal.at.returns-then-there-lt0 c).After-there-1 in
+    let m =
+        meets r none (neither c.args.axis (v r) (here r) (there r) (here-fits r) (there-fits r) true c.if-here-lt0.true c.if-there-lt0.true) in
+    record { result_value = m.0; bounded_at = m.1 }
 
 pub returns-then-here-lt0 : goal.returns-then-here-lt0
 returns-then-here-lt0 c =
-    meets (goal.at.returns-then-here-lt0 c).After-there-1 (some c.point_between.result)
-    (from-here (t (goal.at.returns-then-here-lt0 c).After-there-1).args.axis (v (goal.at.returns-then-here-lt0 c).After-there-1) (here (goal.at.returns-then-here-lt0 c).After-there-1) (there (goal.at.returns-then-here-lt0 c).After-there-1) (here-fits (goal.at.returns-then-here-lt0 c).After-there-1) (there-fits (goal.at.returns-then-here-lt0 c).After-there-1) c.point_between.result c.if-here-lt0.true c.if-there-lt0.false
-    c.point_between.ensures)
+    let r = (goal.at.returns-then-here-lt0 c).After-there-1 in
+    let m =
+        meets r (some c.point_between.result)
+        (from-here c.args.axis (v r) (here r) (there r) (here-fits r) (there-fits r) c.point_between.result c.if-here-lt0.true c.if-there-lt0.false
+        c.point_between.ensures) in
+    record { result_value = m.0; bounded_at = m.1 }
 
 pub point_between-requires-then-there-lt0-2 : goal.point_between-requires-then-there-lt0-2
-point_between-requires-then-there-lt0-2 c = ((t (goal.at.point_between-requires-then-there-lt0-2 c).After-there-1).requires.0.fit, j-below (goal.at.point_between-requires-then-there-lt0-2 c).After-stride)
+point_between-requires-then-there-lt0-2 c = (c.requires.0.fit, j-below (goal.at.point_between-requires-then-there-lt0-2 c).After-stride)
 
 pub returns-then-there-lt0-2 : goal.returns-then-there-lt0-2
 returns-then-there-lt0-2 c =
-    meets (goal.at.returns-then-there-lt0-2 c).After-there-1 (some c.point_between-then-there-lt0-2.result)
-    (from_next (t (goal.at.returns-then-there-lt0-2 c).After-there-1).args.axis (v (goal.at.returns-then-there-lt0-2 c).After-there-1) (here (goal.at.returns-then-there-lt0-2 c).After-there-1) (there (goal.at.returns-then-there-lt0-2 c).After-there-1) (here-fits (goal.at.returns-then-there-lt0-2 c).After-there-1) (there-fits (goal.at.returns-then-there-lt0-2 c).After-there-1) (voxel (t (goal.at.returns-then-there-lt0-2 c).After-there-1).args.sides (j (goal.at.returns-then-there-lt0-2 c).After-stride))
-    c.point_between-then-there-lt0-2.result (j-next (goal.at.returns-then-there-lt0-2 c).After-stride) c.if-here-lt0.false c.if-there-lt0-2.true c.point_between-then-there-lt0-2.ensures)
+    let r = (goal.at.returns-then-there-lt0-2 c).After-there-1 in
+    let m =
+        meets r (some c.point_between-then-there-lt0-2.result)
+        (from_next c.args.axis (v r) (here r) (there r) (here-fits r) (there-fits r) (voxel c.args.sides (j (goal.at.returns-then-there-lt0-2 c).After-stride))
+        c.point_between-then-there-lt0-2.result (j-next (goal.at.returns-then-there-lt0-2 c).After-stride) c.if-here-lt0.false c.if-there-lt0-2.true c.point_between-then-there-lt0-2.ensures) in
+    record { result_value = m.0; bounded_at = m.1 }
 
 pub returns : goal.returns
 returns c =
-    meets (goal.at.returns c).After-there-1 none (neither (t (goal.at.returns c).After-there-1).args.axis (v (goal.at.returns c).After-there-1) (here (goal.at.returns c).After-there-1) (there (goal.at.returns c).After-there-1) (here-fits (goal.at.returns c).After-there-1) (there-fits (goal.at.returns c).After-there-1) false c.if-here-lt0.false c.if-there-lt0-2.false)
+    let r = (goal.at.returns c).After-there-1 in
+    let m =
+        meets r none (neither c.args.axis (v r) (here r) (there r) (here-fits r) (there-fits r) false c.if-here-lt0.false c.if-there-lt0-2.false) in
+    record { result_value = m.0; bounded_at = m.1 }

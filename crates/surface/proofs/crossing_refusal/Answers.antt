@@ -1,6 +1,4 @@
 -- `surface::crossing_refusal` meets its contract: the checks of a finished grid, then 5 and 6.
--- ---- where the checks of a finished grid hold
--- ---- the needs
 use borrow.Author.Rules.{rules}
 use mathlib.Core.Path.{◌≡◌, refl, sym, ◌∙◌, subst}
 use Prim.Native.Nat.{ℕ, ◌≤◌, ◌<◌}
@@ -13,27 +11,31 @@ use Rattle.rules.proofs.Fit.{ended}
 use Rattle.surface.specs.Surface.{next_checks, crossing_checks}
 use Rattle.surface.proofs.Crossable.{five, six, neither}
 use Rattle.surface.proofs.crossing_refusal.Goals as goal
-use Rattle.surface.proofs.crossing_refusal.Goals.{Else-n-ne0, Else-voxel_count-index, Start}
+use Rattle.surface.proofs.crossing_refusal.Goals.{Else-n-ne0, Else-voxel_count-index}
 
-abbrev lent-to : Start → State
-lent-to c = state c.args.given c.args.dist.now c.args.status.now
+-- ---- where the checks of a finished grid hold
 
 module _ (c : Else-n-ne0) where
-  found : Ended (lent-to c.before.before.before)
-  found = ended (lent-to c.before.before.before) (all_hold (finished_checks (lent-to c.before.before.before)) refl (sym c.finished_refusal-n.ensures ∙ c.if-n-ne0.false))
+  abbrev lent : State
+  lent = state c.args.given c.args.dist.now c.args.status.now
+
+  found : Ended lent
+  found = ended lent (all_hold (finished_checks lent) refl (sym c.finished_refusal-n.ensures ∙ c.if-n-ne0.false))
 
   follows :
       (m : ℕ)
       → first_failing (next_checks c.args.index c.args.axis c.args.given.sides) ≡ m
-      → m ≡ first_failing (crossing_checks c.args.index c.args.axis (lent-to c.before.before.before))
-  follows m e = held_first (finished_checks (lent-to c.before.before.before)) _ _ c.finished_refusal-n.ensures refl c.if-n-ne0.false m (sym e)
+      → m ≡ first_failing (crossing_checks c.args.index c.args.axis lent)
+  follows m e = held_first (finished_checks lent) _ _ c.finished_refusal-n.ensures refl c.if-n-ne0.false m (sym e)
 
-under : (c : Else-voxel_count-index) → let p = c.before.before.before in p.args.index < size p.args.given.sides
-under c = let p = c.before.before.before in subst (λ (n : ℕ). p.args.index < n) c.voxel_count.ensures.0 c.if-voxel_count-index.false
+under : (c : Else-voxel_count-index) → c.args.index < size c.args.given.sides
+under c = subst (λ (n : ℕ). c.args.index < n) c.voxel_count.ensures.0 c.if-voxel_count-index.false
+
+-- ---- the goals
 
 pub returns-then-n-ne0 : goal.returns-then-n-ne0
 returns-then-n-ne0 c =
-    let g = lent-to (goal.at.returns-then-n-ne0 c).Start in
+    let g = state c.args.given c.args.dist.now c.args.status.now in
     refused-first (finished_checks g) _ _ c.finished_refusal-n.ensures c.if-n-ne0.true
 
 pub voxel_count-requires : goal.voxel_count-requires

@@ -27,7 +27,7 @@ pub put_back-requires : goal.put_back-requires
 put_back-requires c = c.walk-end.ensures.listed
 
 -- the bytes after it are those that were lent
-restored : (c : After-put_back) → c.put_back.new.0 ≡ c.args.status.now
+restored : (c : After-put_back) → c.put_back.new.status ≡ c.args.status.now
 restored c = c.put_back.ensures ∙ c.walk-end.ensures.back
 
 fits : (c : After-struct_told-1) → SFits w32 c.walk-end.result.euler
