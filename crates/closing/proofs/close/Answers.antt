@@ -1,13 +1,13 @@
 -- `closing::close` meets its contract: the loop has closed the voxels before i.
 use mathlib.Core.Path.{ap, ◌∙◌}
 use borrow.Author.Rules.{sfits_of, rules}
-use lib.IntN.{ℤ}
+use lib.IntN.{ℤ, pos}
 use mir.Facts.{to_z-of_z}
 use Rattle.closing.specs.Closing.{closed_if}
-use Prim.Native.Nat.{◌-◌}
-use lib.ListN.{length, get_or}
-use Rattle.closing.proofs.Closing.{Closing, closing-start, closing-step, closing-done}
+use lib.ListN.{get_or}
+use Rattle.closing.proofs.Closing.{closing-start, closing-step, closing-done}
 use mir.Syntax.{w32}
+use mir.Val.{SFits}
 use Rattle.closing.proofs.close.Goals as goal
 
 pub loop-i-init : goal.loop-i-init
@@ -16,9 +16,10 @@ loop-i-init c = closing-start _ _ c.requires
 pub loop-i-preserved : goal.loop-i-preserved
 loop-i-preserved c =
     let a = c.args in
+    let d-fits : SFits w32 (get_or c.loop-i.dist c.loop-i.i (pos 0)) = search rules in
     closing-step a.dist.now a.status.now c.loop-i.dist c.loop-i.i _ c.loop-i.invariant c.loop-i-test.true
     (to_z-of_z (sfits_of {w = w32} c.closed_value.type_inv) ∙ c.closed_value.ensures
-    ∙ ap (λ (x : ℤ). closed_if x (get_or a.status.now c.loop-i.i 0)) (to_z-of_z (sfits_of {w = w32} c.d-1.given)))
+    ∙ ap (λ (x : ℤ). closed_if x (get_or a.status.now c.loop-i.i 0)) (to_z-of_z d-fits))
 
 pub shape_of-dist : goal.shape_of-dist
 shape_of-dist c = c.loop-i.invariant.size

@@ -1,13 +1,7 @@
 -- `closing::close` meets its contract: the loop has closed the voxels before i.
-use mathlib.Core.Path.{ap, ◌∙◌}
-use borrow.Author.Rules.{sfits_of, rules}
-use lib.IntN.{ℤ}
-use mir.Facts.{to_z-of_z}
-use Rattle.closing.specs.Closing.{closed_if}
 use Prim.Native.Nat.{◌-◌}
-use lib.ListN.{length, get_or}
-use Rattle.closing.proofs.Closing.{Closing, closing-start, closing-step, closing-done}
-use mir.Syntax.{w32}
+use lib.ListN.{length}
+use Rattle.closing.proofs.Closing.{Closing}
 use Rattle.closing.proofs.close.Given as goal
 
 abbrev pub invariant-loop-i : goal.invariant-loop-i

@@ -1,7 +1,6 @@
 -- `closing::closed_value` meets its contract: each need is a law of `Closing`.
 use mathlib.Core.Path.{◌≡◌, sym, ap, ◌∙◌, subst}
 use mathlib.Core.Bool.{true, false}
-use borrow.Author.Rules.{rules}
 use lib.IntN.{ℤ, pos, ◌-ℤ◌}
 use lib.Signed.{lt_z}
 use mir.Syntax.{w32}
@@ -9,7 +8,6 @@ use mir.Val.{SFits}
 use mir.Facts.{to_z-of_z}
 use Rattle.rules.specs.Grid.{is_negative}
 use Rattle.rules.specs.Status.{kept_byte}
-use Rattle.prelude.proofs.Bools.{not-true, not-false}
 use Rattle.prelude.proofs.Signs.{held-negative}
 use Rattle.closing.proofs.Closing.{closed-gone, closed-negative, closed-zero, closed-more, minus-fits}
 use Rattle.closing.proofs.closed_value.Goals as goal
@@ -24,14 +22,16 @@ kept c = sym c.is_kept.ensures ∙ c.if-not-is_kept.false
 
 pub returns-then-d-lt0 : goal.returns-then-d-lt0
 returns-then-d-lt0 c =
-    to_z-of_z c.ranges.d ∙ sym (closed-negative c.args.d c.args.x (kept (goal.at.returns-then-d-lt0 c).Else-not-is_kept) (sym (held-negative c.ranges.d) ∙ c.if-d-lt0.true))
+    let at = goal.at.returns-then-d-lt0 c in
+    to_z-of_z c.ranges.d ∙ sym (closed-negative c.args.d c.args.x (kept at.Else-not-is_kept) (sym (held-negative c.ranges.d) ∙ c.if-d-lt0.true))
 
 above : (c : Else-d-lt0) → is_negative c.args.d ≡ false
 above c = sym (held-negative c.ranges.d) ∙ c.if-d-lt0.false
 
 pub returns-then-d-lt1 : goal.returns-then-d-lt1
 returns-then-d-lt1 c =
-    sym (closed-zero c.args.d c.args.x (kept (goal.at.returns-then-d-lt1 c).Else-not-is_kept) (above (goal.at.returns-then-d-lt1 c).Else-d-lt0)
+    let at = goal.at.returns-then-d-lt1 c in
+    sym (closed-zero c.args.d c.args.x (kept at.Else-not-is_kept) (above at.Else-d-lt0)
     (ap (λ (z : ℤ). lt_z z (pos 1)) (sym (to_z-of_z c.ranges.d)) ∙ c.if-d-lt1.true))
 
 pub overflow_sub-result : goal.overflow_sub-result
@@ -40,6 +40,7 @@ overflow_sub-result c =
 
 pub returns : goal.returns
 returns c =
+    let at = goal.at.returns c in
     to_z-of_z (overflow_sub-result c) ∙ ap (λ (z : ℤ). pos 0 -ℤ z) (to_z-of_z c.ranges.d)
-    ∙ closed-more c.args.d c.args.x (kept (goal.at.returns c).Else-not-is_kept) (above (goal.at.returns c).Else-d-lt0)
+    ∙ closed-more c.args.d c.args.x (kept at.Else-not-is_kept) (above at.Else-d-lt0)
     (ap (λ (z : ℤ). lt_z z (pos 1)) (sym (to_z-of_z c.ranges.d)) ∙ c.if-d-lt1.false)

@@ -1,6 +1,5 @@
 -- `closing::finish` meets its contract: refused by the number, or done where it is 0.
 use mathlib.Core.Path.{refl, sym, ◌∙◌}
-use borrow.Author.Rules.{rules}
 use Rattle.rules.specs.Machine.{State, state, lent_to, finish_checks, finished_of}
 use Rattle.rules.specs.Machine as machine
 use Rattle.rules.proofs.Checks.{all_hold, call-refused, call-done}

@@ -2,38 +2,42 @@
 use mathlib.Core.Path.{◌≡◌, refl, sym, ◌∙◌}
 use mathlib.Core.List.{[], ◌++◌}
 use Prim.Native.Nat.{ℕ}
-use borrow.Author.Rules.{rules}
-use Rattle.rules.specs.Machine.{State, state, working_checks, quiet_checks}
+use Rattle.rules.specs.Machine.{state, working_checks, quiet_checks}
 use Rattle.rules.specs.Status.{any_pending}
 use Rattle.rules.specs.Checks.{first_failing}
 use Rattle.rules.proofs.Checks.{fails-first, holds-first, all_hold, refused-first, held_first}
 use Rattle.rules.proofs.Fit.{working}
 use Rattle.fitness.proofs.Pending.{any-pending-is}
 use Rattle.closing.proofs.quiet_refusal.Goals as goal
-use Rattle.closing.proofs.quiet_refusal.Goals.{After-any_pending, Start}
-
-abbrev lent-to : Start → State
-lent-to c = state c.args.given c.args.dist.now c.args.status.now
+use Rattle.closing.proofs.quiet_refusal.Goals.{After-any_pending}
 
 pub returns-then-n-ne0 : goal.returns-then-n-ne0
 returns-then-n-ne0 c =
-    let g = lent-to (goal.at.returns-then-n-ne0 c).Start in
+    let g = state c.args.given c.args.dist.now c.args.status.now in
     refused-first (working_checks g) (quiet_checks g) _ c.working_refusal-n.ensures c.if-n-ne0.true
 
 -- the scan finds what the rule asks of a fit state
-pending : (c : After-any_pending) → let g = state c.args.given c.args.dist.now c.args.status.now in c.any_pending.result ≡ any_pending g.rec.sides g.status
+pending :
+    (c : After-any_pending)
+    → let g = state c.args.given c.args.dist.now c.args.status.now in c.any_pending.result ≡ any_pending g.rec.sides g.status
 pending c =
     let g = state c.args.given c.args.dist.now c.args.status.now in
     let w = working g (all_hold (working_checks g) refl (sym c.working_refusal-n.ensures ∙ c.if-n-ne0.false)) in
     c.any_pending.ensures ∙ any-pending-is g w.fit.voxels.lent.statuses
 
-behind : (c : After-any_pending) → let g = state c.args.given c.args.dist.now c.args.status.now in (n : ℕ) → n ≡ first_failing (quiet_checks g)
-    → n ≡ first_failing (working_checks g ++ quiet_checks g)
+behind :
+    (c : After-any_pending)
+    → let g = state c.args.given c.args.dist.now c.args.status.now in
+      (n : ℕ) → n ≡ first_failing (quiet_checks g) → n ≡ first_failing (working_checks g ++ quiet_checks g)
 behind c = held_first _ _ _ c.working_refusal-n.ensures refl c.if-n-ne0.false
 
 pub returns-then-any_pending : goal.returns-then-any_pending
-returns-then-any_pending c = behind (goal.at.returns-then-any_pending c).After-any_pending 13 (sym (fails-first 13 _ [] (sym (pending (goal.at.returns-then-any_pending c).After-any_pending) ∙ c.if-any_pending.true)))
+returns-then-any_pending c =
+    let at = goal.at.returns-then-any_pending c in
+    behind at.After-any_pending 13 (sym (fails-first 13 _ [] (sym (pending at.After-any_pending) ∙ c.if-any_pending.true)))
 
 pub returns : goal.returns
 unfolding first_failing
-returns c = behind (goal.at.returns c).After-any_pending 0 (sym (holds-first 13 _ [] (sym (pending (goal.at.returns c).After-any_pending) ∙ c.if-any_pending.false)))
+returns c =
+    let at = goal.at.returns c in
+    behind at.After-any_pending 0 (sym (holds-first 13 _ [] (sym (pending at.After-any_pending) ∙ c.if-any_pending.false)))

@@ -16,26 +16,29 @@ use Rattle.office.specs.Structs.{places_of}
 use Rattle.serving_checks.specs.Given.{grids_of, LaidOut, layout_checks, state_checks}
 use Rattle.serving_checks.proofs.Numbers.{laid_out}
 use Rattle.serving_checks.proofs.refusal.Goals as goal
-use Rattle.serving_checks.proofs.refusal.Goals.{After-any_finished, After-unfit, Else-number-ne0, Start}
+use Rattle.serving_checks.proofs.refusal.Goals.{After-any_finished, After-unfit, Else-number-ne0}
 
-abbrev layout : Start → List Check
+abbrev layout : Else-number-ne0 → List Check
 layout c = let a = c.args in layout_checks a.limit a.g (length a.dist.now) (length a.status.now) (length a.marks.now)
 
-abbrev rest : Start → List Check
+abbrev rest : Else-number-ne0 → List Check
 rest c = let a = c.args in state_checks a.marks.now a.g a.o a.dist.now a.status.now
 
 pub returns-then-number-ne0 : goal.returns-then-number-ne0
-returns-then-number-ne0 c = refused-first (layout (goal.at.returns-then-number-ne0 c).Start) (rest (goal.at.returns-then-number-ne0 c).Start) _ c.layout_refusal-number.ensures c.if-number-ne0.true
+returns-then-number-ne0 c =
+    let a = c.args in
+    refused-first (layout_checks a.limit a.g (length a.dist.now) (length a.status.now) (length a.marks.now))
+    (state_checks a.marks.now a.g a.o a.dist.now a.status.now) _ c.layout_refusal-number.ensures c.if-number-ne0.true
 
 -- past 34, 1 and 2
 right : (c : Else-number-ne0) → let a = c.args in LaidOut a.g a.dist.now a.status.now
 right c =
     let a = c.args in
     (laid_out a.limit a.g a.dist.now a.status.now a.marks.now
-    (held_none (layout (goal.at.unfit_grids-requires c).Start) _ c.layout_refusal-number.ensures refl c.if-number-ne0.false)).0
+    (held_none (layout c) _ c.layout_refusal-number.ensures refl c.if-number-ne0.false)).0
 
-behind : (c : Else-number-ne0) → let s = c.before in (m : ℕ) → m ≡ first_failing (rest (goal.at.unfit_grids-requires s).Start) → m ≡ first_failing (layout (goal.at.unfit_grids-requires s).Start ++ rest (goal.at.unfit_grids-requires s).Start)
-behind c = let s = c.before in held_first (layout (goal.at.unfit_grids-requires s).Start) (rest (goal.at.unfit_grids-requires s).Start) _ c.layout_refusal-number.ensures refl c.if-number-ne0.false
+behind : (c : Else-number-ne0) → (m : ℕ) → m ≡ first_failing (rest c) → m ≡ first_failing (layout c ++ rest c)
+behind c = held_first (layout c) (rest c) _ c.layout_refusal-number.ensures refl c.if-number-ne0.false
 
 pub unfit_grids-requires : goal.unfit_grids-requires
 unfit_grids-requires c = right c
@@ -60,10 +63,11 @@ pub any_finished-requires : goal.any_finished-requires
 any_finished-requires c = (right (goal.at.any_finished-requires c).Else-number-ne0).sized.few
 
 -- what is left to check: 8
-left : (c : After-any_finished) → first_failing (rest c.before.before.before.before.before.before.before.before.before.before) ≡ first_failing (8 when c.any_finished.result ∷ [])
+left : (c : After-any_finished) → let a = c.args in
+    first_failing (state_checks a.marks.now a.g a.o a.dist.now a.status.now) ≡ first_failing (8 when c.any_finished.result ∷ [])
 left c =
-    let t = c.before in
-    holds-first 7 _ _ (sevens t.before.before.before.before ∙ t.if-unfit_grids-unfit.false) ∙ holds-first 29 _ _ (sym t.stray.ensures ∙ c.if-stray.false)
+    holds-first 7 _ _ (sym (ap₂ ◌||◌ c.unfit_grids.ensures c.unfit.ensures) ∙ c.if-unfit_grids-unfit.false)
+    ∙ holds-first 29 _ _ (sym c.stray.ensures ∙ c.if-stray.false)
     ∙ ap (λ (t : Bool). first_failing (8 when t ∷ [])) (sym c.any_finished.ensures)
 
 pub returns-then-any_finished : goal.returns-then-any_finished
