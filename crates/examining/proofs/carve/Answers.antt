@@ -24,19 +24,19 @@ offsets_near-near-requires c = small c
 
 pub shape_of-offsets : goal.shape_of-offsets
 shape_of-offsets c =
-    c.run-c.auto.1.1.1.1.0 ∙ c.build-first.auto.1.1.1.0
+    c.run-c.auto.offsets ∙ c.build-first.auto.offsets
 
 pub shape_of-tree : goal.shape_of-tree
 shape_of-tree c =
-    c.run-c.auto.1.1.1.1.1.0 ∙ c.build-first.auto.1.1.1.1.0
+    c.run-c.auto.tree ∙ c.build-first.auto.tree
 
 pub shape_of-front : goal.shape_of-front
 shape_of-front c =
-    c.run-c.auto.1.1.1.1.1.1.0 ∙ c.build-first.auto.1.1.1.1.1.0
+    c.run-c.auto.front ∙ c.build-first.auto.front
 
 pub returns : goal.returns
 returns c =
     let a = c.args in
     tallied a.s (marked a.marks.now) a.dist.now a.limit a.status.now _ _ _ _ _ c.any_pending-left.result _ c.requires.work
-    c.run-c.auto.1.1.1.0 c.run-c.ensures
+    c.run-c.auto.status c.run-c.ensures
     c.any_pending-left.ensures c.last_face.ensures

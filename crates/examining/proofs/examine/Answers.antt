@@ -76,7 +76,7 @@ leave-rest-requires c =
 pub wake_around-woken-requires : goal.wake_around-woken-requires
 wake_around-woken-requires c =
     (
-      record { queue = c.leave-rest.ensures.queue; statuses = c.leave-rest.auto.status.1.0 ∙ c.requires.0.work.body.statuses.lent; voxel = inner (goal.at.wake_around-woken-requires c).Start },
+      record { queue = c.leave-rest.ensures.queue; statuses = c.leave-rest.auto.status ∙ c.requires.0.work.body.statuses.lent; voxel = inner (goal.at.wake_around-woken-requires c).Start },
       c.gather-block.ensures.rows,
       c.requires.1,
     )

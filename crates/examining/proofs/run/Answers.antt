@@ -27,37 +27,37 @@ shape_of-status-in_default c = c.loop-examined.invariant.statuses
 
 pub shape_of-offsets-in_default : goal.shape_of-offsets-in_default
 shape_of-offsets-in_default c =
-    c.filled-head.auto.1.1.1.0 ∙ c.loop-examined.invariant.stretched
+    c.filled-head.auto.offsets ∙ c.loop-examined.invariant.stretched
 
 pub shape_of-tree-in_default : goal.shape_of-tree-in_default
 shape_of-tree-in_default c =
-    c.filled-head.auto.1.1.1.1.0 ∙ c.loop-examined.invariant.noded
+    c.filled-head.auto.tree ∙ c.loop-examined.invariant.noded
 
 pub shape_of-front-in_default : goal.shape_of-front-in_default
 shape_of-front-in_default c =
-    c.filled-head.auto.1.1.1.1.1.0 ∙ c.loop-examined.invariant.placed
+    c.filled-head.auto.front ∙ c.loop-examined.invariant.placed
 
 pub returns-in_default : goal.returns-in_default
 returns-in_default c =
     let a = c.args in
     running_none a.s (marked a.marks.now) a.dist.now a.limit a.status.now a.offsets.now a.tree.now
-    a.front.now c.loop-examined.status _ _ _ c.loop-examined.examined c.loop-examined.removed c.loop-examined.new _
-    (running-filled c.loop-examined.invariant c.filled-head.ensures.queue c.filled-head.auto.1.1.1.0 c.filled-head.auto.1.1.1.1.0
-    c.filled-head.auto.1.1.1.1.1.0)
-    (best-as c.enum_told-1.given.1 c.first-next.ensures)
+    a.front.now c.loop-examined.status _ _ _ c.loop-examined.examined c.loop-examined.removed c.loop-examined.last _
+    (running-filled c.loop-examined.invariant c.filled-head.ensures.queue c.filled-head.auto.offsets c.filled-head.auto.tree
+    c.filled-head.auto.front)
+    (best-as c.in_default.is c.first-next.ensures)
 
 pub examine-step-requires : goal.examine-step-requires
 examine-step-requires c =
     let a = c.args in
-    let b = best-as c.next-1.given.1 c.first-next.ensures in
+    let b = best-as c.in-At.is c.first-next.ensures in
     let k =
-    running-filled c.loop-examined.invariant c.filled-head.ensures.queue c.filled-head.auto.1.1.1.0 c.filled-head.auto.1.1.1.1.0
-    c.filled-head.auto.1.1.1.1.1.0 in (
+    running-filled c.loop-examined.invariant c.filled-head.ensures.queue c.filled-head.auto.offsets c.filled-head.auto.tree
+    c.filled-head.auto.front in (
       record {
         queue = k.queue;
         work = k.work;
         below = running-below a.s (marked a.marks.now) a.dist.now a.limit a.status.now a.offsets.now a.tree.now
-            a.front.now c.loop-examined.status _ _ _ c.loop-examined.examined c.loop-examined.removed c.loop-examined.new _ k _ b;
+            a.front.now c.loop-examined.status _ _ _ c.loop-examined.examined c.loop-examined.removed c.loop-examined.last _ k _ b;
         pending = b.pending _ refl;
         first = b.first _ refl;
       },
@@ -70,7 +70,7 @@ overflow_add-removed c =
     let k = c.loop-examined.invariant in
     let t = c.loop-examined-test.true in
     let o = one_at_most (goes c.args.s (may_go (marked c.args.marks.now) c.args.dist.now) c.loop-examined.status
-    c.next-1.given.0.0) in
+    c.in-At.i) in
     record { fits = omega (arith, k.fewer, c.examine-step.ensures.count) }
 
 pub overflow_add-examined : goal.overflow_add-examined
@@ -88,12 +88,12 @@ pub loop-examined-preserved : goal.loop-examined-preserved
 loop-examined-preserved c =
     let a = c.args in
     running-step a.s (marked a.marks.now) a.dist.now a.limit a.status.now a.offsets.now a.tree.now
-    a.front.now c.loop-examined.status _ _ _ c.loop-examined.examined c.loop-examined.removed c.loop-examined.new _
-    (running-filled c.loop-examined.invariant c.filled-head.ensures.queue c.filled-head.auto.1.1.1.0 c.filled-head.auto.1.1.1.1.0
-    c.filled-head.auto.1.1.1.1.1.0) _
-    (best-as c.next-1.given.1 c.first-next.ensures) _ _ _ _ c.examine-step.result _
+    a.front.now c.loop-examined.status _ _ _ c.loop-examined.examined c.loop-examined.removed c.loop-examined.last _
+    (running-filled c.loop-examined.invariant c.filled-head.ensures.queue c.filled-head.auto.offsets c.filled-head.auto.tree
+    c.filled-head.auto.front) _
+    (best-as c.in-At.is c.first-next.ensures) _ _ _ _ c.examine-step.result _
     c.loop-examined-test.true c.examine-step.ensures c.later-last.ensures
-    c.examine-step.auto.1.1.1.0 c.examine-step.auto.1.1.1.1.0 c.examine-step.auto.1.1.1.1.1.0 c.examine-step.auto.1.1.1.1.1.1.0
+    c.examine-step.auto.status c.examine-step.auto.offsets c.examine-step.auto.tree c.examine-step.auto.front
 
 pub shape_of-status : goal.shape_of-status
 shape_of-status c = c.loop-examined.invariant.statuses
@@ -112,4 +112,4 @@ returns c =
     let a = c.args in
     running-done a.s (marked a.marks.now) a.dist.now a.limit a.status.now a.offsets.now a.tree.now
     a.front.now c.loop-examined.status c.loop-examined.offsets c.loop-examined.tree c.loop-examined.front c.loop-examined.examined
-    c.loop-examined.removed c.loop-examined.new c.loop-examined.head c.loop-examined.invariant c.loop-examined-test.false
+    c.loop-examined.removed c.loop-examined.last c.loop-examined.head c.loop-examined.invariant c.loop-examined-test.false
