@@ -1,16 +1,14 @@
 -- `choosing::choose` meets its contract: what is left to look at gives the place.
 use mathlib.Core.Path.{◌≡◌, ap, ◌∙◌}
 use mathlib.Core.Bool.{Bool, true, false, cond}
-use mathlib.Core.List.{List, []}
+use mathlib.Core.List.{[]}
 use mathlib.Core.Option.{some}
-use Prim.Native.Nat.{ℕ, ◌+◌, ◌-◌}
+use Prim.Native.Nat.{ℕ, ◌+◌}
 use borrow.Author.Rules.{rules}
-use Rattle.office.specs.declared.Grids.{Grids}
 use Rattle.office.specs.Order.{queue, first_waiting}
 use Rattle.office.specs.Serve.{no_record, grid_at, waits, to_serve}
 use Rattle.office.specs.Structs.{places_of, office_given}
 use Rattle.order_record.proofs.Places.{length-listed}
-use Rattle.serving_checks.specs.Given.{grids_of}
 use Rattle.choosing.proofs.Choice.{found, left, left-start, left-next, left-none}
 use Rattle.choosing.proofs.choose.Invariants.{w}
 use Rattle.choosing.proofs.choose.Goals as goal
@@ -24,15 +22,13 @@ loop-p-init c =
     ∙ left-start (w a.g a.status.now) a.g.count (places_of a.o)
 
 -- what is left from p on, by whether something is pending there and p never served
-by : (c : After-waits_unserved) (t : Bool) → c.waits_unserved.result ≡ t → let l = c in
-    let a = l.args in
+by : (c : After-waits_unserved) (t : Bool) → c.waits_unserved.result ≡ t → let a = c.args in
     to_serve (office_given a.g a.o [] a.status.now)
-    ≡ cond t (some l.loop-p.p) (left (w a.g a.status.now) a.g.count (places_of a.o) (l.loop-p.p + 1))
+    ≡ cond t (some c.loop-p.p) (left (w a.g a.status.now) a.g.count (places_of a.o) (c.loop-p.p + 1))
 by c t e =
-    let l = c in
-    let a = l.args in
-    l.loop-p.invariant
-    ∙ left-next (w a.g a.status.now) a.g.count (places_of a.o) l.loop-p.p c.loop-p-test.true c.waits_unserved.result t e
+    let a = c.args in
+    c.loop-p.invariant
+    ∙ left-next (w a.g a.status.now) a.g.count (places_of a.o) c.loop-p.p c.loop-p-test.true c.waits_unserved.result t e
     c.waits_unserved.ensures
 
 pub returns-then-waits_unserved : goal.returns-then-waits_unserved

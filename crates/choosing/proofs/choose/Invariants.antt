@@ -1,17 +1,13 @@
 -- `choosing::choose` meets its contract: what is left to look at gives the place.
-use mathlib.Core.Path.{◌≡◌, ap, ◌∙◌}
-use mathlib.Core.Bool.{Bool, true, false, cond}
+use mathlib.Core.Path.{◌≡◌}
+use mathlib.Core.Bool.{Bool}
 use mathlib.Core.List.{List, []}
-use mathlib.Core.Option.{some}
-use Prim.Native.Nat.{ℕ, ◌+◌, ◌-◌}
-use borrow.Author.Rules.{rules}
+use Prim.Native.Nat.{ℕ, ◌-◌}
 use Rattle.office.specs.declared.Grids.{Grids}
-use Rattle.office.specs.Order.{queue, first_waiting}
-use Rattle.office.specs.Serve.{no_record, grid_at, waits, to_serve}
+use Rattle.office.specs.Serve.{waits, to_serve}
 use Rattle.office.specs.Structs.{places_of, office_given}
-use Rattle.order_record.proofs.Places.{length-listed}
 use Rattle.serving_checks.specs.Given.{grids_of}
-use Rattle.choosing.proofs.Choice.{found, left, left-start, left-next, left-none}
+use Rattle.choosing.proofs.Choice.{left}
 use Rattle.choosing.proofs.choose.Given as goal
 
 abbrev pub w : Grids → List ℕ → ℕ → Bool

@@ -1,18 +1,14 @@
 -- `choosing::longest_ago` meets its contract: what is left of the order record gives the place.
-use mathlib.Core.Path.{◌≡◌, ap, sym, ◌∙◌}
-use mathlib.Core.Bool.{Bool, true, false, cond}
+use mathlib.Core.Path.{◌≡◌}
+use mathlib.Core.Bool.{Bool}
 use mathlib.Core.List.{List, []}
-use mathlib.Core.Option.{some}
-use Prim.Native.Nat.{ℕ, ◌+◌, ◌-◌, ◌<◌}
-use native.Mathlib.Omega.{arith}
-use lib.ListN.{get_or}
-use borrow.Author.Rules.{rules}
+use Prim.Native.Nat.{ℕ, ◌-◌}
 use Rattle.office.specs.declared.Grids.{Grids}
 use Rattle.office.specs.Order.{first_waiting}
 use Rattle.office.specs.Serve.{waits}
 use Rattle.office.specs.Structs.{places_of}
 use Rattle.serving_checks.specs.Given.{grids_of}
-use Rattle.choosing.proofs.Choice.{found, found_none, rest, rest-next, rest-none}
+use Rattle.choosing.proofs.Choice.{rest}
 use Rattle.choosing.proofs.longest_ago.Given as goal
 
 abbrev pub w : Grids → List ℕ → ℕ → Bool

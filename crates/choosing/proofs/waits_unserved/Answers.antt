@@ -2,7 +2,6 @@
 use mathlib.Core.Path.{ap, sym, ◌∙◌}
 use mathlib.Core.Bool.{Bool, not, ◌&&◌}
 use mathlib.Core.List.{[]}
-use borrow.Author.Rules.{rules}
 use Rattle.office.specs.Serve.{waits}
 use Rattle.serving_checks.specs.Given.{grids_of}
 use Rattle.choosing.proofs.waits_unserved.Goals as goal

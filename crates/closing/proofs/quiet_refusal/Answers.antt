@@ -28,7 +28,7 @@ pending c =
 behind :
     (c : After-any_pending)
     → let g = state c.args.given c.args.dist.now c.args.status.now in
-      (n : ℕ) → n ≡ first_failing (quiet_checks g) → n ≡ first_failing (working_checks g ++ quiet_checks g)
+    (n : ℕ) → n ≡ first_failing (quiet_checks g) → n ≡ first_failing (working_checks g ++ quiet_checks g)
 behind c = held_first _ _ _ c.working_refusal-n.ensures refl c.if-n-ne0.false
 
 pub returns-then-any_pending : goal.returns-then-any_pending

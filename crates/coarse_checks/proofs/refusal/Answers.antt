@@ -3,8 +3,6 @@ use mathlib.Core.Path.{◌≡◌, sym, ◌∙◌}
 use mathlib.Core.Bool.{true}
 use native.Mathlib.Omega.{arith}
 use Prim.Native.Nat.{◌/◌}
-use borrow.Author.Rules.{rules}
-use Rattle.prelude.proofs.Bools.{not-true, not-false}
 use Rattle.rules.specs.Grid.{fit_sides, size}
 use Rattle.rules.specs.Checks.{first_failing}
 use Rattle.coarse.specs.Coarse.{FourBuffers, coarse_checks}
@@ -48,6 +46,7 @@ returns-then-block_dist-n c = refused (goal.at.returns-then-block_dist-n c).Afte
 pub returns-then-block_status-n : goal.returns-then-block_status-n
 returns-then-block_status-n c = refused (goal.at.returns-then-block_status-n c).After-voxel_count-n (λ d t b u. let z : ⊥ = omega (arith, c.if-block_status-n.true) in z)
 
+-- past the lengths
 right : (c : Else-block_status-n) → let a = c.args in (l : FourBuffers) → Lengths l a.dist a.status a.block_dist a.block_status
     → Lengths l (size a.sides) (size a.sides) (size a.sides / 8) (size a.sides / 8)
 right c l L =

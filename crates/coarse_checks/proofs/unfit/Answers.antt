@@ -1,7 +1,6 @@
 -- `unfit` is number 31: by a side, or by the scan of the edge.
 use mathlib.Core.Path.{◌≡◌, ap₂, sym, ◌∙◌}
 use mathlib.Core.Bool.{◌||◌}
-use borrow.Author.Rules.{rules}
 use Rattle.coarse.specs.Coarse.{unfit_sides}
 use Rattle.coarse_checks.proofs.Numbers.{by_side, by-edge, wide}
 use Rattle.coarse_checks.proofs.unfit.Goals as goal

@@ -74,12 +74,11 @@ leave-rest-requires c =
     }
 
 pub wake_around-woken-requires : goal.wake_around-woken-requires
-wake_around-woken-requires c =
-    (
-      record { queue = c.leave-rest.ensures.queue; statuses = c.leave-rest.auto.status ∙ c.requires.0.work.body.statuses.lent; voxel = inner (goal.at.wake_around-woken-requires c).Start },
-      c.gather-block.ensures.rows,
-      c.requires.1,
-    )
+wake_around-woken-requires c = (
+  record { queue = c.leave-rest.ensures.queue; statuses = c.leave-rest.auto.status ∙ c.requires.0.work.body.statuses.lent; voxel = inner (goal.at.wake_around-woken-requires c).Start },
+  c.gather-block.ensures.rows,
+  c.requires.1,
+)
 
 pub returns-then-gone : goal.returns-then-gone
 returns-then-gone c =

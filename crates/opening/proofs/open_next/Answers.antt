@@ -11,7 +11,7 @@ use Rattle.opening.proofs.open_next.Goals.{After-to_open-next}
 searched :
     (c : After-to_open-next)
     → let g = state c.args.given c.args.dist.now c.args.status.now in
-      found c.to_open-next.result ≡ to_open (may_go (marked c.args.marks.now) g.dist) g
+    found c.to_open-next.result ≡ to_open (may_go (marked c.args.marks.now) g.dist) g
 unfolding to_open
 searched c = c.to_open-next.ensures
 

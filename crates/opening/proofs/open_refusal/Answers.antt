@@ -38,7 +38,7 @@ pending c =
 behind :
     (c : Else-n-ne0)
     → let g = state c.args.given c.args.dist.now c.args.status.now in
-      (n : ℕ) → n ≡ first_failing (last g) → n ≡ first_failing (marked_checks c.args.marks.now g ++ last g)
+    (n : ℕ) → n ≡ first_failing (last g) → n ≡ first_failing (marked_checks c.args.marks.now g ++ last g)
 behind c =
     let g = state c.args.given c.args.dist.now c.args.status.now in
     held_first (marked_checks c.args.marks.now g) (last g) _ c.marked_refusal-n.ensures refl c.if-n-ne0.false

@@ -1,5 +1,4 @@
 -- `points::list` meets its contract. The loop's invariant: what is left of the walk gives the whole walk's answer and buffer.
-use borrow.Author.Rules.{rules}
 use borrow.Author.Tests.{ltb-true, ltb-false}
 use mathlib.Core.Path.{◌≡◌, refl, ap, ◌∙◌}
 use mathlib.Core.Logic.{◌⊎◌, inl, inr}
@@ -11,7 +10,7 @@ use lib.ListN.{length}
 use Rattle.prelude.proofs.Bools.{and-true, and-false}
 use Rattle.points.specs.Listing.{listing}
 use Rattle.points.specs.Positions.{point_on}
-use Rattle.points.proofs.Walking.{Going, going_on, going_done}
+use Rattle.points.proofs.Walking.{going_on, going_done}
 use Rattle.points.proofs.list.Goals as goal
 use Rattle.points.proofs.list.Goals.{In-loop-p}
 

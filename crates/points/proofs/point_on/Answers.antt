@@ -2,12 +2,12 @@
 use borrow.Author.Rules.{rules}
 use mathlib.Core.Path.{◌≡◌, refl, sym, ap, ◌∙◌}
 use mathlib.Core.Bool.{Bool, beq, true, false}
-use Prim.Native.Nat.{ℕ, ◌+◌, ◌/◌, ◌%◌, ◌<◌}
+use Prim.Native.Nat.{ℕ, ◌+◌, ◌/◌, ◌%◌}
 use native.Mathlib.Omega.{arith}
 use mir.Syntax.{w32}
 use mir.Val.{SFits}
 use Rattle.prelude.proofs.Signs.{held-negative}
-use Rattle.rules.specs.Grid.{size, is_negative, distance_at}
+use Rattle.rules.specs.Grid.{is_negative, distance_at}
 use Rattle.rules.specs.Answer.{done}
 use Rattle.surface.specs.Coordinates.{stride}
 use Rattle.points.proofs.Position.{no-next, with-next, six-is, has-next, past_end, one-sign}
@@ -36,8 +36,8 @@ returns-then-dist-j c =
 pub returns-then-here-there : goal.returns-then-here-there
 returns-then-here-there c =
     let d = c.args.dist.now in
-    let F : SFits w32 (distance_at d (c.args.p / 3)) = record { sfits = c.here-1.given } in
-    let G : SFits w32 (distance_at d (j (goal.at.returns-then-here-there c).After-stride)) = record { sfits = c.there-1.given } in
+    let F : SFits w32 (distance_at d (c.args.p / 3)) = search rules in
+    let G : SFits w32 (distance_at d (j (goal.at.returns-then-here-there c).After-stride)) = search rules in
     ap done
     (one-sign c.args.sides d c.args.p c.requires.fit
     (sym (held-negative F) ∙ same _ _ c.if-here-there.true ∙ held-negative G ∙ ap (λ (n : ℕ). is_negative (distance_at d n)) (j-is (goal.at.returns-then-here-there c).After-stride)))

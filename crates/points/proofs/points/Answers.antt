@@ -1,5 +1,4 @@
 -- `points::points` meets its contract: refused by the number, or listed where it is 0.
-use borrow.Author.Rules.{rules}
 use mathlib.Core.Path.{refl}
 use Rattle.rules.specs.Answer.{untouched}
 use Rattle.rules.specs.Machine.{State, state}

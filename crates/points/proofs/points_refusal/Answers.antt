@@ -1,5 +1,4 @@
 -- `points::points_refusal` meets its contract: the checks of a finished grid, then 5.
-use borrow.Author.Rules.{rules}
 use borrow.Author.Tests.{lt-ltb, le-ltb}
 use mathlib.Core.Path.{◌≡◌, refl, sym, ◌∙◌}
 use mathlib.Core.List.{[], ◌∷◌}

@@ -1,5 +1,4 @@
 -- `points::store_found` meets its contract.
-use borrow.Author.Rules.{rules}
 use Rattle.points.proofs.Found.{found_none, found_some, found-refused}
 use Rattle.points.proofs.store_found.Goals as goal
 

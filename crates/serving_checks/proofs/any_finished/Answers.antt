@@ -1,12 +1,6 @@
 -- `serving_checks::any_finished` meets its contract: the places before p are looked at.
 use mathlib.Core.Path.{ap, sym, ◌∙◌}
-use mathlib.Core.Bool.{Bool}
-use Prim.Native.Nat.{◌-◌}
-use lib.ListN.{get_or}
-use borrow.Author.Rules.{rules}
-use Rattle.rules.specs.declared.Record.{Record}
-use Rattle.office.specs.Serve.{no_record}
-use Rattle.serving_checks.proofs.Places.{Scanning, scanning-start, scanning-next, scanning-done, at_places}
+use Rattle.serving_checks.proofs.Places.{scanning-start, scanning-next, scanning-done, at_places}
 use Rattle.serving_checks.proofs.any_finished.Invariants.{test}
 use Rattle.serving_checks.proofs.any_finished.Goals as goal
 

@@ -4,7 +4,6 @@ use mathlib.Core.Bool.{Bool, ◌||◌}
 use mathlib.Core.List.{List, [], ◌∷◌, ◌++◌}
 use Prim.Native.Nat.{ℕ}
 use lib.ListN.{length}
-use borrow.Author.Rules.{rules}
 use Rattle.cells.specs.Groups.{any}
 use Rattle.rules.specs.Grid.{range}
 use Rattle.rules.specs.Checks.{Check, ◌when◌, first_failing}

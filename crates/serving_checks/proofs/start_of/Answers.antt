@@ -1,13 +1,13 @@
 -- `serving_checks::start_of` meets its contract: the sum of the sizes so far, 262,144 a grid at most.
 use mathlib.Core.Path.{◌≡◌, ap, ◌∙◌}
-use Prim.Native.Nat.{ℕ, ◌-◌}
+use Prim.Native.Nat.{ℕ}
 use lib.ListN.{take}
 use borrow.Author.Rules.{rules}
 use Rattle.rules.specs.declared.Record.{Record}
 use Rattle.rules.specs.Grid.{fit_sides, size}
 use Rattle.office.specs.Parts.{total}
 use Rattle.serving_checks.specs.Given.{sizes_of}
-use Rattle.serving_checks.proofs.Places.{Summing, summing_start, summing-next}
+use Rattle.serving_checks.proofs.Places.{summing_start, summing-next}
 use Rattle.serving_checks.proofs.start_of.Goals as goal
 
 pub loop-k-init : goal.loop-k-init
@@ -19,9 +19,8 @@ voxel_count-from-requires c =
 
 pub loop-k-preserved : goal.loop-k-preserved
 loop-k-preserved c =
-    let r = c.before in
-    summing-next r.args.g r.args.p _ _ _ r.loop-k.invariant r.loop-k-test.true r.requires.1
-    (c.voxel_count-from.ensures.0 ∙ ap (λ (r : Record). size r.sides) r.record_at-r.ensures) c.voxel_count-from.ensures.1
+    summing-next c.args.g c.args.p _ _ _ c.loop-k.invariant c.loop-k-test.true c.requires.1
+    (c.voxel_count-from.ensures.0 ∙ ap (λ (r : Record). size r.sides) c.record_at-r.ensures) c.voxel_count-from.ensures.1
 
 pub returns : goal.returns
 returns c =

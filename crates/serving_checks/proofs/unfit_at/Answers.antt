@@ -10,15 +10,13 @@ use Rattle.serving_checks.proofs.unfit_at.Goals as goal
 use Rattle.serving_checks.proofs.unfit_at.Goals.{After-record_at-r}
 
 -- the part lies within both buffers
-fits : (c : After-record_at-r) → let t = c.before in let f = t.before in let a = f.args in
-    (f.start_of-from.result ≤ t.start_of-to.result) × (t.start_of-to.result ≤ length a.dist.now) × (t.start_of-to.result ≤ length a.status.now)
+fits : (c : After-record_at-r) → let a = c.args in
+    (c.start_of-from.result ≤ c.start_of-to.result) × (c.start_of-to.result ≤ length a.dist.now) × (c.start_of-to.result ≤ length a.status.now)
 fits c =
-    let t = c.before in
-    let f = t.before in
-    let ns = sizes_of f.args.g in (
-      part-ordered ns f.args.p _ _ f.start_of-from.ensures t.start_of-to.ensures,
-      part-within ns f.args.p _ _ f.start_of-from.ensures t.start_of-to.ensures f.args.dist.now f.requires.0.distances,
-      part-within ns f.args.p _ _ f.start_of-from.ensures t.start_of-to.ensures f.args.status.now f.requires.0.statuses,
+    let ns = sizes_of c.args.g in (
+      part-ordered ns c.args.p _ _ c.start_of-from.ensures c.start_of-to.ensures,
+      part-within ns c.args.p _ _ c.start_of-from.ensures c.start_of-to.ensures c.args.dist.now c.requires.0.distances,
+      part-within ns c.args.p _ _ c.start_of-from.ensures c.start_of-to.ensures c.args.status.now c.requires.0.statuses,
     )
 
 pub offset_bounds-dist-from : goal.offset_bounds-dist-from

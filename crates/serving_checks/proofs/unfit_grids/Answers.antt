@@ -1,15 +1,6 @@
 -- `serving_checks::unfit_grids` meets its contract: the places before p are looked at.
-use mathlib.Core.Bool.{Bool}
-use mathlib.Core.List.{List}
-use Prim.Native.Nat.{ℕ, ◌-◌}
-use lib.IntN.{ℤ}
 use borrow.Author.Rules.{rules}
-use Rattle.rules.specs.Machine.{unfit}
-use Rattle.office.specs.declared.Grids.{Grids}
-use Rattle.office.specs.Serve.{grid_at}
-use Rattle.serving_checks.specs.Given.{grids_of}
-use Rattle.serving_checks.proofs.Places.{Scanning, scanning-start, scanning-next, scanning-done}
-use Rattle.serving_checks.proofs.unfit_grids.Invariants.{at}
+use Rattle.serving_checks.proofs.Places.{scanning-start, scanning-next, scanning-done}
 use Rattle.serving_checks.proofs.unfit_grids.Goals as goal
 
 pub loop-p-init : goal.loop-p-init

@@ -1,13 +1,7 @@
 -- `serving_checks::unfit_sides` meets its contract: the places before p are looked at.
 use mathlib.Core.Path.{ap, sym, ◌∙◌}
-use mathlib.Core.Bool.{Bool, not}
-use Prim.Native.Nat.{◌-◌}
-use lib.ListN.{get_or}
-use borrow.Author.Rules.{rules}
-use Rattle.rules.specs.declared.Record.{Record}
-use Rattle.rules.specs.Grid.{fit_sides}
-use Rattle.office.specs.Serve.{no_record}
-use Rattle.serving_checks.proofs.Places.{Scanning, scanning-start, scanning-next, scanning-done, at_places}
+use mathlib.Core.Bool.{not}
+use Rattle.serving_checks.proofs.Places.{scanning-start, scanning-next, scanning-done, at_places}
 use Rattle.serving_checks.proofs.unfit_sides.Invariants.{test}
 use Rattle.serving_checks.proofs.unfit_sides.Goals as goal
 

@@ -1,13 +1,11 @@
 -- `serving_checks::unfit_sides` meets its contract: the places before p are looked at.
-use mathlib.Core.Path.{ap, sym, ◌∙◌}
 use mathlib.Core.Bool.{Bool, not}
 use Prim.Native.Nat.{◌-◌}
 use lib.ListN.{get_or}
-use borrow.Author.Rules.{rules}
 use Rattle.rules.specs.declared.Record.{Record}
 use Rattle.rules.specs.Grid.{fit_sides}
 use Rattle.office.specs.Serve.{no_record}
-use Rattle.serving_checks.proofs.Places.{Scanning, scanning-start, scanning-next, scanning-done, at_places}
+use Rattle.serving_checks.proofs.Places.{Scanning}
 use Rattle.serving_checks.proofs.unfit_sides.Given as goal
 
 abbrev pub test : Record → Bool

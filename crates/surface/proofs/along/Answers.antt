@@ -1,5 +1,4 @@
 -- `surface::along` meets its contract.
-use borrow.Author.Rules.{rules}
 use Rattle.surface.proofs.Axis.{along-z}
 use Rattle.surface.proofs.along.Goals as goal
 

@@ -1,5 +1,4 @@
 -- `surface::crossing` meets its contract: refused by the number, or answered where it is 0.
-use borrow.Author.Rules.{rules}
 use mathlib.Core.Path.{◌≡◌, refl, ap}
 use mathlib.Core.Option.{Option}
 use Prim.Native.Nat.{ℕ}
@@ -24,24 +23,24 @@ unfolding crossing
 returns-then-n-ne0 c =
     let g = state c.args.given c.args.dist.now c.args.status.now in
     let checks = crossing_checks c.args.index c.args.axis g in
-      record {
-        status_value = call-refused (untouched (lent_to g)) _ checks _ c.crossing_refusal-n.ensures c.if-n-ne0.true;
-        bounded_at = λ o e. no-point _ o e
-      }
+    record {
+      status_value = call-refused (untouched (lent_to g)) _ checks _ c.crossing_refusal-n.ensures c.if-n-ne0.true;
+      bounded_at = λ o e. no-point _ o e;
+    }
 
 pub crossing_at-requires : goal.crossing_at-requires
 crossing_at-requires c =
     let h =
-      crossable c.args.index c.args.axis (state c.args.given c.args.dist.now c.args.status.now) _ c.crossing_refusal-n.ensures c.if-n-ne0.false in (h.next, h.ended.fit.voxels.lent.distances)
+    crossable c.args.index c.args.axis (state c.args.given c.args.dist.now c.args.status.now) _ c.crossing_refusal-n.ensures c.if-n-ne0.false in (h.next, h.ended.fit.voxels.lent.distances)
 
 pub returns : goal.returns
 unfolding crossing
 returns c =
     let g = state c.args.given c.args.dist.now c.args.status.now in
     let checks = crossing_checks c.args.index c.args.axis g in
-      record {
-        status_value =
-            call-done (untouched (lent_to g)) _ checks _ c.crossing_refusal-n.ensures refl c.if-n-ne0.false _
-            (ap (λ (a : Reply (Option Point)). outcome a (lent_to g)) c.crossing_at.ensures.result_value);
-        bounded_at = c.crossing_at.ensures.bounded_at
-      }
+    record {
+      status_value =
+          call-done (untouched (lent_to g)) _ checks _ c.crossing_refusal-n.ensures refl c.if-n-ne0.false _
+          (ap (λ (a : Reply (Option Point)). outcome a (lent_to g)) c.crossing_at.ensures.result_value);
+      bounded_at = c.crossing_at.ensures.bounded_at;
+    }

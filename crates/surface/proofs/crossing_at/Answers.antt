@@ -17,7 +17,7 @@ use Rattle.surface.proofs.Bound.{Word, crossing_at-bounded}
 use Rattle.surface.proofs.Indices.{next-below, next-index, voxel-next}
 use Rattle.surface.proofs.Between.{neither, from-here, from_next}
 use Rattle.surface.proofs.crossing_at.Goals as goal
-use Rattle.surface.proofs.crossing_at.Goals.{After-stride, After-there-1}
+use Rattle.surface.proofs.crossing_at.Goals.{After-stride}
 
 -- ---- the next voxel's index
 
@@ -40,16 +40,7 @@ module _ (c : After-stride) where
   j-next : voxel c.args.sides j ≡ next c.args.axis (voxel c.args.sides c.args.i)
   j-next = ap (voxel c.args.sides) j-is ∙ voxel-next c.args.sides c.args.i c.args.axis c.requires.0
 
--- ---- the answer
-
-module _ (c : After-there-1) where
-  abbrev k : ℕ
-  k = c.args.i + c.stride.result
-
-  k-is : k ≡ next_index c.args.sides c.args.i c.args.axis
-  k-is =
-      ap (λ (n : ℕ). c.args.i + n) c.stride.ensures.0
-      ∙ sym (next-index c.args.sides c.requires.0.fit c.args.i c.args.axis)
+  -- ---- the answer
 
   abbrev v : Voxel
   v = voxel c.args.sides c.args.i
@@ -58,13 +49,7 @@ module _ (c : After-there-1) where
   here = distance_at c.args.dist.now c.args.i
 
   abbrev there : ℤ
-  there = distance_at c.args.dist.now k
-
-  here-fits : SFits w32 here
-  here-fits = record { sfits = c.here-1.given }
-
-  there-fits : SFits w32 there
-  there-fits = record { sfits = c.there-1.given }
+  there = distance_at c.args.dist.now j
 
   abbrev Bound : Option Point → Type 0
   Bound o = BoundedAt c.args.sides c.args.dist.now c.args.i c.args.axis o
@@ -72,22 +57,23 @@ module _ (c : After-there-1) where
   abbrev answer : Option Point
   answer = crossing_at c.args.sides c.args.dist.now c.args.i c.args.axis
 
-  meets :
-      (o : Option Point)
-      → o ≡ crossing_of c.args.axis v here there
-      → (done o ≡ done answer) × ((q : Option Point) → done o ≡ done q → Bound q)
-  unfolding crossing_at
-  meets o e =
-      let a : o ≡ answer = e ∙ ap (λ (n : ℕ). crossing_of c.args.axis v here (distance_at c.args.dist.now n)) k-is in
-      (ap done a, λ q f. subst (λ (o : Option Point). Bound o) (same answer o q a f) bounded)
-    where
-      same : (a o q : Option Point) → o ≡ a → done o ≡ done q → a ≡ q
-      same a o q e f = cc
+  module _ (F : SFits w32 here) (G : SFits w32 there) where
+    meets :
+        (o : Option Point)
+        → o ≡ crossing_of c.args.axis v here there
+        → (done o ≡ done answer) × ((q : Option Point) → done o ≡ done q → Bound q)
+    unfolding crossing_at
+    meets o e =
+        let a : o ≡ answer = e ∙ ap (λ (n : ℕ). crossing_of c.args.axis v here (distance_at c.args.dist.now n)) j-is in
+        (ap done a, λ q f. subst (λ (o : Option Point). Bound o) (same answer o q a f) bounded)
+      where
+        same : (a o q : Option Point) → o ≡ a → done o ≡ done q → a ≡ q
+        same a o q e f = cc
 
-      bounded : Bound answer
-      bounded =
-          crossing_at-bounded c.args.sides c.args.dist.now c.args.i c.args.axis c.requires.0 here-fits.sfits
-          (subst (λ (n : ℕ). Word (distance_at c.args.dist.now n)) k-is there-fits.sfits)
+        bounded : Bound answer
+        bounded =
+            crossing_at-bounded c.args.sides c.args.dist.now c.args.i c.args.axis c.requires.0 F.sfits
+            (subst (λ (n : ℕ). Word (distance_at c.args.dist.now n)) j-is G.sfits)
 
 -- ---- the goals
 
@@ -96,18 +82,22 @@ bounds-dist-j c = j-lt (goal.at.bounds-dist-j c).After-stride
 
 pub returns-then-there-lt0 : goal.returns-then-there-lt0
 returns-then-there-lt0 c =
-    let r = (goal.at.returns-then-there-lt0 c).After-there-1 in
+    let r = (goal.at.returns-then-there-lt0 c).After-stride in
+    let F : SFits w32 (here r) = search rules in
+    let G : SFits w32 (there r) = search rules in
     let m =
-        meets r none (neither c.args.axis (v r) (here r) (there r) (here-fits r) (there-fits r) true c.if-here-lt0.true c.if-there-lt0.true) in
+    meets r F G none (neither c.args.axis (v r) (here r) (there r) F G true c.if-here-lt0.true c.if-there-lt0.true) in
     record { result_value = m.0; bounded_at = m.1 }
 
 pub returns-then-here-lt0 : goal.returns-then-here-lt0
 returns-then-here-lt0 c =
-    let r = (goal.at.returns-then-here-lt0 c).After-there-1 in
+    let r = (goal.at.returns-then-here-lt0 c).After-stride in
+    let F : SFits w32 (here r) = search rules in
+    let G : SFits w32 (there r) = search rules in
     let m =
-        meets r (some c.point_between.result)
-        (from-here c.args.axis (v r) (here r) (there r) (here-fits r) (there-fits r) c.point_between.result c.if-here-lt0.true c.if-there-lt0.false
-        c.point_between.ensures) in
+    meets r F G (some c.point_between.result)
+    (from-here c.args.axis (v r) (here r) (there r) F G c.point_between.result c.if-here-lt0.true c.if-there-lt0.false
+    c.point_between.ensures) in
     record { result_value = m.0; bounded_at = m.1 }
 
 pub point_between-requires-then-there-lt0-2 : goal.point_between-requires-then-there-lt0-2
@@ -115,16 +105,20 @@ point_between-requires-then-there-lt0-2 c = (c.requires.0.fit, j-below (goal.at.
 
 pub returns-then-there-lt0-2 : goal.returns-then-there-lt0-2
 returns-then-there-lt0-2 c =
-    let r = (goal.at.returns-then-there-lt0-2 c).After-there-1 in
+    let r = (goal.at.returns-then-there-lt0-2 c).After-stride in
+    let F : SFits w32 (here r) = search rules in
+    let G : SFits w32 (there r) = search rules in
     let m =
-        meets r (some c.point_between-then-there-lt0-2.result)
-        (from_next c.args.axis (v r) (here r) (there r) (here-fits r) (there-fits r) (voxel c.args.sides (j (goal.at.returns-then-there-lt0-2 c).After-stride))
-        c.point_between-then-there-lt0-2.result (j-next (goal.at.returns-then-there-lt0-2 c).After-stride) c.if-here-lt0.false c.if-there-lt0-2.true c.point_between-then-there-lt0-2.ensures) in
+    meets r F G (some c.point_between-then-there-lt0-2.result)
+    (from_next c.args.axis (v r) (here r) (there r) F G (voxel c.args.sides (j r))
+    c.point_between-then-there-lt0-2.result (j-next r) c.if-here-lt0.false c.if-there-lt0-2.true c.point_between-then-there-lt0-2.ensures) in
     record { result_value = m.0; bounded_at = m.1 }
 
 pub returns : goal.returns
 returns c =
-    let r = (goal.at.returns c).After-there-1 in
+    let r = (goal.at.returns c).After-stride in
+    let F : SFits w32 (here r) = search rules in
+    let G : SFits w32 (there r) = search rules in
     let m =
-        meets r none (neither c.args.axis (v r) (here r) (there r) (here-fits r) (there-fits r) false c.if-here-lt0.false c.if-there-lt0-2.false) in
+    meets r F G none (neither c.args.axis (v r) (here r) (there r) F G false c.if-here-lt0.false c.if-there-lt0-2.false) in
     record { result_value = m.0; bounded_at = m.1 }

@@ -1,5 +1,4 @@
 -- `surface::crossing_refusal` meets its contract: the checks of a finished grid, then 5 and 6.
-use borrow.Author.Rules.{rules}
 use mathlib.Core.Path.{◌≡◌, refl, sym, ◌∙◌, subst}
 use Prim.Native.Nat.{ℕ, ◌≤◌, ◌<◌}
 use Rattle.rules.specs.Grid.{size}

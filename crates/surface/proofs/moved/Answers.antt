@@ -1,5 +1,4 @@
 -- `surface::moved` meets its contract.
-use borrow.Author.Rules.{rules}
 use mathlib.Core.Path.{sym, ap, ap₂, ◌∙◌}
 use mathlib.Core.Bool.{Bool}
 use lib.Ieee.{Float, binary64, add, sub}

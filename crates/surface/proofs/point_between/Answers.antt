@@ -1,5 +1,4 @@
 -- `surface::point_between` meets its contract: the voxel's coordinates, and the sizes of both distances.
-use borrow.Author.Rules.{rules}
 use mathlib.Core.Path.{◌≡◌, ap, ◌∙◌}
 use lib.IntN.{nat_abs}
 use mir.Facts.{to_z-of_z}

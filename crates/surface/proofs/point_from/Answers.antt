@@ -1,5 +1,4 @@
 -- `surface::point_from` meets its contract.
-use borrow.Author.Rules.{rules}
 use Rattle.surface.proofs.Axis.{point-x, point-y, point-z}
 use Rattle.surface.specs.Coordinates.{voxel_of}
 use Rattle.surface.proofs.point_from.Goals as goal

@@ -1,5 +1,4 @@
 -- `surface::share` meets its contract: numbers of 2 ^ 32 at most are exact as doubles.
-use borrow.Author.Rules.{rules}
 use mathlib.Core.Path.{refl}
 use Prim.Native.Nat.{◌≤◌}
 use native.Mathlib.Nat.{le_trans}

@@ -1,7 +1,6 @@
 -- `surface::stride` meets its contract.
 use mathlib.Core.Path.{sym, subst}
 use native.Mathlib.Omega.{arith}
-use borrow.Author.Rules.{rules}
 use Prim.Native.Nat.{ℕ, ◌≤◌}
 use Rattle.surface.proofs.Indices.{ab-le, stride-le}
 use Rattle.surface.proofs.stride.Goals as goal

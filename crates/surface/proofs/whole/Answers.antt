@@ -1,5 +1,4 @@
 -- `surface::whole` meets its contract: a number of 64 at most is exact as a double.
-use borrow.Author.Rules.{rules}
 use native.Mathlib.Nat.{le_trans}
 use lib.Dec.{le→leb, lit≤}
 use lib.Ieee.{in_float}

@@ -10,24 +10,14 @@ use borrow.Author.Tests.{lt-ltb, le-ltb}
 use Rattle.text.specs.Line.{refused_line}
 use Rattle.text.specs.Written.{printed}
 use Rattle.program.specs.Program.{file_line, longest_input, program_line}
-use Rattle.line.proofs.line.Statement.{statement}
-use Rattle.line.proofs.line.Tie as tie
+use Rattle.line.proofs.line.Goals as goal
 
 by_length : (input : List ℕ) (t : Bool) → ltb longest_input (length input) ≡ t → printed (cond t (refused_line 25) (file_line input)) ≡ printed (program_line input)
 unfolding program_line
 by_length input t e = ap (λ (u : Bool). printed (cond u (refused_line 25) (file_line input))) (sym e)
 
-refused-line-requires : tie.Need-refused-line-requires
-refused-line-requires c κs = search rules
+pub returns-then-input-gt65536 : goal.returns-then-input-gt65536
+returns-then-input-gt65536 c = c.refused_line.ensures ∙ by_length _ true (lt-ltb _ _ c.if-input-gt65536.true)
 
-returns : tie.Need-returns
-returns c = c.refused-line.ensures ∙ by_length _ true (lt-ltb _ _ c.before.if1.true)
-
-file-line-requires : tie.Need-file-line-requires
-file-line-requires c κs = search rules
-
-returns-2 : tie.Need-returns-2
-returns-2 c = c.file-line.ensures ∙ by_length _ false (le-ltb _ _ c.before.if1.false)
-
-pub line-spec : {M : Type 1} → statement M
-line-spec = tie.close (tie.spec refused-line-requires returns file-line-requires returns-2)
+pub returns : goal.returns
+returns c = c.file_line.ensures ∙ by_length _ false (le-ltb _ _ c.if-input-gt65536.false)

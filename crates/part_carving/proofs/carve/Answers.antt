@@ -9,8 +9,7 @@ use Rattle.rules.specs.Answer.{Outcome, Buffers, Carving}
 use Rattle.rules.specs.Machine as machine
 use Rattle.rules.specs.Machine.{state}
 use Rattle.part_carving.specs.Part.{part, spliced}
-use Rattle.part_carving.proofs.carve.Statement.{statement}
-use Rattle.part_carving.proofs.carve.Tie as tie
+use Rattle.part_carving.proofs.carve.Goals as goal
 
 -- carve of the parts
 abbrev of_parts : Record → List ℤ → List ℕ → List ℕ → ℕ → ℕ → ℕ → Outcome Buffers Carving
@@ -21,33 +20,7 @@ spliced-same : (given : Record) (dist : List ℤ) (status marks : List ℕ) (fro
     → spliced status from to o ≡ spliced status from to (of_parts given dist status marks from to limit)
 spliced-same given dist status marks from to limit o e = ap (spliced status from to) e
 
-abbrev begun : tie.After-carve-checked → tie.Start
-begun c = c.before.before.before.before.before.before.before.before
-
-returns : tie.Need-returns
+pub returns : goal.returns
 returns c =
-    let f = c.before.before in
-    let a = (begun f).args in
-    spliced-same a.given a.dist.now a.status.now a.marks.now a.from a.to a.limit _ f.carve-checked.ensures
-
-pub carve_spec : {M : Type 1} → statement M
-carve_spec =
-    tie.close
-    (tie.spec
-    (λ c. search rules)
-    (λ c. search rules)
-    (λ c. search rules)
-    (λ c κs. search rules)
-    (λ c. search rules)
-    (λ c. search rules)
-    (λ c. search rules)
-    (λ c. search rules)
-    (λ c. search rules)
-    (λ c. search rules)
-    (λ c. search rules)
-    (λ c. search rules)
-    (λ c. search rules)
-    (λ c. search rules)
-    (λ c κs. search rules)
-    (λ c. search rules)
-    returns)
+    let a = c.args in
+    spliced-same a.given a.dist.now a.status.now a.marks.now a.from a.to a.limit _ c.carve_checked.ensures
