@@ -4,7 +4,7 @@ use mathlib.Core.Path.{◌≡◌, refl, sym, ap, ◌∙◌}
 use mathlib.Core.Logic.{◌⊎◌, inl, inr}
 use mathlib.Core.Bool.{Bool, true, cond}
 use mathlib.Core.List.{List}
-use Prim.Native.Nat.{ℕ}
+use Prim.Native.Nat.{ℕ, ◌≤◌}
 use lib.Dec.{eqb}
 use lib.ListN.{length, take}
 use lib.Seq.{length-take-le}
@@ -18,13 +18,13 @@ use Rattle.rules.proofs.Checks.{call-refused, call-done}
 use Rattle.marks.specs.Lent.{used_of}
 use Rattle.marks.proofs.Lent.{few-sized, used-same}
 use Rattle.coarse.specs.Coarse.{FourBuffers, four_buffers, CoarseStart, coarse_checks, coarse_on, begin_coarse}
-use borrow.Author.Rules.{rules}
+use Rattle.coarse_checks.specs.Lengths.{Lengths}
 use Rattle.coarsening.proofs.Working.{marks-sized, acceptable, begun-is}
 use Rattle.coarsening.proofs.begin_coarse.Goals as goal
-use Rattle.coarsening.proofs.begin_coarse.Goals.{After-ready, After-refusal-number, After-used-n, After-work_out-arg-4-1, After-work_out-examined, Start}
+use Rattle.coarsening.proofs.begin_coarse.Goals.{Start}
 
 abbrev lent : Start → FourBuffers
-lent c = let a = c.args in four_buffers (buffers a.dist.now a.status.now) (buffers a.block-dist.now a.block-status.now)
+lent c = let a = c.args in four_buffers (buffers a.dist.now a.status.now) (buffers a.block_dist.now a.block_status.now)
 
 abbrev checks : Start → List Check
 checks c = coarse_checks c.args.sides c.args.values.now c.args.marks.now (lent c)
@@ -33,56 +33,55 @@ checks c = coarse_checks c.args.sides c.args.values.now c.args.marks.now (lent c
 abbrev worked : Start → Outcome FourBuffers CoarseStart
 worked c = let a = c.args in coarse_on a.sides a.allowed (filled a.sides a.values.now) (marked a.marks.now)
 
--- the number is that of the rule
-numbered : (c : After-refusal-number) → c.refusal-number.result ≡ first_failing (checks c.before.before.before.before.before)
-numbered c = c.refusal-number.ensures (lent c.before.before.before.before.before) (record { dist-len = refl; status-len = refl; block-dist-len = refl; block-status-len = refl })
+-- four buffers are as long as they are
+as_long : (l : FourBuffers) → Lengths l (length l.voxels.dist) (length l.voxels.status) (length l.blocks.dist) (length l.blocks.status)
+as_long l = record { dist-len = refl; status-len = refl; block-dist-len = refl; block-status-len = refl }
 
 pub returns-then-number-ne0 : goal.returns-then-number-ne0
 unfolding begin_coarse
 returns-then-number-ne0 c =
-    call-refused (untouched (lent (goal.at.returns-then-number-ne0 c).Start)) (worked (goal.at.returns-then-number-ne0 c).Start) (checks (goal.at.returns-then-number-ne0 c).Start) _ (numbered (goal.at.returns-then-number-ne0 c).After-refusal-number) (λ e. let z : ⊥ = omega (arith, c.if-number-ne0.true) in z)
+    let s = (goal.at.returns-then-number-ne0 c).Start in
+    call-refused (untouched (lent s)) (worked s) (checks s) _ (c.refusal-number.ensures (lent s) (as_long (lent s)))
+    (λ e. let z : ⊥ = omega (arith, c.if-number-ne0.true) in z)
 
 pub slice_bounds-work_out-end : goal.slice_bounds-work_out-end
 slice_bounds-work_out-end c = sym (length-take-le _ _ c.used-n.ensures.1)
 
--- where no check fails
-long : (c : After-used-n) → let a =
-    let numbered : :.refusal.result ≡ first_failing (checks :) = :.refusal.ensures (lent :) (record { dist-len = refl; status-len = refl; block-dist-len = refl; block-status-len = refl }) in c.args in length a.marks.now ≡ size a.sides
-long c =
-    marks-sized c.args.sides c.args.values.now c.args.marks.now (lent c.before.before.before.before.before.before.before) _ (numbered) (omega (arith, c.if-number-ne0.false))
-
-sides-fit : (c : After-ready) → fit_sides c.args.sides ≡ true
-sides-fit c =
-    let numbered : c.refusal-number.result ≡ first_failing (checks (goal.at.shape_of-dist c).Start) = c.refusal-number.ensures (lent (goal.at.shape_of-dist c).Start) (record { dist-len = refl; status-len = refl; block-dist-len = refl; block-status-len = refl }) in
-    (acceptable c.args.sides c.args.values.now c.args.marks.now (lent (goal.at.shape_of-dist c).Start) _ (numbered) (omega (arith, c.if-number-ne0.false)) 0 (inl refl)
-    ).accepted.grid.sides
-
 -- all marks are handed on, or none
-lengths : (c : After-work_out-arg-4-1) → let a = c.args in
-    let n = length (take c.used-n.result a.marks.now) in (n ≡ 0) ⊎ (n ≡ size a.sides)
+lengths : (all used : ℕ) (m : List ℕ) (n : ℕ) → used ≡ used_of all (length m) → used ≤ length m → length m ≡ n
+    → (length (take used m) ≡ 0) ⊎ (length (take used m) ≡ n)
 unfolding used_of
-lengths c =
-    let a = c.args in
-    let e = length-take-le c.used-n.result a.marks.now c.used-n.ensures.1 ∙ c.used-n.ensures.0 in
-    let n = length a.marks.now in
-    elim (two (eqb c.all-all.result 0)) [
-      | inl z ↦ inl (e ∙ ap (λ (t : Bool). cond t 0 n) z)
-      | inr z ↦ inr (e ∙ ap (λ (t : Bool). cond t 0 n) z ∙ long (goal.at.slice_bounds-work_out-end c).After-used-n)
+lengths all used m n u h long =
+    let e = length-take-le used m h ∙ u in
+    elim (two (eqb all 0)) [
+      | inl z ↦ inl (e ∙ ap (λ (t : Bool). cond t 0 (length m)) z)
+      | inr z ↦ inr (e ∙ ap (λ (t : Bool). cond t 0 (length m)) z ∙ long)
     ]
 
 pub work_out-examined-requires : goal.work_out-examined-requires
 work_out-examined-requires c =
-    acceptable c.args.sides c.args.values.now c.args.marks.now (lent (goal.at.work_out-examined-requires c).Start) _ (numbered (goal.at.work_out-examined-requires c).After-refusal-number) (omega (arith, c.if-number-ne0.false)) _ (lengths c)
-
--- the four buffers as the work leaves them
-abbrev left : After-work_out-examined → FourBuffers
-left c = let l = c.work_out-examined.new in four_buffers (buffers l.0 l.1.0) (buffers l.1.1.0 l.1.1.1.0)
+    let a = c.args in
+    let s = (goal.at.work_out-examined-requires c).Start in
+    let numbered : c.refusal-number.result ≡ first_failing (checks s) = c.refusal-number.ensures (lent s) (as_long (lent s)) in
+    let none : c.refusal-number.result ≡ 0 = omega (arith, c.if-number-ne0.false) in
+    let long : length a.marks.now ≡ size a.sides = marks-sized a.sides a.values.now a.marks.now (lent s) _ numbered none in
+    acceptable a.sides a.values.now a.marks.now (lent s) _ numbered none _
+    (lengths c.all-all.result c.used-n.result a.marks.now _ c.used-n.ensures.0 c.used-n.ensures.1 long)
 
 pub returns : goal.returns
 unfolding begin_coarse
 returns c =
-    let m = c.args.marks.now in
+    let a = c.args in
+    let m = a.marks.now in
+    let l = c.work_out-examined.new in
+    let s = (goal.at.returns c).Start in
+    let numbered : c.refusal-number.result ≡ first_failing (checks s) = c.refusal-number.ensures (lent s) (as_long (lent s)) in
+    let none : c.refusal-number.result ≡ 0 = omega (arith, c.if-number-ne0.false) in
+    let long : length m ≡ size a.sides = marks-sized a.sides a.values.now m (lent s) _ numbered none in
+    let sides-fit : fit_sides a.sides ≡ true =
+    (acceptable a.sides a.values.now m (lent s) _ numbered none 0 (inl refl)).accepted.grid.sides in
     let same : marked (take c.used-n.result m) ≡ marked m =
-    ap (λ (k : ℕ). marked (take k m)) c.used-n.ensures.0 ∙ used-same m _ c.all-all.ensures (few-sized m c.args.sides (sides-fit c) (long (goal.at.returns c).After-used-n)) in
-    call-done (untouched (lent (goal.at.returns c).Start)) (worked (goal.at.returns c).Start) (checks (goal.at.returns c).Start) _ (numbered (goal.at.returns c).After-refusal-number) refl (omega (arith, c.if-number-ne0.false)) _
-    (begun-is _ _ _ _ _ _ (left (goal.at.returns c).After-work_out-examined) _ c.ready.ensures same c.work_out-examined.ensures)
+    ap (λ (k : ℕ). marked (take k m)) c.used-n.ensures.0 ∙ used-same m _ c.all-all.ensures (few-sized m a.sides sides-fit long) in
+    call-done (untouched (lent s)) (worked s) (checks s) _ numbered refl none _
+    (begun-is _ _ _ _ _ _ (four_buffers (buffers l.dist l.status) (buffers l.block_dist l.block_status)) _ c.ready.ensures same
+    c.work_out-examined.ensures)

@@ -11,7 +11,7 @@ use Rattle.coarsening.proofs.Working.{blocked, pinnable, room, together, runnabl
 use Rattle.coarsening.proofs.work_out.Goals as goal
 use Rattle.coarsening.proofs.work_out.Goals.{After-pin-n, After-work_distances}
 
-dist-kept : (c : After-work_distances) → length c.work_distances.new.0 ≡ length c.args.dist.now
+dist-kept : (c : After-work_distances) → length c.work_distances.new.dist ≡ length c.args.dist.now
 dist-kept c = search rules
 
 pub measure-requires : goal.measure-requires
@@ -23,9 +23,9 @@ pin-n-requires c =
     pinnable c.args.sides c.args.values.now _ _ _ _ _ c.requires _ (search rules)
 
 -- the blocks' marks are as many as bytes that were lent for them, at most
-pin-room : (c : After-pin-n) → c.pin-n.result ≤ length c.pin-n.new.0
+pin-room : (c : After-pin-n) → c.pin-n.result ≤ length c.pin-n.new.bytes
 pin-room c =
-    let same : length c.pin-n.new.0 ≡ length c.args.status.now = search (rules, c.pin-n.auto) in
+    let same : length c.pin-n.new.bytes ≡ length c.args.status.now = search (rules, c.pin-n.auto) in
     let few = room c.args.sides c.args.values.now _ _ _ _ _ c.requires c.pin-n.result c.pin-n.ensures.0 in
     omega arith
 
@@ -39,7 +39,7 @@ pub run-examined-requires : goal.run-examined-requires
 run-examined-requires c =
     runnable c.args.sides c.args.values.now _ _ _ _ _ c.requires _ c.work_distances.ensures.distances _ c.measure.ensures
     _ c.halved-h.ensures _ (search rules) _
-    (omega (arith, length-take-le c.pin-n.result c.pin-n.new.0 (pin-room (goal.at.run-examined-requires c).After-pin-n), c.pin-n.ensures.0))
+    (omega (arith, length-take-le c.pin-n.result c.pin-n.new.bytes (pin-room (goal.at.run-examined-requires c).After-pin-n), c.pin-n.ensures.0))
 
 pub split-requires : goal.split-requires
 split-requires c =
@@ -49,7 +49,7 @@ split-requires c =
 pub mark_statuses-requires : goal.mark_statuses-requires
 mark_statuses-requires c =
     together c.args.sides c.args.values.now _ _ _ _ _ c.requires _ (dist-kept (goal.at.mark_statuses-requires c).After-work_distances)
-    (byte_of c.args.sides c.work_distances.new.0 (split_body c.args.sides c.run-examined.new.1.1.0)) _ c.split.ensures
+    (byte_of c.args.sides c.work_distances.new.dist (split_body c.args.sides c.run-examined.new.status)) _ c.split.ensures
 
 pub returns : goal.returns
 returns c =
