@@ -10,8 +10,7 @@ use Rattle.office.specs.declared.Order.{Order}
 use Rattle.office.specs.Serve.{Serving, serve}
 use Rattle.office.specs.Structs.{Kept, as_struct, office_given}
 use Rattle.office_replies.specs.Serving.{kept_out, served_out}
-use Rattle.capi.proofs.many.wattlerugby_serve.Statement.{statement}
-use Rattle.capi.proofs.many.wattlerugby_serve.Tie as tie
+use Rattle.capi.proofs.many.wattlerugby_serve.Goals as goal
 
 -- serve's outcome on the grids as they were read in
 written_out : (m : List ℕ) (limit : ℕ) (o : Order) (dist : List ℤ) (status : List ℕ) (r : Outcome Kept Serving) (g h : Grids)
@@ -19,13 +18,8 @@ written_out : (m : List ℕ) (limit : ℕ) (o : Order) (dist : List ℤ) (status
     → kept_out r ≡ served_out o (serve m limit (office_given h o dist status))
 written_out m limit o dist status r g h e q = ap kept_out e ∙ ap (λ (x : Grids). served_out o (serve m limit (office_given x o dist status))) q
 
-returns : tie.Need-returns
+pub returns : goal.returns
 returns c =
-    let p = c.before.before.before in
-    let i = p.before.before in
-    let a = i.before.before.before.args in
-    rw c.serve-answer.ensures
-    (written_out a.marks.now a.limit a.order a.dist.now a.status.now _ _ _ p.serve.ensures i.grids-in.ensures)
-
-pub wattlerugby-serve-spec : {M : Type 1} → statement M
-wattlerugby-serve-spec = tie.close (tie.spec (λ c κs. search rules) (λ c κs. search rules) (λ c κs. search rules) (λ c. search rules) returns)
+    let a = c.args in
+    rw c.serve_answer.ensures
+    (written_out a.marks.now a.limit a.order a.dist.now a.status.now _ _ _ c.serve.ensures c.grids_in-g.ensures)

@@ -1,0 +1,7 @@
+-- `capi::looks::wattlerugby_points` meets its contract: the struct is the reply written out.
+use borrow.Author.Rules.{rules}
+use Rattle.capi.proofs.looks.wattlerugby_points.Goals as goal
+
+pub returns : goal.returns
+returns c =
+    rw (c.points_answer.ensures, ← c.record_in-r.ensures, ← c.points.ensures)

@@ -1,0 +1,6 @@
+-- `capi::machine::wattlerugby_begin_8` meets its contract: the struct is the reply written out.
+use borrow.Author.Rules.{rules}
+use Rattle.capi.proofs.machine.wattlerugby_begin_8.Goals as goal
+
+pub returns : goal.returns
+returns c = rw (c.begin_answer.ensures, ← c.begin.ensures)
