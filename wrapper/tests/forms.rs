@@ -181,7 +181,7 @@ const FORMS: [Form; 9] = [
     }),
     ("add hex 9E3779B9 to s with wrapping at 32 bits", |source| {
         let add = &source.function("practice::advanced")?.body;
-        holds(add.contains("wrapping_add_u32(s,0x9E3779B9)"), "advanced does not add by wrapping_add_u32")?;
+        holds(add == "s.wrapping_add(0x9E3779B9)", "advanced does not add by wrapping_add")?;
         source.comes_to("practice", "practice::advanced")
     }),
     ("It reads the 27 voxels of a three by three by three block", |source| {
@@ -199,7 +199,7 @@ const FORMS: [Form; 9] = [
     }),
     ("hands back its value bytes as a stretch of the caller's file", |source| {
         let result = &source.function("layers::read_layer")?.result;
-        holds(result == "LayerPart<'a>", "read_layer does not return the part")?;
+        holds(result == "Result<LayerPart<'a>,Refusal>", "read_layer does not return the part")?;
         holds(source.fields("layers::LayerPart")?.contains("values:&'a[u8]"), "LayerPart does not hold a part of the file")?;
         source.comes_to("read_layer", "layers::read_layer")?;
         source.comes_to("read", "layers::read_layer")?;
@@ -221,14 +221,17 @@ const FORMS: [Form; 9] = [
     ("The point's three doubles are the negative voxel's coordinates", |source| {
         holds(source.fields("surface::Point")?.matches(":f64").count() == 3, "Point is not three doubles")?;
         let made = source.function("surface::point_from")?;
-        let changed = ["r.x=moved(", "r.y=moved(", "r.z=moved("].iter().all(|store| made.body.contains(store));
-        holds(made.result == "Point" && made.body.contains("letmutr=Point{"), "point_from does not make a Point and return it by value")?;
+        let changed = ["point.x=moved(", "point.y=moved(", "point.z=moved("].iter().all(|store| made.body.contains(store));
+        holds(
+            made.result == "Point" && made.body.contains("letmutpoint=Point{"),
+            "point_from does not make a Point and return it by value",
+        )?;
         holds(changed, "point_from does not change one coordinate")?;
         source.comes_to("crossing", "surface::point_from")
     }),
     ("A refused file prints `refused` and the number", |source| {
         let apart = &source.function("line::line_in")?.body;
-        let refused = apart.split_once("letReadAnswer::Grid{").and_then(|(_, rest)| rest.split_once("else{")).map(|(_, rest)| rest);
+        let refused = apart.split_once("letOk(header)=").and_then(|(_, rest)| rest.split_once("else{")).map(|(_, rest)| rest);
         let printed = refused.is_some_and(|rest| rest.starts_with("returntext::refused_line("));
         holds(printed, "line_in does not take the read answer apart by let .. else")?;
         source.comes_to("carve::main", "line::line_in")
@@ -277,7 +280,7 @@ fn a_form_that_goes_is_missed() {
     let taken: [(&str, &str, &str, &str); 17] = [
         ("It answers either", "surface", "At(Point)", "At(f64, f64, f64)"),
         ("It answers either", "capi", "surface::crossing(", "surface::crossing_of("),
-        ("add hex 9E3779B9", "practice", "wrapping_add_u32(s, 0x9E3779B9)", "(s as u64 + 0x9E3779B9) as u32"),
+        ("add hex 9E3779B9", "practice", "s.wrapping_add(0x9E3779B9)", "(s as u64 + 0x9E3779B9) as u32"),
         ("add hex 9E3779B9", "capi", "practice::practice(", "practice::filled("),
         ("It reads the 27", "local_test", "[[u8; 3]; 3]", "u32"),
         ("It reads the 27", "local_test", "ghost use Rattle.std.specs.Prelude", "pub fn of_bits() {}\nghost use Rattle.std.specs.Prelude"),
@@ -285,15 +288,15 @@ fn a_form_that_goes_is_missed() {
         ("hands back its value bytes", "layers", "pub values: &'a [u8]", "pub from: usize"),
         ("hands back its value bytes", "layers", "read_layer(sides", "layer_of(sides"),
         ("numbers of corners", "local_test", "count_ones(t & ", "count_ones(t | "),
-        ("The point's three doubles", "surface", "r.y = moved(", "r.y = whole("),
+        ("The point's three doubles", "surface", "point.y = moved(", "point.y = whole("),
         ("The point's three doubles", "surface", "point_from(axis", "point_of(axis"),
-        ("A refused file", "line", "let ReadAnswer::Grid {", "match ReadAnswer::Grid {"),
+        ("A refused file", "line", "let Ok(header) =", "match Ok(header) ="),
         ("A refused file", "line", "line_in(\n", "line_of(\n"),
         (
             "The answer of take",
             "rules",
-            "        k: u32,\n        m: u32,\n        face: u32,\n        next: Record,\n    },\n    Refused(u8),\n}\n\n#[derive(Clone, Copy)]\npub enum Opened",
-            "    },\n}\n\n#[derive(Clone, Copy)]\npub enum Opened",
+            "        k: u32,\n        m: u32,\n        face: u32,\n        next: Record,\n    },\n    Refused(u8),\n}\n\n// What open",
+            "    },\n}\n\n// What open",
         ),
         ("t is p / (p + q)", "surface", "p as f64 / (p + q) as f64", "1.0 / (1.0 + q as f64 / p as f64)"),
         ("t is p / (p + q)", "capi", "BoundedAt given", "Anywhere given"),

@@ -20,7 +20,7 @@ module _ (s : Sides) (w r : ℕ) where
 
   -- the row lies there
   abbrev pub edge : Bool
-  edge = (ltb (r % s.b) w || ltb s.b (r % s.b + (w + 1))) || (ltb (r / s.b) w || ltb s.c (r / s.b + (w + 1)))
+  edge = near_end w s.b (r % s.b) || near_end w s.c (r / s.b)
 
   in_row : (i : ℕ) → first ≤ i → i < first + s.a → near_edge s w i ≡ near_end w s.a (i - first) || edge
   unfolding near_edge
@@ -33,30 +33,24 @@ module _ (s : Sides) (w r : ℕ) where
     abbrev on : ℕ → Bool
     on i = near_edge s w i && p i
 
-    -- a scan from `from` up to `to` is one of so many voxels
-    run : (from to n : ℕ) (t : Bool) → t ≡ any p (range from (to - from)) → to ≡ from + n → t ≡ any p (range from n)
-    run from to n t e f = e ∙ ap (λ (k : ℕ). any p (range from k)) (let g : to - from ≡ n = omega arith in g)
-
     -- a row that lies there
-    pub row-on-edge : (to : ℕ) (t : Bool) → t ≡ any p (range first (to - first)) → to ≡ first + s.a → edge ≡ true → t ≡ any on (range first s.a)
-    row-on-edge to t g h e =
-        run first to s.a t g h
-        ∙ any-run-ext p on first s.a
+    pub row-on-edge : edge ≡ true → any p (range first s.a) ≡ any on (range first s.a)
+    row-on-edge e =
+        any-run-ext p on first s.a
         (λ i l h.
         sym (ap (λ (t : Bool). t && p i) (in_row i l h ∙ ap (λ (t : Bool). near_end w s.a (i - first) || t) e ∙ or-one (near_end w s.a (i - first)))))
 
     -- any other: its first w voxels, and its last w
-    pub row_ends : (last to end : ℕ) (t u : Bool) → t ≡ any p (range first (to - first)) → u ≡ any p (range last (end - last))
-        → to ≡ first + w → end ≡ last + w → end ≡ first + s.a → 2 * w ≤ s.a → edge ≡ false → t || u ≡ any on (range first s.a)
-    row_ends last to end t u e₁ e₂ to_is last-is end_is d f =
-        scan-join on first w (s.a - w) (first + w) s.a t (false || u)
-        (run first to w t e₁ to_is ∙ any-run-ext p on first w (λ i l h. sym (ap (λ (t : Bool). t && p i) (at i l (omega arith)
+    pub row_ends : 2 * w ≤ s.a → edge ≡ false → any p (range first w) || any p (range (first + s.a - w) w) ≡ any on (range first s.a)
+    row_ends d f =
+        scan-join on first w (s.a - w) (first + w) s.a _ _
+        (any-run-ext p on first w (λ i l h. sym (ap (λ (t : Bool). t && p i) (at i l (omega arith)
         ∙ ap (λ (t : Bool). t || ltb s.a (i - first + (w + 1))) (lt-ltb (i - first) w (omega arith))))))
-        (scan-join on (first + w) (s.a - 2 * w) w last (s.a - w) false u
+        (scan-join on (first + w) (s.a - 2 * w) w (first + s.a - w) (s.a - w) false _
         (sym (any-run-none-of on (first + w) (s.a - 2 * w) (λ i l h.
         ap (λ (t : Bool). t && p i) (at i (omega arith) (omega arith)
         ∙ ap₂ ◌||◌ (le-ltb (i - first) w (omega arith)) (le-ltb s.a (i - first + (w + 1)) (omega arith))))))
-        (run last end w u e₂ last-is ∙ any-run-ext p on last w (λ i l h. sym (ap (λ (t : Bool). t && p i) (at i (omega arith) (omega arith)
+        (any-run-ext p on (first + s.a - w) w (λ i l h. sym (ap (λ (t : Bool). t && p i) (at i (omega arith) (omega arith)
         ∙ ap (λ (t : Bool). ltb (i - first) w || t) (lt-ltb s.a (i - first + (w + 1)) (omega arith)) ∙ or-one (ltb (i - first) w)))))
         (omega arith) (omega arith))
         (omega arith) (omega arith)

@@ -7,28 +7,33 @@ ghost use Rattle.rules.specs.Grid.{size};
 ghost use Rattle.rules.specs.Fill.{filled};
 ghost use Rattle.rules.specs.Checks.{first_failing};
 ghost use Rattle.rules.specs.Begin.{new_record, begin_checks, begin as begin_of};
-ghost use Rattle.rules.specs.Answer.{outcome, buffers, begun_answer};
+ghost use Rattle.rules.specs.Answer.{outcome, buffers};
+ghost use Rattle.rules.specs.Refusals.{number_in, replied};
 ghost use Rattle.rules.specs.Marks.{unmarked, marked};
 ghost use Rattle.marks.specs.Lent.{All};
 ghost use Rattle.gaps.specs.Work.{Accepted};
 ghost use Rattle.beginning.specs.Work.{Distanced, WorkedOut};
 
-use rules::{Begun, Record, Sides};
+use rules::{Record, Refusal, Sides};
 
-// The number of the first check that fails, or 0.
-fn refusal(sides: Sides, values: &[i32], marks: &[u8], dist: &[i32], status: &[u8], all: u8) -> u8
+// The first check that fails.
+fn refusal(
+    sides: Sides,
+    values: &[i32],
+    marks: &[u8],
+    dist: &[i32],
+    status: &[u8],
+    all: u8,
+) -> Result<(), Refusal>
     requires { All marks.now all }
-    ensures { result ≡ first_failing (begin_checks sides values.now marks.now dist.now status.now) }
+    ensures { number_in result ≡ first_failing (begin_checks sides values.now marks.now dist.now status.now) }
 {
     if !sizes::fit_sides(sides) {
-        return 1;
+        return Err(Refusal::Side);
     }
     let n = sizes::voxel_count(sides);
-    if dist.len() != n {
-        return 2;
-    }
-    if status.len() != n {
-        return 2;
+    if dist.len() != n || status.len() != n {
+        return Err(Refusal::Length);
     }
     begin_checks::given_refusal(sides, values, marks, all)
 }
@@ -87,16 +92,13 @@ pub fn begin(
     marks: &[u8],
     dist: &mut [i32],
     status: &mut [u8],
-) -> Begun
-    ensures { outcome (begun_answer result) (buffers dist.new status.new)
+) -> Result<Record, Refusal>
+    ensures { outcome (replied result) (buffers dist.new status.new)
         ≡ begin_of sides allowed values.now marks.now dist.old status.old }
 {
     let all = marks::all(marks);
-    let number = refusal(sides, values, marks, dist, status, all);
-    if number != 0 {
-        return Begun::Refused(number);
-    }
+    refusal(sides, values, marks, dist, status, all)?;
     let n = marks::used(all, marks.len());
     work_with(dist, status, sides, values, &marks[..n]);
-    Begun::Ready(new_record(sides, allowed))
+    Ok(new_record(sides, allowed))
 }

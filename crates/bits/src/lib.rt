@@ -8,5 +8,5 @@ pub fn lowest(m: u64) -> usize
     requires { 0 < m }
     ensures { Lowest m result }
 {
-    u64::trailing_zeros(m) as usize
+    m.trailing_zeros() as usize
 }

@@ -1,5 +1,5 @@
 -- Pinned voxels, and the bytes of pinned blocks read as marks.
-use mathlib.Core.Path.{◌≡◌, refl, ap, ap₂, sym, ◌∙◌, fun_ext}
+use mathlib.Core.Path.{◌≡◌, refl, ap, sym, ◌∙◌, fun_ext}
 use mathlib.Core.Bool.{Bool, true, false, cond, ◌||◌}
 use mathlib.Core.List.{List, map}
 use Prim.Native.Nat.{ℕ, ◌+◌, ◌*◌, ◌/◌, ◌%◌, ◌≤◌, ◌<◌}
@@ -35,13 +35,6 @@ any-corners p a l at =
     four false true z w t = refl
     four false false true w t = refl
     four false false false w t = refl
-
--- two marks side by side
-pub pair-pinned : (marks : List ℕ) (at i j : ℕ) (t u : Bool) → t ≡ pinned_mark (mark_of marks i) → u ≡ pinned_mark (mark_of marks j) → i ≡ at → j ≡ at + 1
-    → t || u ≡ (marked marks).pinned at || (marked marks).pinned (at + 1)
-unfolding marked
-pair-pinned marks at i j t u e f g h =
-    ap₂ ◌||◌ (e ∙ ap (λ (k : ℕ). pinned_mark (mark_of marks k)) g) (f ∙ ap (λ (k : ℕ). pinned_mark (mark_of marks k)) h)
 
 -- the byte of a block
 flag-pins : (t : Bool) → pinned_mark (cond t 1 0) ≡ t

@@ -10,23 +10,14 @@ ghost use Rattle.block_start.specs.Start.{label_of, Startable};
 
 use rules::Sides;
 
-// 0 for a negative distance, 1 for any other.
-fn label_of(d: i32) -> u8
-    ensures { result ≡ label_of d }
-{
-    if d < 0 { 0 } else { 1 }
-}
-
-// The labels of all blocks.
+// The labels of all blocks: 0 for a negative distance, 1 for any other.
 fn label(status: &mut [u8], blocks: &[i32])
     requires { length status.old ≡ length blocks.now }
     ensures { Each 0 (λ j d. label_of (distance_at blocks.now j)) 0 (length blocks.now) status.old status.new }
 {
-    let mut j = 0;
-    while j < blocks.len() {
-        let d = blocks[j];
-        status[j] = label_of(d);
-        j += 1;
+    // two slices by one index
+    for (j, label) in status.iter_mut().enumerate() {
+        *label = u8::from(blocks[j] >= 0);
     }
 }
 

@@ -1,18 +1,18 @@
 -- Where the eight voxels of a block lie, row of blocks by row.
 use mathlib.Core.Path.{◌≡◌, ap, sym, ◌∙◌}
 use mathlib.Core.Bool.{true}
-use mathlib.Core.List.{[], ◌∷◌, map}
-use Prim.Native.Nat.{ℕ, ◌+◌, ◌-◌, ◌*◌, ◌/◌, ◌%◌, ◌≤◌, ◌<◌}
+use mathlib.Core.List.{[], ◌∷◌}
+use Prim.Native.Nat.{ℕ, ◌+◌, ◌*◌, ◌/◌, ◌%◌, ◌≤◌, ◌<◌}
 use native.Mathlib.Omega.{arith}
 use native.Mathlib.Nat.{mul-add, mul_assoc, mul_comm, mul-le-mul, mul-le-mul_left}
 use Rattle.rules.specs.declared.Sides.{Sides}
 use Rattle.rules.specs.Grid.{Voxel, fit_sides, size, index, voxel, range}
-use Rattle.rules.proofs.Places.{fit, index-lt}
+use Rattle.rules.proofs.Places.{fit, index-lt, voxel-in}
 use Rattle.loops.specs.Rows.{Row}
-use Rattle.loops.proofs.Rows.{row_of, row-voxel, rows_few, rows_all}
+use Rattle.loops.proofs.Rows.{row_of, row-voxel, rows_all}
 use Rattle.coarse.specs.Blocks.{halved, part_of, eight}
 use Rattle.coarse.specs.Eight.{Even}
-use Rattle.blocks.specs.Work.{corners, BlockRow, Blocked}
+use Rattle.blocks.specs.Work.{corners, corner, Blocked}
 
 -- the voxel of a block at an offset
 part-at : (s : Sides) (v : Voxel) (o n at : ℕ) → n ≡ o % 2 + s.a * (o / 2 % 2) + s.a * s.b * (o / 4)
@@ -30,109 +30,83 @@ part-at s v o n at e f =
     let q₃ = mul-add a y (b * z) in
     omega arith
 
-module _ (s : Sides) (n blocks r : ℕ) (R : BlockRow s n blocks r) where
+module _ (s h : Sides) (n blocks r : ℕ) (B : Blocked s n blocks) (e : h ≡ halved s) (in-grid : r < h.b * h.c) where
+  pub half-row : Row h blocks r
+  half-row = row_of h blocks r (rw e B.half-sides) (rw e B.blocks-len) in-grid
+
   -- its first block, and the first voxel of that
   abbrev first : ℕ
-  first = s.a / 2 * r
+  first = h.a * r
 
   abbrev from : ℕ
-  from = s.a * (2 * (r % (s.b / 2)) + s.b * (2 * (r / (s.b / 2))))
+  from = s.a * (2 * (r % h.b) + s.b * (2 * (r / h.b)))
 
-  half-row : Row (halved s) blocks r
+  -- the numbers on the way are small
+  pub bz-few : s.b * (2 * (r / h.b)) ≤ 8192
+  bz-few =
+      let w = half-row in
+      mul-le-mul (let f = fit s B.sides in f.b-high) (let t : 2 * (r / h.b) ≤ 128 = omega (arith, w.z-in, w.c-high) in t)
+
+  pub from-few : from ≤ 1000000
+  from-few =
+      let w = half-row in
+      omega (
+        arith,
+        mul-le-mul (let f = fit s B.sides in f.a-high)
+            (let t : 2 * (r % h.b) + s.b * (2 * (r / h.b)) ≤ 8320 = omega (arith, bz-few, w.y-in, w.b-high) in t),
+      )
+
+  pub corner_is : (x : ℕ) → x < h.a → corner s (first + x) ≡ from + 2 * x
+  corner_is x l =
+      ap (λ (v : Voxel). s.a * (2 * v.y + s.b * (2 * v.z)) + 2 * v.x)
+      (ap (λ (k : Sides). voxel k (first + x)) (sym e) ∙ row-voxel h r x l)
+
+-- ---- the eight voxels of a block
+
+module _ (s : Sides) (n blocks : ℕ) (B : Blocked s n blocks) (j : ℕ) where
+  abbrev v : Voxel
+  v = voxel (halved s) j
+
+  abbrev at : ℕ
+  at = corner s j
+
+  pub corners-are : corners s.a (s.a * s.b) at ≡ eight s j
+  unfolding eight range
+  corners-are =
+      let a = s.a in
+      let m = s.a * s.b in
+      let e₀ : at ≡ index s (part_of v 0) = omega (arith, part-at s v 0 0 at (omega arith) (omega arith)) in
+      let e₁ : at + 1 ≡ index s (part_of v 1) = part-at s v 1 1 at (omega arith) (omega arith) in
+      let e₂ : at + a ≡ index s (part_of v 2) = part-at s v 2 a at (omega arith) (omega arith) in
+      let e₃ : at + a + 1 ≡ index s (part_of v 3) = omega (arith, part-at s v 3 (a + 1) at (omega arith) (omega arith)) in
+      let e₄ : at + m ≡ index s (part_of v 4) = part-at s v 4 m at (omega arith) (omega arith) in
+      let e₅ : at + m + 1 ≡ index s (part_of v 5) = omega (arith, part-at s v 5 (m + 1) at (omega arith) (omega arith)) in
+      let e₆ : at + a + m ≡ index s (part_of v 6) = omega (arith, part-at s v 6 (a + m) at (omega arith) (omega arith)) in
+      let e₇ : at + a + m + 1 ≡ index s (part_of v 7) = omega (arith, part-at s v 7 (a + m + 1) at (omega arith) (omega arith)) in
+      λ k. e₀ k ∷ e₁ k ∷ e₂ k ∷ e₃ k ∷ e₄ k ∷ e₅ k ∷ e₆ k ∷ e₇ k ∷ []
+
+  -- the last of the eight lies in the grid
+  pub corners-room : j < size (halved s) → at + 1 + s.a + s.a * s.b < n
   unfolding halved
-  half-row = let B = R.blocked in row_of (halved s) blocks r B.half-sides B.blocks-len R.row_in
+  corners-room l =
+      let e = B.even in
+      let w = fit (halved s) B.half-sides in
+      let i = voxel-in (halved s) j (omega (arith, w.a-low)) (omega (arith, w.b-low)) l in
+      let last = index-lt s (part_of v 7) (record {
+        x-in = omega (arith, i.x-in, e.a-even);
+        y-in = omega (arith, i.y-in, e.b-even);
+        z-in = omega (arith, i.z-in, e.c-even);
+      }) in
+      omega (arith, part-at s v 7 (1 + s.a + s.a * s.b) at (omega arith) (omega arith), B.len)
 
-  abbrev block : ℕ → Voxel
-  block j = record { x = j - first; y = r % (s.b / 2); z = r / (s.b / 2) }
-
-  module _ (j : ℕ) (l : first ≤ j) (u : j < first + s.a / 2) where
-    block-voxel : voxel (halved s) j ≡ block j
-    unfolding halved
-    block-voxel =
-        let e : j ≡ first + (j - first) = omega arith in
-        ap (voxel (halved s)) e ∙ row-voxel (halved s) r (j - first) (omega arith)
-
-    abbrev at : ℕ
-    at = from + 2 * (j - first)
-
-    pub corners-are : corners s.a (s.a * s.b) at ≡ eight s j
-    unfolding eight range
-    corners-are =
-        let v = block j in
-        let a = s.a in
-        let m = s.a * s.b in
-        let e₀ : at ≡ index s (part_of v 0) = omega (arith, part-at s v 0 0 at (omega arith) (omega arith)) in
-        let e₁ : at + 1 ≡ index s (part_of v 1) = part-at s v 1 1 at (omega arith) (omega arith) in
-        let e₂ : at + a ≡ index s (part_of v 2) = part-at s v 2 a at (omega arith) (omega arith) in
-        let e₃ : at + a + 1 ≡ index s (part_of v 3) = omega (arith, part-at s v 3 (a + 1) at (omega arith) (omega arith)) in
-        let e₄ : at + m ≡ index s (part_of v 4) = part-at s v 4 m at (omega arith) (omega arith) in
-        let e₅ : at + m + 1 ≡ index s (part_of v 5) = omega (arith, part-at s v 5 (m + 1) at (omega arith) (omega arith)) in
-        let e₆ : at + a + m ≡ index s (part_of v 6) = omega (arith, part-at s v 6 (a + m) at (omega arith) (omega arith)) in
-        let e₇ : at + a + m + 1 ≡ index s (part_of v 7) = omega (arith, part-at s v 7 (a + m + 1) at (omega arith) (omega arith)) in
-        (λ k. e₀ k ∷ e₁ k ∷ e₂ k ∷ e₃ k ∷ e₄ k ∷ e₅ k ∷ e₆ k ∷ e₇ k ∷ [])
-        ∙ ap (λ (w : Voxel). map (λ o. index s (part_of w o)) (range 0 8)) (sym block-voxel)
-
-    -- the last of the eight lies in the grid
-    pub corners-room : at + 1 + s.a + s.a * s.b < n
-    unfolding halved
-    corners-room =
-        let w = half-row in
-        let e = R.blocked.even in
-        let last = index-lt s (part_of (block j) 7) (record {
-          x-in = omega (arith, e.a-even);
-          y-in = omega (arith, w.y-in, e.b-even);
-          z-in = omega (arith, w.z-in, e.c-even);
-        }) in
-        omega (arith, part-at s (block j) 7 (1 + s.a + s.a * s.b) at (omega arith) (omega arith), R.blocked.len)
-
--- ---- the numbers on the way are small
-
-pub record Small (s : Sides) (n blocks r : ℕ) : Type 0 where
-  pub b-some : 0 < s.b / 2
-  pub last : s.a / 2 * r + s.a / 2 ≤ blocks
-  pub few : blocks ≤ 262144
-  pub y-few : r % (s.b / 2) ≤ 64
-  pub z-few : r / (s.b / 2) ≤ 64
-  pub bz-few : s.b * (2 * (r / (s.b / 2))) ≤ 8192
-  pub from-few : s.a * (2 * (r % (s.b / 2)) + s.b * (2 * (r / (s.b / 2)))) ≤ 1000000
-  pub layer-few : s.a * s.b ≤ 4096
-
-pub small : (s : Sides) (n blocks r : ℕ) → BlockRow s n blocks r → Small s n blocks r
-unfolding halved
-small s n blocks r R =
-    let w = half-row s n blocks r R in
-    let f = fit s R.blocked.sides in
-    let y : ℕ = r % (s.b / 2) in
-    let z : ℕ = r / (s.b / 2) in
-    let y-few : y ≤ 64 = omega (arith, w.y-in, w.b-high) in
-    let z-few : z ≤ 64 = omega (arith, w.z-in, w.c-high) in
-    let bz : s.b * (2 * z) ≤ 64 * 128 = mul-le-mul f.b-high (let t : 2 * z ≤ 128 = omega arith in t) in
-    let fr : s.a * (2 * y + s.b * (2 * z)) ≤ 64 * 8320 = mul-le-mul f.a-high (let t : 2 * y + s.b * (2 * z) ≤ 8320 = omega arith in t) in
-    record {
-      b-some = omega (arith, w.b-low);
-      last = w.last;
-      few = w.few;
-      y-few = y-few;
-      z-few = z-few;
-      bz-few = omega arith;
-      from-few = omega arith;
-      layer-few = omega (arith, mul-le-mul f.a-high f.b-high);
-    }
+pub layer-few : (s : Sides) → fit_sides s ≡ true → s.a * s.b ≤ 4096
+layer-few s e = let f = fit s e in mul-le-mul f.a-high f.b-high
 
 -- ---- how many rows and blocks there are
 
--- a row below the last, in blocks as many as at the start
-pub row-blocked : {s : Sides} {n blocks now r : ℕ} → Blocked s n blocks → now ≡ blocks → r < s.b / 2 * (s.c / 2) → BlockRow s n now r
-row-blocked B e h = record { blocked = rw e B; row_in = h }
-
-pub rows-low : (s : Sides) → fit_sides (halved s) ≡ true → s.b / 2 * (s.c / 2) ≤ 4096
-unfolding halved
-rows-low s e = rows_few (halved s) e
-
 -- past the last row all blocks are done
-pub past-rows : (s : Sides) (r : ℕ) → s.b / 2 * (s.c / 2) ≤ r → size (halved s) ≤ s.a / 2 * r
-unfolding halved
-past-rows s r h = omega (arith, rows_all (halved s), mul-le-mul_left (s.a / 2) h)
+pub past-rows : (h : Sides) (r : ℕ) → h.b * h.c ≤ r → size h ≤ h.a * r
+past-rows h r e = omega (arith, rows_all h, mul-le-mul_left h.a e)
 
 pub eighth : (s : Sides) → Even s → size s / 8 ≡ size (halved s)
 unfolding size halved

@@ -1,11 +1,10 @@
 // Blocks of two by two by two voxels, document 02's CR 10: their grid, and their distances, row of blocks by row.
 #![tactic(auto)]
 
-ghost use Rattle.std.specs.Prelude.{◌≡◌, map, ◌+◌, ◌*◌, ◌/◌, ◌<◌, pos, length};
-ghost use Rattle.rules.specs.Grid.{distance_at};
-ghost use Rattle.loops.specs.InPlace.{Each};
-ghost use Rattle.coarse.specs.Blocks.{halved as halved_of, lesser, least_of, block_distance, block_distances};
-ghost use Rattle.blocks.specs.Work.{corners, BlockRow, Blocked};
+ghost use Rattle.std.specs.Prelude.{◌≡◌, map, ℕ, ◌+◌, ◌*◌, ◌^◌, ◌<◌, length, slice_index_or};
+ghost use Rattle.rules.specs.Grid.{size, distance_at};
+ghost use Rattle.coarse.specs.Blocks.{halved as halved_of, least_of, block_distances};
+ghost use Rattle.blocks.specs.Work.{square, corners, corner, Blocked};
 
 use rules::Sides;
 
@@ -20,14 +19,15 @@ pub fn halved(s: Sides) -> Sides
     }
 }
 
-// The least of d and the distances of two voxels side by side.
-fn least_with(dist: &[i32], at: usize, d: i32) -> i32
-    requires { at + 1 < length dist.now }
-    ensures { result ≡ lesser (distance_at dist.now at) (lesser (distance_at dist.now (at + 1)) d) }
+// The least distance of four voxels of a layer, of which the first is at: rows are a long.
+fn least_of_four(dist: &[i32], a: usize, at: usize) -> i32
+    requires { at + 1 + a < length dist.now }
+    ensures { result ≡ least_of (map (distance_at dist.now) (square a at)) }
 {
-    let p = dist[at];
-    let q = dist[at + 1];
-    numbers::lesser_i32(p, numbers::lesser_i32(q, d))
+    dist[at]
+        .min(dist[at + 1])
+        .min(dist[at + a])
+        .min(dist[at + a + 1])
 }
 
 // The least distance of a block's eight voxels, of which the first is at: rows are a long, layers l.
@@ -35,27 +35,31 @@ fn least(dist: &[i32], a: usize, l: usize, at: usize) -> i32
     requires { at + 1 + a + l < length dist.now }
     ensures { result ≡ least_of (map (distance_at dist.now) (corners a l at)) }
 {
-    let p = dist[at];
-    let q = dist[at + 1];
-    let high = least_with(dist, at + l, least_with(dist, at + a + l, p));
-    numbers::lesser_i32(q, least_with(dist, at + a, high))
+    least_of_four(dist, a, at).min(least_of_four(dist, a, at + l))
 }
 
-// The distances of a row of blocks.
-fn measure_row(blocks: &mut [i32], dist: &[i32], s: Sides, row: usize)
-    requires { BlockRow s (length dist.now) (length blocks.old) row }
-    ensures { Each (pos 0) (λ j d. block_distance s dist.now j) (s.a / 2 * row) (s.a / 2 * row + s.a / 2) blocks.old
-        blocks.new }
+// Puts in a row of blocks the value of each block's first voxel, of which the first is from and each other 2 further.
+fn fill_row<T: Copy, F: Fn(usize) -> T>(row: &mut [T], from: usize, value: &F)
+    requires few { from + 2 * length row.old < 2 ^ 64 }
+    requires callable { (x : ℕ) → x < length row.old → F.pre value.now (from + 2 * x) }
+    ensures { (x : ℕ) (d : T) → x < length row.old → F.post value.now (from + 2 * x) (slice_index_or row.new x d) }
 {
-    let first = s.a / 2 * row;
-    let end = first + s.a / 2;
-    let from = s.a * (2 * (row % (s.b / 2)) + s.b * (2 * (row / (s.b / 2))));
-    let l = s.a * s.b;
-    let mut j = first;
-    while j < end {
-        let v = least(dist, s.a, l, from + 2 * (j - first));
-        blocks[j] = v;
-        j += 1;
+    for (x, block) in row.iter_mut().enumerate() {
+        *block = value(from + 2 * x);
+    }
+}
+
+// Puts in each block the value of the first of its eight voxels.
+pub fn fill_with<T: Copy, F: Fn(usize) -> T>(blocks: &mut [T], s: Sides, value: F)
+    requires sides { Blocked s (size s) (length blocks.old) }
+    requires callable { (j : ℕ) → j < size (halved_of s) → F.pre value (corner s j) }
+    ensures { (j : ℕ) (d : T) → j < length blocks.old → F.post value (corner s j) (slice_index_or blocks.new j d) }
+{
+    let h = halved(s);
+    for row in 0..h.b * h.c {
+        let first = h.a * row;
+        let from = s.a * (2 * (row % h.b) + s.b * (2 * (row / h.b)));
+        fill_row(&mut blocks[first..first + h.a], from, &value);
     }
 }
 
@@ -64,10 +68,6 @@ pub fn measure(blocks: &mut [i32], dist: &[i32], s: Sides)
     requires { Blocked s (length dist.now) (length blocks.old) }
     ensures { blocks.new ≡ block_distances s dist.now }
 {
-    let rows = s.b / 2 * (s.c / 2);
-    let mut row = 0;
-    while row < rows {
-        measure_row(blocks, dist, s, row);
-        row += 1;
-    }
+    let l = s.a * s.b;
+    fill_with(blocks, s, |at: usize| least(dist, s.a, l, at));
 }

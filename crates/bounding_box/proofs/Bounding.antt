@@ -8,7 +8,9 @@ use lib.ListN.{get_or}
 use Rattle.rules.specs.declared.Sides.{Sides}
 use Rattle.rules.specs.Grid.{Voxel, size, voxel}
 use Rattle.rules.proofs.Places.{fit, InGrid, voxel-in}
-use Rattle.loops.specs.Searches.{First, Last}
+use Rattle.std.specs.Prelude.{Option, None, Some, MatchOption}
+use Rattle.std.specs.Option.{unwrap_or}
+use Rattle.loops.specs.Searches.{Absent, First, Last}
 use Rattle.loops.proofs.Orders.{split}
 use Rattle.loops.proofs.Rows.{row-voxel, rows_more, rows_all}
 use Rattle.bounding_box.specs.declared.Bounds.{Bounds}
@@ -85,6 +87,16 @@ module _ (d : List ℕ) (coordinate : ℕ → ℕ) (side : ℕ) where
 pub bounded-none : (s : Sides) (d : List ℕ) → Bounded s d 0 (record { x0 = s.a; x1 = 0; y0 = s.b; y1 = 0; z0 = s.c; z1 = 0 })
 bounded-none s d = record { x-spanned = spanned-none _ _ _; y-spanned = spanned-none _ _ _; z-spanned = spanned-none _ _ _ }
 
+-- the last voxel of S is the last after the first, if there is one, and else the first
+pub last_after : (d : List ℕ) (first end p q : ℕ) (r : Option ℕ) → First d 0 first end p
+    → MatchOption r (Absent d 0 (p + 1) end) (λ i. Last d 0 (p + 1) end i) → q ≡ unwrap_or r p → Last d 0 first end q
+last_after d first end p q None P none e =
+    subst (Last d 0 first end) (sym e)
+    (record { low = P.low; high = P.high; none_after = λ k l h z. none k (omega arith) h z; found = P.found })
+last_after d first end p q (Some i) P L e =
+    subst (Last d 0 first end) (sym e)
+    (record { low = omega (arith, P.low, L.low); high = L.high; none_after = L.none_after; found = L.found })
+
 -- a voxel of a row
 module _ (s : Sides) (r : ℕ) where
   pub in_row : (k : ℕ) → s.a * r ≤ k → k < s.a * r + s.a → voxel s k ≡ record { x = k - s.a * r; y = r % s.b; z = r / s.b }
@@ -108,11 +120,7 @@ module _ (s : Sides) (d : List ℕ) (r : ℕ) where
           z-spanned = spanned-skip _ _ _ _ _ _ _ up none' B.z-spanned;
         }
 
-    module _ (p q : ℕ) (P : First d 0 (s.a * r) (s.a * r + s.a) p) (some : p < s.a * r + s.a) (Q : Last d 0 p (s.a * r + s.a) q) where
-      last-listed : get_or d q 0 ≡ 0
-      last-listed =
-          ⊎_elim (λ e. subst (λ (k : ℕ). get_or d k 0 ≡ 0) (let z : p ≡ q = omega (arith, Q.low) in z) (P.found some)) (λ l. Q.found l) (split q p)
-
+    module _ (p q : ℕ) (P : First d 0 (s.a * r) (s.a * r + s.a) p) (Q : Last d 0 (s.a * r) (s.a * r + s.a) q) where
       -- along an axis on which the row's voxels of S lie from lo to hi
       axis : (coordinate : Voxel → ℕ) (side low high lo hi : ℕ) → lo < side
           → ((k : ℕ) → s.a * r ≤ k → k < s.a * r + s.a → get_or d k 0 ≡ 0
@@ -127,14 +135,14 @@ module _ (s : Sides) (d : List ℕ) (r : ℕ) where
           (λ k l h e.
           let h' : k < s.a * r + s.a = omega (arith, rows_more s.a r) in
           subst (λ (v : Voxel). (lo ≤ coordinate v) × (coordinate v ≤ hi)) (sym (in_row s r k l h')) (each k l h' e))
-          (reached-at coordinate p lo P.low some (P.found some) el)
-          (reached-at coordinate q hi (omega (arith, P.low, Q.low)) Q.high last-listed eh) S
+          (reached-at coordinate p lo P.low P.high P.found el)
+          (reached-at coordinate q hi Q.low Q.high Q.found eh) S
 
       bounded-taken : r % s.b < s.b → r / s.b < s.c
           → Bounded s d (s.a * (r + 1)) (widened_by b (p - s.a * r) (q - s.a * r) (r % s.b) (r / s.b))
       bounded-taken hy hz =
           record {
-            x-spanned = axis (λ v. v.x) s.a _ _ (p - s.a * r) (q - s.a * r) (omega (arith, P.low))
+            x-spanned = axis (λ v. v.x) s.a _ _ (p - s.a * r) (q - s.a * r) (omega (arith, P.low, P.high))
                 (λ k l h e. (from_low k l h e, to_high k l h e)) refl refl B.x-spanned;
             y-spanned = axis (λ v. v.y) s.b _ _ (r % s.b) (r % s.b) hy (λ k l h e. (omega arith, omega arith)) refl refl B.y-spanned;
             z-spanned = axis (λ v. v.z) s.c _ _ (r / s.b) (r / s.b) hz (λ k l h e. (omega arith, omega arith)) refl refl B.z-spanned;
@@ -148,7 +156,7 @@ module _ (s : Sides) (d : List ℕ) (r : ℕ) where
 
   pub bounded-more : (b b' : Bounds) → Bounded s d (s.a * r) b → r % s.b < s.b → r / s.b < s.c → Widened s d r b b' → Bounded s d (s.a * (r + 1)) b'
   bounded-more b b' B hy hz (clear none e) = subst (Bounded s d (s.a * (r + 1))) (sym e) (bounded-clear b B none)
-  bounded-more b b' B hy hz (taken p q P some Q e) = subst (Bounded s d (s.a * (r + 1))) (sym e) (bounded-taken b B p q P some Q hy hz)
+  bounded-more b b' B hy hz (taken p q P Q e) = subst (Bounded s d (s.a * (r + 1))) (sym e) (bounded-taken b B p q P Q hy hz)
 
 -- all rows
 pub bounded-all : (s : Sides) (d : List ℕ) (r : ℕ) (b : Bounds) → Enclosable s d → r ≡ s.b * s.c → Bounded s d (s.a * r) b → Enclosed s d b

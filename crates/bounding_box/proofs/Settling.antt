@@ -2,13 +2,19 @@
 use mathlib.Core.Path.{◌≡◌, refl, sym, ap, ap₂, ◌∙◌, subst}
 use mathlib.Core.Logic.{inl, inr}
 use mathlib.Core.Bool.{Bool, true, false, not, cond, ◌&&◌, ◌||◌}
-use mathlib.Core.List.{List, map}
+use mathlib.Core.List.{List, map, ◌++◌}
 use Prim.Native.Nat.{ℕ, ◌+◌, ◌-◌, ◌*◌, ◌/◌, ◌%◌, ◌≤◌, ◌<◌}
 use native.Mathlib.Omega.{arith}
+use native.Mathlib.Nat.{zero-add}
 use lib.Dec.{eqb, leb}
-use lib.ListN.{length, get_or, set, length-set}
+use borrow.Rule.Slice.PartMut.{put_mid}
+use lib.ListN.{length, get_or, set, take, drop, length-set, length-take, length-drop}
 use lib.Seq.{get_or-set_same, get_or-set_other}
 use borrow.Author.Tests.{eq-eqb, ne_eqb, eqb-true, eqb-false, le-leb, leb-true, lt-leb}
+use Rattle.std.specs.Ordering.{nat_cmp, is_le, is_lt}
+use Rattle.std.specs.declared.ops.RangeInclusive.{RangeInclusive}
+use Rattle.std.specs.Range.{range_inclusive_start, range_inclusive_end, range_inclusive_exhausted}
+use Rattle.std.proofs.lemmas.Bool.Decides.{nat_tests}
 use Rattle.prelude.proofs.Bools.{two, and-true, true-and, both_ways, and_zero, and_one, or-one}
 use Rattle.rules.specs.declared.Sides.{Sides}
 use Rattle.rules.specs.Grid.{Voxel, fit_sides, range, size, voxel, voxels}
@@ -18,11 +24,14 @@ use Rattle.rules.specs.Meaning.{SomeVoxels, Between}
 use Rattle.rules.proofs.Places.{fit, InGrid, voxel-in}
 use Rattle.rules.proofs.Boxes.{box-boxed, boxed-box}
 use Rattle.loops.specs.InPlace.{Each}
-use Rattle.loops.proofs.InPlace.{each-join, each-as}
+use Rattle.loops.specs.Rows.{Row}
+use Rattle.loops.proofs.InPlace.{each-join}
+use Rattle.loops.proofs.Parts.{each_part, each_passed}
 use Rattle.loops.proofs.Below.{map_same}
+use Rattle.loops.proofs.Rows.{row-voxel}
 use Rattle.bounding_box.specs.declared.Bounds.{Bounds}
-use Rattle.bounding_box.specs.Bounds.{Spanned, Enclosable, Enclosed, reach, within, on_side, status_in, status_by, Cut, row_status}
-use Rattle.bounding_box.proofs.Bounding.{in_row, low-reached, high-reached}
+use Rattle.bounding_box.specs.Bounds.{Spanned, Enclosable, Enclosed, reach, within, on_side, status_in, status_by, row_status, SettledRow}
+use Rattle.bounding_box.proofs.Bounding.{low-reached, high-reached}
 use Rattle.bounding_box.proofs.Exposing.{exposed-side}
 
 -- ---- a row of the box
@@ -36,28 +45,41 @@ reach-below low high k l = ap (λ (t : Bool). t && leb k high) (lt-leb low k l)
 reach-above : (low high k : ℕ) → high < k → reach low high k ≡ false
 reach-above low high k h = ap (λ (t : Bool). leb low k && t) (lt-leb k high h) ∙ and_zero (leb low k)
 
-same-either : (t : Bool) → cond {A = ℕ} t 0 0 ≡ 0
-same-either true = refl
-same-either false = refl
-
-module _ (first low high end other : ℕ) (l : List ℕ) (C : Cut first low high end (length l)) where
+module _ (low high other : ℕ) (l : List ℕ) (order : low ≤ high) (room : high < length l) where
   -- the ends are not told apart yet
   plain : ℕ → ℕ → ℕ
   plain k d = cond (reach low high k) (cond (eqb d 0) 1 other) 0
 
-  three-spans : (l₁ l₂ l₃ : List ℕ) → Each 0 (λ k d. cond (eqb d 0) 0 0) first low l l₁ → Each 0 (λ k d. cond (eqb d 0) 1 other) low (high + 1) l₁ l₂
-      → Each 0 (λ k d. cond (eqb d 0) 0 0) (high + 1) end l₂ l₃ → Each 0 plain first end l l₃
+  -- after each of three parts
+  abbrev pub first : List ℕ → List ℕ
+  first before = before ++ drop low l
+
+  abbrev pub second : List ℕ → List ℕ → List ℕ
+  second before box = put_mid low (high + 1 - low) (first before) box
+
+  abbrev pub third : List ℕ → List ℕ → List ℕ → List ℕ
+  third before box after = put_mid (high + 1) (length (second before box) - (high + 1)) (second before box) after
+
+  three_parts : (before box after : List ℕ) (end : ℕ) → length before ≡ low → ((k : ℕ) → k < low → get_or before k 0 ≡ 0)
+      → length box ≡ high + 1 - low → high + 1 - low ≤ end → Each 0 (λ k d. cond (eqb d 0) 1 other) 0 end (take (high + 1 - low) (drop low (first before))) box
+      → length after ≡ length (second before box) - (high + 1) → ((k : ℕ) → k < length (second before box) - (high + 1) → get_or after k 0 ≡ 0)
+      → Each 0 plain 0 (length l) l (third before box after)
   unfolding plain
-  three-spans l₁ l₂ l₃ E₁ E₂ E₃ =
-      each-join 0 plain first (high + 1) end l l₂ l₃ (omega (arith, C.low-in, C.order)) (omega (arith, C.high-in))
-      (each-join 0 plain first low (high + 1) l l₁ l₂ C.low-in (omega (arith, C.order))
-      (each-as 0 _ plain first low l l₁
-      (λ k p q. same-either (eqb (get_or l k 0) 0) ∙ ap (λ (t : Bool). cond t (cond (eqb (get_or l k 0) 0) 1 other) 0) (sym (reach-below low high k q))) E₁)
-      (each-as 0 _ plain low (high + 1) l₁ l₂
-      (λ k p q. ap (λ (t : Bool). cond t (cond (eqb (get_or l₁ k 0) 0) 1 other) 0) (sym (reach-in low high k p (omega arith)))) E₂))
-      (each-as 0 _ plain (high + 1) end l₂ l₃
-      (λ k p q. same-either (eqb (get_or l₂ k 0) 0) ∙ ap (λ (t : Bool). cond t (cond (eqb (get_or l₂ k 0) 0) 1 other) 0)
-      (sym (reach-above low high k (omega arith)))) E₃)
+  three_parts before box after end len₁ zero₁ len₂ all E len₃ zero₃ =
+      let E₁ : Each 0 plain 0 low l (first before) =
+      each_part 0 0 low low l before (omega arith) (omega arith) len₁ plain
+      (λ k h. rw (zero-add k) (zero₁ k h ∙ ap (λ (t : Bool). cond t (cond (eqb (get_or l k 0) 0) 1 other) 0) (sym (reach-below low high k h)))) in
+      let E₂ : Each 0 plain low (high + 1) (first before) (second before box) =
+      each_passed 0 low (high + 1 - low) (high + 1) (first before) box (omega (arith, E₁.len)) (omega arith) len₂ plain
+      (λ k d. cond (eqb d 0) 1 other) end all E
+      (λ k d h. ap (λ (t : Bool). cond t (cond (eqb d 0) 1 other) 0) (sym (reach-in low high (low + k) (omega arith) (omega arith)))) in
+      let n : length (second before box) ≡ length l = E₂.len ∙ E₁.len in
+      let E₃ : Each 0 plain (high + 1) (length l) (second before box) (third before box after) =
+      each_part 0 (high + 1) (length (second before box) - (high + 1)) (length l) (second before box) after (omega arith) (omega arith) len₃ plain
+      (λ k h. zero₃ k h
+      ∙ ap (λ (t : Bool). cond t (cond (eqb (get_or (second before box) (high + 1 + k) 0) 0) 1 other) 0) (sym (reach-above low high (high + 1 + k) (omega arith)))) in
+      each-join 0 plain 0 (high + 1) (length l) l (second before box) (third before box after) (omega arith) (omega arith)
+      (each-join 0 plain 0 low (high + 1) l (first before) (second before box) (omega arith) (omega arith) E₁ E₂) E₃
 
   at-end : (k d : ℕ) → (eqb k low || eqb k high) ≡ true → low ≤ k → k ≤ high → cond (eqb d 0) 1 3 ≡ row_status low high other k d
   unfolding row_status
@@ -68,14 +90,17 @@ module _ (first low high end other : ℕ) (l : List ℕ) (C : Cut first low high
   unfolding row_status plain
   off-ends k d p q = rw (ne_eqb k low p, ne_eqb k high q)
 
-  pub row_done : (l₁ l₂ l₃ : List ℕ) → Each 0 (λ k d. cond (eqb d 0) 0 0) first low l l₁
-      → Each 0 (λ k d. cond (eqb d 0) 1 other) low (high + 1) l₁ l₂ → Each 0 (λ k d. cond (eqb d 0) 0 0) (high + 1) end l₂ l₃
-      → (p q : ℕ) → p ≡ cond (eqb (get_or l low 0) 0) 1 3 → q ≡ cond (eqb (get_or l high 0) 0) 1 3
-      → Each 0 (row_status low high other) first end l (set (set l₃ low p) high q)
-  row_done l₁ l₂ l₃ E₁ E₂ E₃ p q e f =
-      let E = three-spans l₁ l₂ l₃ E₁ E₂ E₃ in
+  -- and then the ends
+  pub row_done : (before box after : List ℕ) (end p q : ℕ) → length before ≡ low → ((k : ℕ) → k < low → get_or before k 0 ≡ 0)
+      → length box ≡ high + 1 - low → high + 1 - low ≤ end → Each 0 (λ k d. cond (eqb d 0) 1 other) 0 end (take (high + 1 - low) (drop low (first before))) box
+      → length after ≡ length (second before box) - (high + 1) → ((k : ℕ) → k < length (second before box) - (high + 1) → get_or after k 0 ≡ 0)
+      → p ≡ cond (eqb (get_or l low 0) 0) 1 3 → q ≡ cond (eqb (get_or l high 0) 0) 1 3
+      → Each 0 (row_status low high other) 0 (length l) l (set (set (third before box after) low p) high q)
+  row_done before box after end p q len₁ zero₁ len₂ all M len₃ zero₃ e f =
+      let E = three_parts before box after end len₁ zero₁ len₂ all M len₃ zero₃ in
+      let l₃ = third before box after in
       let n = length-set l₃ low p in
-      let m = E.len in
+      let m : length l₃ ≡ length l = E.len in
       record {
         len = length-set (set l₃ low p) high q ∙ n ∙ m;
         inside = λ k g h.
@@ -83,9 +108,9 @@ module _ (first low high end other : ℕ) (l : List ℕ) (C : Cut first low high
               | inl a ↦
                   let k-is = eqb-true k high a in
                   subst (λ (j : ℕ). get_or (set (set l₃ low p) high q) j 0 ≡ row_status low high other j (get_or l j 0)) (sym k-is)
-                  (get_or-set_same (set l₃ low p) high q 0 (omega (arith, C.high-in, C.room))
+                  (get_or-set_same (set l₃ low p) high q 0 (omega arith)
                   ∙ f
-                  ∙ at-end high (get_or l high 0) (ap (λ (t : Bool). eqb high low || t) (eq-eqb high high refl) ∙ or-one (eqb high low)) C.order
+                  ∙ at-end high (get_or l high 0) (ap (λ (t : Bool). eqb high low || t) (eq-eqb high high refl) ∙ or-one (eqb high low)) order
                   (omega arith))
               | inr a ↦
                   let off = eqb-false k high a in
@@ -93,33 +118,31 @@ module _ (first low high end other : ℕ) (l : List ℕ) (C : Cut first low high
                   ∙ elim (two (eqb k low)) [
                     | inl b ↦
                         subst (λ (j : ℕ). get_or (set l₃ low p) j 0 ≡ row_status low high other j (get_or l j 0)) (sym (eqb-true k low b))
-                        (get_or-set_same l₃ low p 0 (omega (arith, C.order, C.high-in, C.room))
+                        (get_or-set_same l₃ low p 0 (omega arith)
                         ∙ e
-                        ∙ at-end low (get_or l low 0) (ap (λ (t : Bool). t || eqb low high) (eq-eqb low low refl)) (omega arith) C.order)
+                        ∙ at-end low (get_or l low 0) (ap (λ (t : Bool). t || eqb low high) (eq-eqb low low refl)) (omega arith) order)
                     | inr b ↦ get_or-set_other l₃ low k p 0 (eqb-false k low b) ∙ E.inside k g h ∙ off-ends k (get_or l k 0) (eqb-false k low b) off
                   ]
             ];
         outside = λ k o.
             get_or-set_other (set l₃ low p) high k q 0
-            (λ z. let t = o (omega (arith, C.low-in, C.order)) in let b : ⊥ = omega (arith, C.high-in) in b)
-            ∙ get_or-set_other l₃ low k p 0
-            (λ z. let t = o (omega (arith, C.low-in)) in let b : ⊥ = omega (arith, C.order, C.high-in) in b)
+            (λ z. let t = o (omega arith) in let b : ⊥ = omega arith in b)
+            ∙ get_or-set_other l₃ low k p 0 (λ z. let t = o (omega arith) in let b : ⊥ = omega arith in b)
             ∙ E.outside k o;
       }
 
 -- ---- a row of the grid
 
-leb-shift : (n p q : ℕ) → n ≤ q → leb (n + p) q ≡ leb p (q - n)
-leb-shift n p q h =
-    both_ways _ _ (λ e. le-leb p (q - n) (let l = leb-true (n + p) q e in omega arith)) (λ e. le-leb (n + p) q (let l = leb-true p (q - n) e in omega arith))
+le-is : (p q : ℕ) → is_le (nat_cmp p q) ≡ leb p q
+le-is p q = grind (arith, nat_tests)
 
-leb-shift' : (n p q : ℕ) → n ≤ q → leb q (n + p) ≡ leb (q - n) p
-leb-shift' n p q h =
-    both_ways _ _ (λ e. le-leb (q - n) p (let l = leb-true q (n + p) e in omega arith)) (λ e. le-leb q (n + p) (let l = leb-true (q - n) p e in omega arith))
-
-eqb-shift : (n p q : ℕ) → n ≤ q → eqb q (n + p) ≡ eqb (q - n) p
-eqb-shift n p q h =
-    both_ways _ _ (λ e. eq-eqb (q - n) p (let l = eqb-true q (n + p) e in omega arith)) (λ e. eq-eqb q (n + p) (let l = eqb-true (q - n) p e in omega arith))
+-- what a range from low to high answers
+pub contains-is : (r : RangeInclusive ℕ) (low high p : ℕ) → range_inclusive_start r ≡ low → range_inclusive_end r ≡ high
+    → range_inclusive_exhausted r ≡ false → (t : Bool)
+    → t ≡ (is_le (nat_cmp (range_inclusive_start r) p)
+    && cond (range_inclusive_exhausted r) (is_lt (nat_cmp p (range_inclusive_end r))) (is_le (nat_cmp p (range_inclusive_end r))))
+    → t ≡ reach low high p
+contains-is r low high p e f g t q = q ∙ rw (e, f, g) (ap₂ (λ (a b : Bool). a && b) (le-is low p) (le-is p high))
 
 -- outside S, at an end of the row or on the rim
 ends-or-rim : (d p q a b c e : Bool)
@@ -139,48 +162,48 @@ ends-or-rim false true q false false c e = refl
 ends-or-rim false false true false false c e = refl
 ends-or-rim false false false false false c e = refl
 
-module _ (s : Sides) (b : Bounds) (r : ℕ) where
-  abbrev first : ℕ
-  first = s.a * r
-
-  -- by the row's y and z
+module _ (b : Bounds) (y z : ℕ) where
+  -- the row meets the box
   abbrev pub in_rows : Bool
-  in_rows = reach b.y0 b.y1 (r % s.b) && reach b.z0 b.z1 (r / s.b)
+  in_rows = reach b.y0 b.y1 y && reach b.z0 b.z1 z
 
   abbrev pub rim-is : ℕ
-  rim-is = cond (eqb (r / s.b) b.z0 || (eqb (r % s.b) b.y0 || (eqb (r % s.b) b.y1 || eqb (r / s.b) b.z1))) 3 1
+  rim-is = cond (eqb z b.z0 || (eqb y b.y0 || (eqb y b.y1 || eqb z b.z1))) 3 1
 
-  abbrev here : ℕ → Voxel
-  here k = record { x = k - first; y = r % s.b; z = r / s.b }
+  abbrev pub here : ℕ → Voxel
+  here x = record { x = x; y = y; z = z }
 
-  status-in-row : (k d : ℕ) → first ≤ k → k < first + s.a → status_in b (voxel s k) d ≡ status_in b (here k) d
-  status-in-row k d l h = ap (λ (v : Voxel). status_in b v d) (in_row s r k l h)
-
-  pub row-outside : in_rows ≡ false → (k d : ℕ) → first ≤ k → k < first + s.a → cond (eqb d 0) 0 0 ≡ status_in b (voxel s k) d
+  pub row-outside : in_rows ≡ false → (x d : ℕ) → 0 ≡ status_in b (here x) d
   unfolding status_in within
-  row-outside e k d l h =
-      same-either (eqb d 0)
-      ∙ sym (status-in-row k d l h
-      ∙ ap (λ (t : Bool). cond (reach b.x0 b.x1 (k - first) && t) (cond (not (eqb d 0) && on_side b (here k)) 3 1) 0) e
-      ∙ ap (λ (t : Bool). cond t (cond (not (eqb d 0) && on_side b (here k)) 3 1) 0) (and_zero (reach b.x0 b.x1 (k - first))))
+  row-outside e x d =
+      sym (ap (λ (t : Bool). cond (reach b.x0 b.x1 x && t) (cond (not (eqb d 0) && on_side b (here x)) 3 1) 0) e
+      ∙ ap (λ (t : Bool). cond t (cond (not (eqb d 0) && on_side b (here x)) 3 1) 0) (and_zero (reach b.x0 b.x1 x)))
 
-  pub row_inside : in_rows ≡ true → (o : ℕ) → o ≡ rim-is → (k d : ℕ) → first ≤ k → k < first + s.a
-      → row_status (first + b.x0) (first + b.x1) o k d ≡ status_in b (voxel s k) d
+  pub row_inside : in_rows ≡ true → (o : ℕ) → o ≡ rim-is → (x d : ℕ) → row_status b.x0 b.x1 o x d ≡ status_in b (here x) d
   unfolding status_in within on_side row_status
-  row_inside e o f k d l h =
-      let x = k - first in
+  row_inside e o f x d =
       rw (
         f,
-        leb-shift first b.x0 k l,
-        leb-shift' first b.x1 k l,
-        eqb-shift first b.x0 k l,
-        eqb-shift first b.x1 k l,
-        ends-or-rim (eqb d 0) (eqb x b.x0) (eqb x b.x1) (eqb (r / s.b) b.z0) (eqb (r % s.b) b.y0) (eqb (r % s.b) b.y1)
-            (eqb (r / s.b) b.z1),
+        ends-or-rim (eqb d 0) (eqb x b.x0) (eqb x b.x1) (eqb z b.z0) (eqb y b.y0) (eqb y b.y1) (eqb z b.z1),
       )
-      (sym (status-in-row k d l h
-      ∙ ap (λ (t : Bool). cond (reach b.x0 b.x1 x && t) (cond (not (eqb d 0) && on_side b (here k)) 3 1) 0) e
-      ∙ ap (λ (t : Bool). cond t (cond (not (eqb d 0) && on_side b (here k)) 3 1) 0) (and_one (reach b.x0 b.x1 x))))
+      (sym (ap (λ (t : Bool). cond (reach b.x0 b.x1 x && t) (cond (not (eqb d 0) && on_side b (here x)) 3 1) 0) e
+      ∙ ap (λ (t : Bool). cond t (cond (not (eqb d 0) && on_side b (here x)) 3 1) 0) (and_one (reach b.x0 b.x1 x))))
+
+-- that row among all, of which it is a part
+module _ (s : Sides) (b : Bounds) (r : ℕ) (l part : List ℕ) (R : Row s (length l) r) where
+  abbrev start : ℕ
+  start = s.a * r
+
+  abbrev n : ℕ
+  n = start + s.a - start
+
+  pub settled-row : Each 0 (λ x d. status_in b (here b (r % s.b) (r / s.b) x) d) 0 (length (take n (drop start l))) (take n (drop start l)) part
+      → SettledRow s b r l (put_mid start n l part)
+  settled-row E =
+      each_passed 0 start n (start + s.a) l part R.last (omega arith) (omega (arith, E.len, R.last, length-take {A = ℕ}, length-drop {A = ℕ}))
+      (λ k d. status_in b (voxel s k) d) (λ x d. status_in b (here b (r % s.b) (r / s.b) x) d) (length (take n (drop start l)))
+      (omega (arith, R.last, length-take {A = ℕ}, length-drop {A = ℕ})) E
+      (λ k d h. ap (λ (v : Voxel). status_in b v d) (sym (row-voxel s r k (omega arith))))
 
 -- ---- the box and the status of bytes that are 0 at the voxels of S
 

@@ -16,7 +16,7 @@ widened_by b p q y z =
 -- what taking row r in makes of a box
 pub data Widened (s : Sides) (d : List ℕ) (r : ℕ) (b b' : Bounds) : Type 0 where
   clear : Absent d 0 (s.a * r) (s.a * r + s.a) → b' ≡ b → Widened s d r b b'
-  taken : (p q : ℕ) → First d 0 (s.a * r) (s.a * r + s.a) p → p < s.a * r + s.a → Last d 0 p (s.a * r + s.a) q
+  taken : (p q : ℕ) → First d 0 (s.a * r) (s.a * r + s.a) p → Last d 0 (s.a * r) (s.a * r + s.a) q
       → b' ≡ widened_by b (p - s.a * r) (q - s.a * r) (r % s.b) (r / s.b) → Widened s d r b b'
 
 -- ---- the box
@@ -85,14 +85,6 @@ unfoldable pub status_by : Sides → Bounds → List ℕ → List ℕ
 status_by s b d = map (λ k. status_in b (voxel s k) (get_or d k 0)) (range 0 (length d))
 
 -- ---- the status of a row
-
--- a row from first up to end, with low and high in it
-pub record Cut (first low high end n : ℕ) : Type 0 where
-  pub low-in : first ≤ low
-  pub order : low ≤ high
-  pub high-in : high < end
-  pub room : end ≤ n
-  pub few : n ≤ 262144
 
 -- from low to high: 1 in S, else 3 at both ends and `other` between them; 0 elsewhere
 unfoldable pub row_status : ℕ → ℕ → ℕ → ℕ → ℕ → ℕ

@@ -4,7 +4,7 @@
 ghost use Rattle.std.specs.Prelude.{◌≡◌, cond, ◌||◌, ◌≤◌, ◌<◌, eqb, length};
 ghost use Rattle.loops.specs.InPlace.{Each};
 ghost use Rattle.loops.specs.Rows.{Row};
-ghost use Rattle.bounding_box.specs.Bounds.{Widened, Enclosable, Enclosed, Proper, Settled, Cut, row_status, SettledRow, status_by};
+ghost use Rattle.bounding_box.specs.Bounds.{Widened, Enclosable, Enclosed, Settled, row_status, status_in, status_by};
 
 use rules::Sides;
 
@@ -26,20 +26,19 @@ fn widened(b: Bounds, d: &[u8], sides: Sides, row: usize) -> Bounds
 {
     let first = sides.a * row;
     let end = first + sides.a;
-    let p = loops::first_of(d, 0, first, end);
-    if p == end {
+    let Some(p) = loops::first_of(d, 0, first, end) else {
         return b;
-    }
-    let q = loops::last_of(d, 0, p, end);
+    };
+    let q = loops::last_of(d, 0, p + 1, end).unwrap_or(p);
     let y = row % sides.b;
     let z = row / sides.b;
     Bounds {
-        x0: numbers::lesser_usize(p - first, b.x0),
-        x1: numbers::greater_usize(q - first, b.x1),
-        y0: numbers::lesser_usize(y, b.y0),
-        y1: numbers::greater_usize(y, b.y1),
-        z0: numbers::lesser_usize(z, b.z0),
-        z1: numbers::greater_usize(z, b.z1),
+        x0: (p - first).min(b.x0),
+        x1: (q - first).max(b.x1),
+        y0: y.min(b.y0),
+        y1: y.max(b.y1),
+        z0: z.min(b.z0),
+        z1: z.max(b.z1),
     }
 }
 
@@ -56,76 +55,56 @@ pub fn enclose(d: &[u8], sides: Sides) -> Bounds
         z0: sides.c,
         z1: 0,
     };
-    let rows = sides.b * sides.c;
-    let mut row = 0;
-    while row < rows {
+    for row in 0..sides.b * sides.c {
         b = widened(b, d, sides, row);
-        row += 1;
     }
     b
 }
 
-// One value for a voxel of S, another for any other.
-fn chosen(d: u8, zero: u8, other: u8) -> u8
-    ensures { result ≡ cond (eqb d 0) zero other }
+// 1 for a voxel of S, another status for any other.
+fn chosen(d: u8, other: u8) -> u8
+    ensures { result ≡ cond (eqb d 0) 1 other }
 {
-    if d == 0 {
-        return zero;
-    }
-    other
-}
-
-// Puts one value for the voxels of S and another for the others, from first up to end.
-fn span(status: &mut [u8], first: usize, end: usize, zero: u8, other: u8)
-    requires { (first ≤ end) × (end ≤ length status.old) }
-    ensures { Each 0 (λ k d. cond (eqb d 0) zero other) first end status.old status.new }
-{
-    let mut i = first;
-    while i < end {
-        let v = chosen(status[i], zero, other);
-        status[i] = v;
-        i += 1;
-    }
+    if d == 0 { 1 } else { other }
 }
 
 // The status of a voxel outside S in a row of the box, off the row's ends: pending at an end of the box along y or z.
 fn rim(b: Bounds, y: usize, z: usize) -> u8
     ensures { result ≡ cond (eqb z b.z0 || (eqb y b.y0 || (eqb y b.y1 || eqb z b.z1))) 3 1 }
 {
-    if (z == b.z0) | ((y == b.y0) | ((y == b.y1) | (z == b.z1))) {
-        return 3;
+    if z == b.z0 || y == b.y0 || y == b.y1 || z == b.z1 {
+        3
+    } else {
+        1
     }
-    1
 }
 
 // The status of the voxels of a row of the box, from low to high in it, of which those at both ends are pending if they are outside S.
-fn box_row(status: &mut [u8], first: usize, low: usize, high: usize, end: usize, other: u8)
-    requires { Cut first low high end (length status.old) }
-    ensures { Each 0 (row_status low high other) first end status.old status.new }
+fn box_row(row: &mut [u8], low: usize, high: usize, other: u8)
+    requires { (low ≤ high) × (high < length row.old) }
+    ensures { Each 0 (row_status low high other) 0 (length row.old) row.old row.new }
 {
-    let p = chosen(status[low], 1, 3);
-    let q = chosen(status[high], 1, 3);
-    span(status, first, low, 0, 0);
-    span(status, low, high + 1, 1, other);
-    span(status, high + 1, end, 0, 0);
-    status[low] = p;
-    status[high] = q;
+    let p = chosen(row[low], 3);
+    let q = chosen(row[high], 3);
+    row[..low].fill(0);
+    for d in &mut row[low..=high] {
+        *d = chosen(*d, other);
+    }
+    row[high + 1..].fill(0);
+    row[low] = p;
+    row[high] = q;
 }
 
-// The status of a row's voxels, in place of their distances.
-fn settle_row(status: &mut [u8], b: Bounds, sides: Sides, row: usize)
-    requires { Row sides (length status.old) row × Proper sides b }
-    ensures { SettledRow sides b row status.old status.new }
+// The status of the voxels of the row at y and z, in place of their distances.
+fn settle_row(row: &mut [u8], b: Bounds, y: usize, z: usize)
+    requires { (b.x0 ≤ b.x1) × (b.x1 < length row.old) }
+    ensures { Each 0 (λ x d. status_in b (record { x = x; y = y; z = z }) d) 0 (length row.old) row.old row.new }
 {
-    let first = sides.a * row;
-    let end = first + sides.a;
-    let y = row % sides.b;
-    let z = row / sides.b;
-    if ((b.y0 <= y) & (y <= b.y1)) & ((b.z0 <= z) & (z <= b.z1)) {
-        box_row(status, first, first + b.x0, first + b.x1, end, rim(b, y, z));
-        return;
+    if (b.y0..=b.y1).contains(&y) && (b.z0..=b.z1).contains(&z) {
+        box_row(row, b.x0, b.x1, rim(b, y, z));
+    } else {
+        row.fill(0);
     }
-    span(status, first, end, 0, 0);
 }
 
 // The status of all voxels, in place of their distances.
@@ -133,10 +112,13 @@ pub fn settle(status: &mut [u8], b: Bounds, sides: Sides)
     requires { Settled sides (length status.old) b }
     ensures { status.new ≡ status_by sides b status.old }
 {
-    let rows = sides.b * sides.c;
-    let mut row = 0;
-    while row < rows {
-        settle_row(status, b, sides, row);
-        row += 1;
+    for row in 0..sides.b * sides.c {
+        let first = sides.a * row;
+        settle_row(
+            &mut status[first..first + sides.a],
+            b,
+            row % sides.b,
+            row / sides.b,
+        );
     }
 }

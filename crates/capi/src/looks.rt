@@ -1,7 +1,7 @@
 // crossing, all points, read, reading a layer, write, judge, practice and the local test for C: none of them changes a grid. Judge works in the lent
 // status bytes and gives them back as they were.
 ghost use Rattle.std.specs.Prelude.{◌≡◌};
-ghost use Rattle.std.proofs.Math.Option.{Option};
+ghost use Rattle.std.specs.Prelude.{Option};
 ghost use Rattle.cells.specs.Cells.{test};
 ghost use Rattle.bits.specs.Bits.{has};
 ghost use Rattle.rules.specs.Answer.{done, buffers};
@@ -24,7 +24,7 @@ use look_replies::{
     CrossingAnswer, JudgeAnswer, LayerReply, PointsAnswer, PracticeAnswer, ReadReply, WriteReply,
 };
 use replies::CRecord;
-use rules::Sides;
+use rules::{Record, Sides};
 
 #[unsafe(no_mangle)]
 pub extern "C" fn wattlerugby_crossing(
@@ -39,8 +39,8 @@ pub extern "C" fn wattlerugby_crossing(
     ensures near { (o : Option Point) → (crossing index axis (state (record_in given) dist.now status.now)).answer ≡ done o
         → BoundedAt given.sides dist.now index axis o }
 {
-    let r = replies::record_in(given);
-    look_replies::crossing_answer(surface::crossing(r, dist, status, index, axis))
+    let r = Record::from(given);
+    CrossingAnswer::from(surface::crossing(r, dist, status, index, axis))
 }
 
 #[unsafe(no_mangle)]
@@ -54,22 +54,22 @@ pub extern "C" fn wattlerugby_points(
     ensures { returned result out.new
         ≡ written_out points_struct (points position (state (record_in given) dist.now status.now) out.old) }
 {
-    let r = replies::record_in(given);
-    look_replies::points_answer(points::points(r, dist, status, position, out))
+    let r = Record::from(given);
+    PointsAnswer::from(points::points(r, dist, status, position, out))
 }
 
 #[unsafe(no_mangle)]
 pub extern "C" fn wattlerugby_read_6(file: &[u8], values: &mut [i32]) -> ReadReply
     ensures { returned result values.new ≡ written_out read_struct (read file.now values.old) }
 {
-    look_replies::read_answer(gridfile::read(file, values))
+    ReadReply::from(gridfile::read(file, values))
 }
 
 #[unsafe(no_mangle)]
 pub extern "C" fn wattlerugby_read_layer_6(sides: Sides, file: &[u8], start: usize) -> LayerReply
     ensures { result ≡ layer_struct (read_layer sides file.now start) }
 {
-    look_replies::layer_answer(layers::layer(sides, file, start))
+    LayerReply::from(layers::layer(sides, file, start))
 }
 
 #[unsafe(no_mangle)]
@@ -81,7 +81,7 @@ pub extern "C" fn wattlerugby_write_6(
 ) -> WriteReply
     ensures { returned result file.new ≡ written_out write_struct (write sides allowed values.now file.old) }
 {
-    look_replies::write_answer(writing::write(sides, allowed, values, file))
+    WriteReply::from(writing::write(sides, allowed, values, file))
 }
 
 #[unsafe(no_mangle)]
@@ -94,8 +94,8 @@ pub extern "C" fn wattlerugby_judge(
     ensures { returned result (buffers dist.now status.new)
         ≡ written_out judge_struct (judge list.now (state (record_in given) dist.now status.old)) }
 {
-    let r = replies::record_in(given);
-    look_replies::judge_answer(verdicts::judge(r, dist, status, list))
+    let r = Record::from(given);
+    JudgeAnswer::from(verdicts::judge(r, dist, status, list))
 }
 
 #[unsafe(no_mangle)]
@@ -106,7 +106,7 @@ pub extern "C" fn wattlerugby_practice(
 ) -> PracticeAnswer
     ensures { returned result values.new ≡ written_out practice_struct (practice sides seed values.old) }
 {
-    look_replies::practice_answer(practice::practice(sides, seed, values))
+    PracticeAnswer::from(practice::practice(sides, seed, values))
 }
 
 // The kept voxels are the bits of one number, from which the block is made.

@@ -11,7 +11,7 @@ ghost use Rattle.replies.specs.Structs.{record_in, begin_struct, begin_coarse_st
 use replies::{
     BeginAnswer, BeginCoarseAnswer, CRecord, CarveAnswer, FinishAnswer, OpenAnswer, TakeAnswer,
 };
-use rules::Sides;
+use rules::{Record, Sides};
 
 #[unsafe(no_mangle)]
 pub extern "C" fn wattlerugby_begin_8(
@@ -25,7 +25,7 @@ pub extern "C" fn wattlerugby_begin_8(
     ensures { returned result (buffers dist.new status.new)
         ≡ written_out begin_struct (begin sides allowed values.now marks.now dist.old status.old) }
 {
-    replies::begin_answer(beginning::begin(sides, allowed, values, marks, dist, status))
+    BeginAnswer::from(beginning::begin(sides, allowed, values, marks, dist, status))
 }
 
 #[unsafe(no_mangle)]
@@ -43,7 +43,7 @@ pub extern "C" fn wattlerugby_begin_coarse(
         ≡ written_out begin_coarse_struct (begin_coarse sides allowed values.now marks.now
         (four_buffers (buffers dist.old status.old) (buffers block_dist.old block_status.old))) }
 {
-    replies::begin_coarse_answer(coarsening::begin_coarse(
+    BeginCoarseAnswer::from(coarsening::begin_coarse(
         sides,
         allowed,
         values,
@@ -66,7 +66,7 @@ pub extern "C" fn wattlerugby_carve_9(
     ensures { returned result (buffers dist.now status.new)
         ≡ written_out (carve_struct given) (machine.carve marks.now limit (state (record_in given) dist.now status.old)) }
 {
-    let r = replies::record_in(given);
+    let r = Record::from(given);
     replies::carve_answer(given, carving::carve(r, dist, marks, status, limit))
 }
 
@@ -81,7 +81,7 @@ pub extern "C" fn wattlerugby_take_9(
     ensures { returned result (buffers dist.now status.new)
         ≡ written_out (take_struct given) (machine.take marks.now index (state (record_in given) dist.now status.old)) }
 {
-    let r = replies::record_in(given);
+    let r = Record::from(given);
     replies::take_answer(given, taking::take(r, dist, marks, status, index))
 }
 
@@ -95,7 +95,7 @@ pub extern "C" fn wattlerugby_open_9(
     ensures { returned result (buffers dist.now status.new)
         ≡ written_out (open_struct given) (machine.open_next marks.now (state (record_in given) dist.now status.old)) }
 {
-    let r = replies::record_in(given);
+    let r = Record::from(given);
     replies::open_answer(given, opening::open_next(r, dist, marks, status))
 }
 
@@ -108,6 +108,6 @@ pub extern "C" fn wattlerugby_finish(
     ensures { returned result (buffers dist.new status.now)
         ≡ written_out (finish_struct given) (machine.finish (state (record_in given) dist.old status.now)) }
 {
-    let r = replies::record_in(given);
+    let r = Record::from(given);
     replies::finish_answer(given, closing::finish(r, dist, status))
 }

@@ -6,6 +6,7 @@ ghost use Rattle.std.specs.Prelude.{◌≤◌, length, IfOk};
 use std::io;
 use std::io::{Print, Read};
 
+// The line of a file. carve_refusals has the same: a library for it would be no plainer.
 fn print_line(to: &impl Print, file: &[u8]) -> io::Result<()> {
     let text = line::line(file);
     let bytes = text.bytes;
@@ -13,7 +14,7 @@ fn print_line(to: &impl Print, file: &[u8]) -> io::Result<()> {
     to.write_all(&bytes[start..])
 }
 
-// Reads until the buffer is full or the input ends, and answers how many bytes now stand at the buffer's start.
+// Reads until the buffer is full or the input ends, and answers how many bytes now stand at the buffer's start. std has no such method without the heap.
 fn read_full(input: &mut impl Read, buffer: &mut [u8]) -> io::Result<usize>
     ensures { IfOk result (λ n. n ≤ length buffer.new) }
 {

@@ -11,7 +11,8 @@ use Rattle.rules.specs.Grid.{size}
 use Rattle.rules.specs.Status.{any_pending, Progress}
 use Rattle.rules.specs.Marks.{Marked}
 use Rattle.rules.specs.Machine.{State, may_go, sooner, count, carved}
-use Rattle.rules.specs.Answer.{done, Outcome, outcome, Buffers, buffers, Carving}
+use Rattle.rules.specs.declared.Carving.{Carving}
+use Rattle.rules.specs.Answer.{done, Outcome, outcome, Buffers, buffers}
 use Rattle.rules.specs.Fit.{FitVoxels}
 use Rattle.rules.proofs.Places.{fit}
 use Rattle.rules.proofs.Rows.{size-high, row-end}

@@ -2,7 +2,8 @@
 #![tactic(auto)]
 
 ghost use Rattle.std.specs.Prelude.{◌≡◌};
-ghost use Rattle.rules.specs.Answer.{outcome, buffers, carved_answer};
+ghost use Rattle.rules.specs.Answer.{done, outcome, buffers};
+ghost use Rattle.rules.specs.Refusals.{replied};
 ghost use Rattle.rules.specs.Machine as machine;
 ghost use Rattle.rules.specs.Machine.{state, may_go, sooner, carved};
 ghost use Rattle.rules.specs.Marks.{marked};
@@ -11,7 +12,7 @@ ghost use Rattle.marks.specs.Lent.{All};
 ghost use Rattle.examining.specs.Examining.{Tallied};
 
 use examining::Tally;
-use rules::{Carved, Record, Sides};
+use rules::{Carving, Record, Refusal, Sides};
 
 // Examines pending voxels up to limit times. Their queue has room for the largest grid: 13 KB, and nothing on the caller's side.
 pub fn carve_all(s: Sides, dist: &[i32], marks: &[u8], status: &mut [u8], limit: u32) -> Tally
@@ -33,15 +34,14 @@ pub fn carve_all(s: Sides, dist: &[i32], marks: &[u8], status: &mut [u8], limit:
     )
 }
 
-fn carve_fit(given: Record, dist: &[i32], marks: &[u8], status: &mut [u8], limit: u32) -> Carved
+fn carve_fit(given: Record, dist: &[i32], marks: &[u8], status: &mut [u8], limit: u32) -> Carving
     requires { Working (state given dist.now status.old) }
-    ensures { outcome (carved_answer result) (buffers dist.now status.new)
+    ensures { outcome (done result) (buffers dist.now status.new)
         ≡ carved (may_go (marked marks.now) dist.now) (sooner (marked marks.now) dist.now) limit
         (state given dist.now status.old) }
 {
-    let s = given.sides;
-    let t = carve_all(s, dist, marks, status, limit);
-    Carved::Done {
+    let t = carve_all(given.sides, dist, marks, status, limit);
+    Carving {
         examined: t.examined,
         removed: t.removed,
         pending: t.pending,
@@ -58,9 +58,9 @@ pub fn carve_checked(
     status: &mut [u8],
     all: u8,
     limit: u32,
-) -> Carved
+) -> Carving
     requires { Marking marks.now (state given dist.now status.old) × All marks.now all }
-    ensures { outcome (carved_answer result) (buffers dist.now status.new)
+    ensures { outcome (done result) (buffers dist.now status.new)
         ≡ machine.carve marks.now limit (state given dist.now status.old) }
 {
     let n = marks::used(all, marks.len());
@@ -68,14 +68,17 @@ pub fn carve_checked(
 }
 
 // Examines pending voxels up to limit times, hurried ones first: one that passes and is not pinned is removed, and wakes those around it.
-pub fn carve(given: Record, dist: &[i32], marks: &[u8], status: &mut [u8], limit: u32) -> Carved
-    ensures { outcome (carved_answer result) (buffers dist.now status.new)
+pub fn carve(
+    given: Record,
+    dist: &[i32],
+    marks: &[u8],
+    status: &mut [u8],
+    limit: u32,
+) -> Result<Carving, Refusal>
+    ensures { outcome (replied result) (buffers dist.now status.new)
         ≡ machine.carve marks.now limit (state given dist.now status.old) }
 {
     let all = marks::all(marks);
-    let refusal = fitness::marked_refusal(given, dist, marks, status, all);
-    if refusal != 0 {
-        return Carved::Refused(refusal);
-    }
-    carve_checked(given, dist, marks, status, all, limit)
+    fitness::marked_refusal(given, dist, marks, status, all)?;
+    Ok(carve_checked(given, dist, marks, status, all, limit))
 }

@@ -1,7 +1,7 @@
 -- The worked cases, by computation from the rules.
 use mathlib.Core.Path.{◌≡◌, refl, ap, ◌∙◌}
 use mathlib.Core.Bool.{false}
-use mathlib.Core.Option.{some}
+use Rattle.std.specs.Prelude.{Some}
 use lib.IntN.{pos, negsuc}
 use lib.Ieee.{fin}
 use Rattle.cells.proofs.Examples.{local-tests}
@@ -21,7 +21,7 @@ use Rattle.cases.proofs.Carved.{case-c}
 
 a_point :
     (crossing 13 0 (ended case_a)).answer
-    ≡ done (some (record { x = fin false 3 (negsuc 0); y = fin false 1 (pos 0); z = fin false 1 (pos 0) }))
+    ≡ done (Some (record { x = fin false 3 (negsuc 0); y = fin false 1 (pos 0); z = fin false 1 (pos 0) }))
 unfolding all-rules rule
 a_point = refl
 

@@ -1,7 +1,6 @@
 -- Document 01, "What the second supplier may hold us to": its worked cases as theorems of the rules, gathered into one list.
 -- proofs/Cases.antt proves it by computation.
-use Rattle.std.specs.Prelude.{◌≡◌, false, [], ◌∷◌, pos, negsuc}
-use Rattle.std.proofs.Math.Option.{some}
+use Rattle.std.specs.Prelude.{◌≡◌, false, [], ◌∷◌, pos, negsuc, Some}
 use Rattle.std.specs.Float.{fin}
 use Rattle.cells.specs.Examples.{LocalTests}
 use Rattle.rules.specs.Answer.{done, outcome}
@@ -18,7 +17,7 @@ pub record Cases : Type 0 where
   -- after finish, crossing 13, axis 0: (1.5, 1, 1), that is 3 times 2 ^ -1, and 1 times 2 ^ 0
   pub a_point :
       (crossing 13 0 (ended case_a)).answer
-      ≡ done (some (record { x = fin false 3 (negsuc 0); y = fin false 1 (pos 0); z = fin false 1 (pos 0) }))
+      ≡ done (Some (record { x = fin false 3 (negsuc 0); y = fin false 1 (pos 0); z = fin false 1 (pos 0) }))
   pub c : CaseC
   pub d : CaseD
   pub d-file : read file_d (zeros 48) ≡ outcome (done (record { sides = sides 4 4 3; allowed = 0 })) values_d

@@ -1,28 +1,24 @@
 -- The choice of a place, step by step: what is left to look at gives the place that is served.
 use mathlib.Core.Path.{◌≡◌, refl, ap, ap₂, sym, ◌∙◌}
 use mathlib.Core.Bool.{Bool, true, false, not, cond, ◌&&◌}
-use mathlib.Core.List.{List, [], ◌++◌}
-use mathlib.Core.Option.{Option, none, some}
+use mathlib.Core.List.{List, [], ◌∷◌, ◌++◌}
+use Rattle.std.specs.Prelude.{Option, None, Some}
 use Prim.Native.Nat.{ℕ, suc, ◌+◌, ◌-◌, ◌≤◌, ◌<◌}
 use native.Mathlib.Omega.{arith}
 use native.Mathlib.Numerals.{add-one}
-use lib.ListN.{length, get_or, take, drop}
-use borrow.Author.Tests.{lt-ltb, le-ltb}
+use lib.ListN.{length, get_or, take, drop, drop_of_length-le}
+use lib.Seq.{drop-cons}
 use Rattle.cells.specs.Groups.{any, filter, cons_if}
 use Rattle.rules.specs.Grid.{range, is_in}
 use Rattle.rules.specs.Status.{is_pending}
 use Rattle.office.specs.declared.Grids.{Grids}
-use Rattle.office.specs.declared.Order.{Order}
 use Rattle.office.specs.Parts.{total}
 use Rattle.office.specs.Order.{queue, first_waiting}
 use Rattle.office.specs.Serve.{grid_at, waits}
 use Rattle.office.proofs.Step.{part-size}
 use Rattle.fitness.proofs.Pending.{any-pending-is}
-use Rattle.office.specs.Structs.{places_of}
-use Rattle.order_record.proofs.Places.{drop-place, drop-none}
 use Rattle.serving_checks.specs.Given.{sizes_of, grids_of}
 use Rattle.serving_checks.proofs.Places.{part-is}
-use Rattle.choosing.specs.Choice.{chosen_at}
 
 -- what is pending in the part of a grid
 pub part-waits : (g : Grids) (status : List ℕ) → length status ≡ total (sizes_of g) → (p from to : ℕ)
@@ -33,28 +29,21 @@ part-waits g status e p from to start end =
     ap (λ (l : List ℕ). any (is_pending l) (range 0 (length l))) (part-is (sizes_of g) p from to start end status)
     ∙ any-pending-is (grid_at (grids_of g [] status) p) (part-size (grids_of g [] status) status e p)
 
--- ---- a place that is found, or none
-
-pub found : (n p : ℕ) → p < n → some p ≡ chosen_at n p
-found n p h = sym (ap (λ (t : Bool). cond t (some p) none) (lt-ltb p n h))
-
-pub found_none : (n : ℕ) → none ≡ chosen_at n n
-found_none n = sym (ap (λ (t : Bool). cond t (some n) none) (le-ltb n n (omega arith)))
-
 -- ---- the order record from k on
 
-module _ (w : ℕ → Bool) (o : Order) where
+module _ (w : ℕ → Bool) (places : List ℕ) where
   abbrev pub rest : ℕ → Option ℕ
-  rest k = first_waiting w (drop k (places_of o))
+  rest k = first_waiting w (drop k places)
 
-  module _ (k : ℕ) (h : k < o.len) (t : Bool) (e : t ≡ w (get_or o.places k 0)) where
-    pub rest-next : rest k ≡ cond t (some (get_or o.places k 0)) (rest (k + 1))
-    unfolding first_waiting
-    rest-next = ap (first_waiting w) (drop-place o k h) ∙ ap (λ (t : Bool). cond t (some (get_or o.places k 0)) (rest (k + 1))) (sym e)
-
-  pub rest-none : (k : ℕ) → o.len ≤ k → rest k ≡ none
+  pub rest-next : (k : ℕ) → k < length places → (t : Bool) → w (get_or places k 0) ≡ t → rest k ≡ cond t (Some (get_or places k 0)) (rest (k + 1))
   unfolding first_waiting
-  rest-none k h = ap (first_waiting w) (drop-none o k h)
+  rest-next k h t e =
+      ap (first_waiting w) (drop-cons places k 0 h ∙ ap (λ (j : ℕ). get_or places k 0 ∷ drop j places) (sym (add-one k)))
+      ∙ ap (λ (t : Bool). cond t (Some (get_or places k 0)) (rest (k + 1))) e
+
+  pub rest-none : (k : ℕ) → length places ≤ k → rest k ≡ None
+  unfolding first_waiting
+  rest-none k h = ap (first_waiting w) (drop_of_length-le places {i = k} h)
 
 -- ---- the places never served, from p on, and then the order record
 
@@ -70,15 +59,15 @@ module _ (w : ℕ → Bool) (n : ℕ) (order : List ℕ) where
   left-start = let e : n ≡ n - 0 = omega arith in ap (λ (m : ℕ). first_waiting w (filter free (range 0 m) ++ order)) e
 
   module _ (p : ℕ) (h : p < n) (v t : Bool) (told : v ≡ t) (e : v ≡ (free p && w p)) where
-    pub left-next : left p ≡ cond t (some p) (left (p + 1))
+    pub left-next : left p ≡ cond t (Some p) (left (p + 1))
     unfolding first_waiting filter range
     left-next =
         let m : n - p ≡ suc (n - suc p) = omega arith in
         ap (λ (m : ℕ). first_waiting w (filter free (range p m) ++ order)) m
         ∙ go (free p)
-        ∙ ap₂ (λ (t : Bool) (q : ℕ). cond t (some p) (left q)) (sym e ∙ told) (sym (add-one p))
+        ∙ ap₂ (λ (t : Bool) (q : ℕ). cond t (Some p) (left q)) (sym e ∙ told) (sym (add-one p))
       where
-        go : (f : Bool) → first_waiting w (cons_if f p (filter free (range (suc p) (n - suc p))) ++ order) ≡ cond (f && w p) (some p) (left (suc p))
+        go : (f : Bool) → first_waiting w (cons_if f p (filter free (range (suc p) (n - suc p))) ++ order) ≡ cond (f && w p) (Some p) (left (suc p))
         go true = refl
         go false = refl
 

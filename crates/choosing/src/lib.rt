@@ -8,9 +8,10 @@ ghost use Rattle.office.specs.Order.{first_waiting};
 ghost use Rattle.office.specs.Serve.{waits, to_serve};
 ghost use Rattle.office.specs.Structs.{places_of, office_given};
 ghost use Rattle.serving_checks.specs.Given.{grids_of};
-ghost use Rattle.choosing.specs.Choice.{LaidIn, Choosing, chosen_at, Looked};
+ghost use Rattle.choosing.specs.Choice.{LaidIn, Choosing, Looked};
 
 use office::{Grids, Order};
+use rules::Refusal;
 
 // Whether something is pending in the grid at p.
 fn waits_at(g: Grids, status: &[u8], p: usize) -> bool
@@ -27,63 +28,47 @@ fn waits_unserved(g: Grids, o: Order, status: &[u8], p: usize) -> bool
     requires { Choosing g o status.now × (p < g.count) }
     ensures { result ≡ not (is_in (places_of o) p) && waits (grids_of g [] status.now) p }
 {
-    if order_record::stands_from(o, 0, p) {
-        return false;
-    }
-    waits_at(g, status, p)
+    !order_record::stands_from(o, 0, p) && waits_at(g, status, p)
 }
 
-// The place served longest ago where something is pending, or count.
-fn longest_ago(g: Grids, o: Order, status: &[u8]) -> usize
+// The place served longest ago where something is pending.
+fn longest_ago(g: Grids, o: Order, status: &[u8]) -> Option<usize>
     requires { Choosing g o status.now }
-    ensures { first_waiting (waits (grids_of g [] status.now)) (places_of o) ≡ chosen_at g.count result }
+    ensures { result ≡ first_waiting (waits (grids_of g [] status.now)) (places_of o) }
 {
-    let mut k: usize = 0;
-    while k < o.len {
-        let p = order_record::place_at(o, k);
+    for &place in order_record::listed(&o) {
+        let p = usize::from(place);
         if waits_at(g, status, p) {
-            return p;
+            return Some(p);
         }
-        k += 1;
     }
-    g.count
+    None
 }
 
-// The place to serve, or count where nothing is pending anywhere.
-fn choose(g: Grids, o: Order, status: &[u8]) -> usize
+// The place to serve.
+fn choose(g: Grids, o: Order, status: &[u8]) -> Option<usize>
     requires { Choosing g o status.now }
-    ensures { to_serve (office_given g o [] status.now) ≡ chosen_at g.count result }
+    ensures { result ≡ to_serve (office_given g o [] status.now) }
 {
-    let mut p: usize = 0;
-    while p < g.count {
+    for p in 0..g.count {
         if waits_unserved(g, o, status, p) {
-            return p;
+            return Some(p);
         }
-        p += 1;
     }
     longest_ago(g, o, status)
 }
 
-// The number that refuses serve, or 0, and then the place to serve.
-#[derive(Clone, Copy)]
-pub struct Found {
-    pub number: u8,
-    pub place: usize,
-}
-
-pub fn look(g: Grids, o: Order, dist: &[i32], marks: &[u8], status: &[u8], limit: u32) -> Found
+// The place to serve, if no check refuses it: 35, the last, where nothing is pending anywhere.
+pub fn look(
+    g: Grids,
+    o: Order,
+    dist: &[i32],
+    marks: &[u8],
+    status: &[u8],
+    limit: u32,
+) -> Result<usize, Refusal>
     ensures { Looked result marks.now limit (office_given g o dist.now status.now) }
 {
-    let number = serving_checks::refusal(g, o, dist, marks, status, limit);
-    if number != 0 {
-        return Found { number, place: 0 };
-    }
-    let place = choose(g, o, status);
-    if place < g.count {
-        return Found { number: 0, place };
-    }
-    Found {
-        number: 35,
-        place: 0,
-    }
+    serving_checks::refusal(g, o, dist, marks, status, limit)?;
+    choose(g, o, status).ok_or(Refusal::NothingPending)
 }

@@ -2,16 +2,14 @@
 use mathlib.Core.Path.{◌≡◌, refl, sym, ap, ◌∙◌, subst}
 use mathlib.Core.Bool.{Bool, true, false, cond, true≢false}
 use mathlib.Core.List.{List, map}
-use Prim.Native.Nat.{ℕ, zero, suc, ◌+◌, ◌-◌, ◌^◌, ◌≤◌, ◌<◌}
+use Prim.Native.Nat.{ℕ, zero, suc, ◌+◌, ◌-◌, ◌≤◌, ◌<◌}
 use native.Mathlib.Omega.{arith}
 use native.Mathlib.Decide.{ℕ_discrete}
-use borrow.Author.Tests.{ltb-true, ltb-false}
 use lib.IntN.{ℤ, pos, negsuc, ◌-ℤ◌, +ℤ_idl}
 use lib.ListN.{length, set, length-set}
 use lib.Seq.{get_or-set_same, get_or-set_other}
-use lib.Signed.{lt_z}
-use mir.Syntax.{w32}
-use mir.Val.{SFits}
+use Rattle.std.specs.Int.{int_max}
+use borrow.Author.Tests.{lt-ltb}
 use Rattle.prelude.proofs.Ranges.{is-map-range}
 use Rattle.rules.specs.Grid.{range, is_negative, distance_at}
 use Rattle.rules.specs.Status.{status_of, kept_byte, is_kept}
@@ -36,32 +34,20 @@ module _ (d : ℤ) (x : ℕ) where
         go (pos w) e = absurd (true≢false (sym e))
         go (negsuc w) e = refl
 
-    pub closed-zero : is_negative d ≡ false → lt_z d (pos 1) ≡ true → closed_if d x ≡ negsuc 0
+    -- -w, and -1 where w = 0: the greater of w and 1 is turned
+    pub closed-outer : is_negative d ≡ false → pos 0 -ℤ int_max d (pos 1) ≡ closed_if d x
     unfolding closed
-    closed-zero e f = closed-kept ∙ go d e f
+    closed-outer e = go d e ∙ sym closed-kept
       where
-        go : (z : ℤ) → is_negative z ≡ false → lt_z z (pos 1) ≡ true → closed z ≡ negsuc 0
-        go (pos w) e f = let q : w - 1 ≡ 0 = omega (arith, ltb-true w 1 f) in ap negsuc q
-        go (negsuc w) e f = absurd (true≢false e)
-
-    pub closed-more : is_negative d ≡ false → lt_z d (pos 1) ≡ false → pos 0 -ℤ d ≡ closed_if d x
-    unfolding closed
-    closed-more e f = go d e f ∙ sym closed-kept
-      where
-        go : (z : ℤ) → is_negative z ≡ false → lt_z z (pos 1) ≡ false → pos 0 -ℤ z ≡ closed z
-        go (pos zero) e f = let q : ⊥ = omega (arith, ltb-false 0 1 f) in absurd q
-        go (pos (suc w)) e f = let q : w ≡ suc w - 1 = omega arith in +ℤ_idl (negsuc w) ∙ ap negsuc q
-        go (negsuc w) e f = absurd (true≢false e)
-
-  pub minus-fits : SFits w32 d → is_negative d ≡ false → SFits w32 (pos 0 -ℤ d)
-  minus-fits f e = go d f e
-    where
-      go : (z : ℤ) → SFits w32 z → is_negative z ≡ false → SFits w32 (pos 0 -ℤ z)
-      go (pos zero) f e = subst (λ (x : ℤ). SFits w32 x) (sym (+ℤ_idl (pos 0))) f
-      go (pos (suc w)) f e =
-          let l : suc w < 2 ^ 31 = f.sfits in
-          subst (λ (x : ℤ). SFits w32 x) (sym (+ℤ_idl (negsuc w))) (record { sfits = let q : w < 2 ^ 31 = omega arith in q })
-      go (negsuc w) f e = absurd (true≢false e)
+        go : (z : ℤ) → is_negative z ≡ false → pos 0 -ℤ int_max z (pos 1) ≡ closed z
+        go (pos zero) e = refl
+        go (pos (suc zero)) e = refl
+        go (pos (suc (suc w))) e =
+            let n = suc (suc w) in
+            let greater : int_max (pos n) (pos 1) ≡ pos n = ap (λ (t : Bool). cond t (pos n) (pos 1)) (lt-ltb 1 n (omega arith)) in
+            let one_less : suc w ≡ n - 1 = omega arith in
+            ap (λ (z : ℤ). pos 0 -ℤ z) greater ∙ +ℤ_idl (negsuc (suc w)) ∙ ap negsuc one_less
+        go (negsuc w) e = absurd (true≢false e)
 
 -- ---- all voxels below i closed
 

@@ -37,7 +37,8 @@ use Rattle.rules.proofs.Gaps.{filled-stays}
 use Rattle.rules.proofs.Slices.{carves-add-after, carves-join-after}
 use Rattle.rules.proofs.Fifteen.{unpinned-walls, open_after, none-to-open-after, fifteen-tells-after, fifteen-when-after, fifteen-last-after, same-body-after}
 use Rattle.coarse.specs.Blocks.{halved, block_distances, block_marks, split_body}
-use Rattle.coarse.specs.Coarse.{coarse_run, FourBuffers, four_buffers, CoarseStart, wrong_lengths, coarse_checks, coarse_on, begin_coarse}
+use Rattle.coarse.specs.declared.CoarseStart.{CoarseStart}
+use Rattle.coarse.specs.Coarse.{coarse_run, FourBuffers, four_buffers, wrong_lengths, coarse_checks, coarse_on, begin_coarse}
 use Rattle.coarse.specs.Promises.{FromCoarse, coarse_state, CoarseDemandIsMet, CoarseNeverUnfit, CoarseCarveEnds, CoarseKeptAndRemoved}
 use Rattle.coarse.specs.Promises.{CoarseClosedWithoutOpenings, CoarseStaysWithinRange, CoarseCarvesAdd, CoarseCarvesJoin, CoarseGoneIsOpen}
 use Rattle.coarse.specs.Promises.{CoarseNoneToOpen, CoarseFifteenTells, CoarseFifteenWhen, CoarseFifteenIsLast, CoarseOneBody, CoarseFilledAreKept}

@@ -17,7 +17,8 @@ use Rattle.rules.specs.Status.{Progress, status_of}
 use Rattle.rules.specs.Marks.{Marked, unmarked, no_marks}
 use Rattle.rules.specs.Cases.{sides, mark_at}
 use Rattle.rules.proofs.Answers.{answers, same_answer}
-use Rattle.coarse.specs.Coarse.{four_buffers, CoarseStart}
+use Rattle.coarse.specs.declared.CoarseStart.{CoarseStart}
+use Rattle.coarse.specs.Coarse.{four_buffers}
 use Rattle.coarse.specs.Promises.{coarse_state}
 use Rattle.coarse.specs.Examples.{grid, lent, coarse_of, diagonal, pinned_at, slab, around_it, two_blocks, small}
 use Rattle.coarse.specs.Wrong.{greatest_from, WrongBlocks, WrongRuns, WrongSplits, WrongFitness, OwnParts, CoarseAnswers}

@@ -12,7 +12,7 @@ use Rattle.rules.specs.Answer.{Reply, refused, done, Outcome, outcome, untouched
 use Rattle.rules.specs.Begin.{inside, worked, in_box, start_status, new_record}
 use Rattle.rules.specs.Status.{Progress, carving}
 use Rattle.rules.specs.Machine.{is_inside, may_go, sooner}
-use Rattle.coarse.specs.declared.CoarseBegun.{CoarseBegun}
+use Rattle.coarse.specs.declared.CoarseStart.{CoarseStart}
 use Rattle.coarse.specs.Blocks.{halved, block_distances, block_marks, split_body}
 
 -- ---- the coarse run, over a grid of blocks with these distances and marks, by the rules of begin and carve
@@ -59,15 +59,6 @@ pub record FourBuffers : Type 0 where
 
 abbrev pub four_buffers : Buffers → Buffers → FourBuffers
 four_buffers v b = record { voxels = v; blocks = b }
-
--- the record, and "coarse examinations reported separately"
-pub record CoarseStart : Type 0 where
-  pub next : Record
-  pub examined : ℕ
-
-abbrev pub coarse_answer : CoarseBegun → Reply CoarseStart
-coarse_answer (CoarseBegun.Ready next examined) = done (record { next = next; examined = examined })
-coarse_answer (CoarseBegun.Refused n) = refused n
 
 -- number 2: a buffer of another length than n, or a further one of another length than n / 8
 unfoldable pub wrong_lengths : Sides → List ℤ → FourBuffers → Bool

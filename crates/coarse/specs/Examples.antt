@@ -11,7 +11,8 @@ use Rattle.rules.specs.Demand.{Call, run}
 use Rattle.rules.specs.Fifteen.{Pins}
 use Rattle.rules.specs.Cases.{sides, start_with, carved_with, mark_at}
 use Rattle.coarse.specs.Blocks.{block_distance, split_body}
-use Rattle.coarse.specs.Coarse.{coarse_run, near_border, FourBuffers, four_buffers, CoarseStart, begin_coarse}
+use Rattle.coarse.specs.declared.CoarseStart.{CoarseStart}
+use Rattle.coarse.specs.Coarse.{coarse_run, near_border, FourBuffers, four_buffers, begin_coarse}
 use Rattle.coarse.specs.Promises.{coarse_state}
 
 -- a grid of 5 with these voxels at -5, and buffers of the right lengths

@@ -18,7 +18,8 @@ use Rattle.rules.specs.Gaps.{FilledStays}
 use Rattle.rules.specs.Slices.{CarvesAddAfter, CarvesJoinAfter}
 use Rattle.rules.specs.Fifteen.{OpenAfter, NoneToOpenAfter, FifteenTellsAfter, FifteenWhenAfter, FifteenLastAfter, SameBodyAfter}
 use Rattle.coarse.specs.Blocks.{halved, block_of, block_distances, block_marks, split_body}
-use Rattle.coarse.specs.Coarse.{FourBuffers, CoarseStart, block_box, unfit_coarse, begin_coarse}
+use Rattle.coarse.specs.declared.CoarseStart.{CoarseStart}
+use Rattle.coarse.specs.Coarse.{FourBuffers, block_box, unfit_coarse, begin_coarse}
 
 -- ---- of every coarse start that is not refused: what it was given, the marks that it was lent, the four buffers as it left them, and its answer
 

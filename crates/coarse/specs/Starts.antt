@@ -8,7 +8,8 @@ use Rattle.rules.specs.Begin.{inside, in_box, begin}
 use Rattle.rules.specs.Machine.{State, state}
 use Rattle.rules.specs.Demand.{Promise}
 use Rattle.coarse.specs.Blocks.{split_body}
-use Rattle.coarse.specs.Coarse.{FourBuffers, CoarseStart, begin_coarse}
+use Rattle.coarse.specs.declared.CoarseStart.{CoarseStart}
+use Rattle.coarse.specs.Coarse.{FourBuffers, begin_coarse}
 use Rattle.coarse.specs.Promises.{coarse_state}
 
 -- a call of begin, or of begin coarse, on these sides and values that is not refused, whatever T, the marks and what stood in the lent buffers

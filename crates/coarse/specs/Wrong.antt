@@ -15,7 +15,8 @@ use Rattle.rules.specs.Machine.{may_go, sooner}
 use Rattle.rules.specs.Demand.{Call, run}
 use Rattle.rules.specs.Cases.{sides}
 use Rattle.coarse.specs.Blocks.{halved, eight, block_distance, block_marks, split_body}
-use Rattle.coarse.specs.Coarse.{negative_blocks, block_box, first_status, coarse_run, unfit_side, near_end, unfit_coarse, FourBuffers, CoarseStart}
+use Rattle.coarse.specs.declared.CoarseStart.{CoarseStart}
+use Rattle.coarse.specs.Coarse.{negative_blocks, block_box, first_status, coarse_run, unfit_side, near_end, unfit_coarse, FourBuffers}
 use Rattle.coarse.specs.Coarse.{wrong_lengths, coarse_checks, begin_coarse}
 use Rattle.coarse.specs.Promises.{FromCoarse}
 use Rattle.coarse.specs.Examples.{grid, lent, coarse_of, slab}

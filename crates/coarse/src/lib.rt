@@ -5,7 +5,7 @@ use rules::Record;
 
 // The record of a grid that was just begun, and how many examinations the coarse run made.
 #[derive(Clone, Copy)]
-pub enum CoarseBegun {
-    Ready { next: Record, examined: u32 },
-    Refused(u8),
+pub struct CoarseStart {
+    pub next: Record,
+    pub examined: u32,
 }

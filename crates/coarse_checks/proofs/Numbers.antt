@@ -12,11 +12,14 @@ use lib.ListN.{length}
 use Rattle.cells.specs.Groups.{any}
 use Rattle.prelude.proofs.Bools.{two, and-true, and_comm, or-false, not-false}
 use Rattle.prelude.proofs.Lists.{any-ext}
+use Rattle.rules.specs.declared.Refusal.{Refusal}
 use Rattle.rules.specs.declared.Sides.{Sides}
 use Rattle.rules.specs.Grid.{fit_sides, size, voxels, range, measured_negative, value_at}
 use Rattle.rules.specs.Checks.{Check, ◌when◌, first_failing}
+use Rattle.rules.specs.Refusals.{number_of}
 use Rattle.rules.specs.Fit.{Sized}
-use Rattle.rules.proofs.Checks.{Deciding, deciding-refused, deciding-next, deciding-done, fails-first, holds-first, held_none, held_at}
+use Rattle.rules.proofs.Checks.{Deciding, deciding-refused, deciding-next, deciding-done, fails-first, holds-first, held_at}
+use Rattle.rules.proofs.Refusals.{numbers, passed}
 use Rattle.begin_checks.specs.Given.{near_edge, edge_negative, given_checks}
 use Rattle.begin_checks.proofs.Numbers.{calling, sides-refused, others-refused, others-held}
 use Rattle.coarse.specs.Coarse.{unfit_side, unfit_sides, near_border, unfit_coarse, FourBuffers, wrong_lengths, coarse_checks}
@@ -48,10 +51,10 @@ module _ (s : Sides) (values : List ℤ) where
 -- ---- the checks
 
 -- past those on what is given the values have their length
-pub sized : (s : Sides) (values : List ℤ) (marks : List ℕ) → fit_sides s ≡ true → (n : ℕ) → n ≡ first_failing (given_checks s values marks) → n ≡ 0
+pub sized : (s : Sides) (values : List ℤ) (marks : List ℕ) → fit_sides s ≡ true → 0 ≡ first_failing (given_checks s values marks)
     → Sized s (length values)
-sized s values marks e n f z =
-    let wrong = held_at (given_checks s values marks) (held_none (given_checks s values marks) n f refl z) 2 in
+sized s values marks e f =
+    let wrong = held_at (given_checks s values marks) (passed (given_checks s values marks) refl f) 2 in
     record { sides = e; len = eqb-true (length values) (size s) (not-false _ (or-false _ _ wrong).0) }
 
 module _ (s : Sides) (values : List ℤ) (marks : List ℕ) (l : FourBuffers) where
@@ -84,7 +87,7 @@ module _ (s : Sides) (values : List ℤ) (marks : List ℕ) (l : FourBuffers) wh
           let b = and-true (eqb (length l.blocks.dist) (size s / 8)) _ u.1 in
           wrong (eqb-true _ _ d.0) (eqb-true _ _ u.0) (eqb-true _ _ b.0) (eqb-true _ _ b.1)
 
-  module _ (e : fit_sides s ≡ true) (L : Lengths l (size s) (size s) (size s / 8) (size s / 8)) (n : ℕ) (f : n ≡ first_failing (given_checks s values marks)) where
+  module _ (e : fit_sides s ≡ true) (L : Lengths l (size s) (size s) (size s / 8) (size s / 8)) where
     left : Deciding (coarse_checks s values marks l) (given_checks s values marks ++ later)
     left =
         others-held s values marks others later e
@@ -92,14 +95,15 @@ module _ (s : Sides) (values : List ℤ) (marks : List ℕ) (l : FourBuffers) wh
         (ap₂ ◌&&◌ (eq-eqb _ _ L.block-dist-len) (eq-eqb _ _ L.block-status-len))))
         ∙ ap first_failing (sym same)
 
-    pub number-given : (n ≡ 0 → ⊥) → n ≡ first_failing (coarse_checks s values marks l)
-    number-given z = deciding-refused (coarse_checks s values marks l) (given_checks s values marks) later left n f z
+    pub number-given : (r : Refusal) → number_of r ≡ first_failing (given_checks s values marks) → number_of r ≡ first_failing (coarse_checks s values marks l)
+    number-given r f = deciding-refused (coarse_checks s values marks l) (given_checks s values marks) later left (number_of r) f (numbers r)
 
-    after : n ≡ 0 → Deciding (coarse_checks s values marks l) later
-    after z = deciding-next (coarse_checks s values marks l) (given_checks s values marks) later left n f refl z
+    module _ (f : 0 ≡ first_failing (given_checks s values marks)) where
+      after : Deciding (coarse_checks s values marks l) later
+      after = deciding-next (coarse_checks s values marks l) (given_checks s values marks) later left 0 f refl refl
 
-    pub number-31 : n ≡ 0 → unfit_coarse s values ≡ true → 31 ≡ first_failing (coarse_checks s values marks l)
-    number-31 z u = sym (fails-first 31 (unfit_coarse s values) [] u) ∙ after z
+      pub number-31 : unfit_coarse s values ≡ true → 31 ≡ first_failing (coarse_checks s values marks l)
+      number-31 u = sym (fails-first 31 (unfit_coarse s values) [] u) ∙ after
 
-    pub number-0 : n ≡ 0 → unfit_coarse s values ≡ false → 0 ≡ first_failing (coarse_checks s values marks l)
-    number-0 z u = deciding-done (coarse_checks s values marks l) (sym (holds-first 31 (unfit_coarse s values) [] u) ∙ after z)
+      pub number-0 : unfit_coarse s values ≡ false → 0 ≡ first_failing (coarse_checks s values marks l)
+      number-0 u = deciding-done (coarse_checks s values marks l) (sym (holds-first 31 (unfit_coarse s values) [] u) ∙ after)

@@ -21,7 +21,8 @@ use Rattle.rules.specs.Machine.{is_inside}
 use Rattle.rules.specs.Answer.{done, outcome, buffers}
 use Rattle.rules.specs.Fit.{Beginnable}
 use Rattle.rules.specs.Checks.{first_failing}
-use Rattle.rules.proofs.Checks.{fails_at, held_none, held_at}
+use Rattle.rules.proofs.Checks.{fails_at, held_at}
+use Rattle.rules.proofs.Refusals.{passed}
 use Rattle.rules.proofs.Fit.{beginnable-by}
 use Rattle.rules.proofs.Fill.{beginnable-filled}
 use Rattle.rules.proofs.NeverUnfit.{inner-border}
@@ -29,9 +30,9 @@ use Rattle.rules.proofs.Topology.Start.{worked-signs}
 use Rattle.loops.specs.InPlace.{Each}
 use Rattle.first_marks.specs.FirstMarks.{marked_status_at}
 use Rattle.beginning.proofs.FirstMarks.{marked-is}
-use Rattle.coarse.specs.declared.CoarseBegun.{CoarseBegun}
+use Rattle.coarse.specs.declared.CoarseStart.{CoarseStart}
 use Rattle.coarse.specs.Blocks.{halved, block_distances, block_marks, split_body}
-use Rattle.coarse.specs.Coarse.{coarse_run, FourBuffers, four_buffers, wrong_lengths, coarse_checks, coarse_answer, coarse_on}
+use Rattle.coarse.specs.Coarse.{coarse_run, FourBuffers, four_buffers, wrong_lengths, coarse_checks, coarse_on}
 use Rattle.coarse.proofs.Fitness.{CoarseFit, coarse-fit, filled-as-fit}
 use Rattle.coarse.proofs.Body.{half-fit, half-sides, length-blocks, blocks-off, some_block}
 use Rattle.coarse.proofs.Run.{run-shape}
@@ -175,9 +176,9 @@ module _ (s : Sides) (values : List ℤ) (ml dl sl bl cl : ℕ) (A : Acceptable 
 -- ---- the call
 
 -- what holds where no check fails
-module _ (s : Sides) (values : List ℤ) (marks : List ℕ) (l : FourBuffers) (n : ℕ) (e : n ≡ first_failing (coarse_checks s values marks l)) (z : n ≡ 0) where
+module _ (s : Sides) (values : List ℤ) (marks : List ℕ) (l : FourBuffers) (e : 0 ≡ first_failing (coarse_checks s values marks l)) where
   held : (k : ℕ) → fails_at k (coarse_checks s values marks l) ≡ false
-  held = held_at (coarse_checks s values marks l) (held_none (coarse_checks s values marks l) n e refl z)
+  held = held_at (coarse_checks s values marks l) (passed (coarse_checks s values marks l) refl e)
 
   pub marks-sized : length marks ≡ size s
   unfolding wrong_marks
@@ -204,7 +205,7 @@ module _ (s : Sides) (values : List ℤ) (marks : List ℕ) (l : FourBuffers) (n
         marks-len = f;
       }
 
-pub begun-is : (s : Sides) (T : ℕ) (m m' : Marked) (values : List ℤ) (n : ℕ) (left : FourBuffers) (r : CoarseBegun)
-    → r ≡ CoarseBegun.Ready (new_record s T) n → m ≡ m' → WorkedOut s m values n left → outcome (coarse_answer r) left ≡ coarse_on s T values m'
+pub begun-is : (s : Sides) (T : ℕ) (m m' : Marked) (values : List ℤ) (n : ℕ) (left : FourBuffers) (r : CoarseStart)
+    → r ≡ record { next = new_record s T; examined = n } → m ≡ m' → WorkedOut s m values n left → outcome (done r) left ≡ coarse_on s T values m'
 begun-is s T m m' values n left r e f w =
-    ap (λ (x : CoarseBegun). outcome (coarse_answer x) left) e ∙ w.worked T ∙ ap (λ (x : Marked). coarse_on s T values x) f
+    ap (λ (x : CoarseStart). outcome (done x) left) e ∙ w.worked T ∙ ap (λ (x : Marked). coarse_on s T values x) f

@@ -6,11 +6,12 @@ ghost use Rattle.std.specs.Prelude.{◌≡◌, length};
 ghost use Rattle.rules.specs.Fill.{filled};
 ghost use Rattle.rules.specs.Marks.{marked};
 ghost use Rattle.rules.specs.Answer.{outcome, buffers};
-ghost use Rattle.coarse.specs.Coarse.{four_buffers, coarse_answer, begin_coarse};
+ghost use Rattle.rules.specs.Refusals.{replied};
+ghost use Rattle.coarse.specs.Coarse.{four_buffers, begin_coarse};
 ghost use Rattle.coarsening.specs.Work.{Acceptable, WorkedOut};
 
-use coarse::CoarseBegun;
-use rules::Sides;
+use coarse::CoarseStart;
+use rules::{Refusal, Sides};
 
 // The work on a grid that is not refused: how many examinations the coarse run made. While it goes on, the blocks' marks stand in the first bytes
 // of the voxels' status, which is made anew after it.
@@ -48,14 +49,14 @@ pub fn begin_coarse(
     status: &mut [u8],
     block_dist: &mut [i32],
     block_status: &mut [u8],
-) -> CoarseBegun
-    ensures { outcome (coarse_answer result)
+) -> Result<CoarseStart, Refusal>
+    ensures { outcome (replied result)
         (four_buffers (buffers dist.new status.new) (buffers block_dist.new block_status.new))
         ≡ begin_coarse sides allowed values.now marks.now
         (four_buffers (buffers dist.old status.old) (buffers block_dist.old block_status.old)) }
 {
     let all = marks::all(marks);
-    let number = coarse_checks::refusal(
+    coarse_checks::refusal(
         sides,
         values,
         marks,
@@ -64,10 +65,7 @@ pub fn begin_coarse(
         status.len(),
         block_dist.len(),
         block_status.len(),
-    );
-    if number != 0 {
-        return CoarseBegun::Refused(number);
-    }
+    )?;
     let n = marks::used(all, marks.len());
     let examined = work_out(
         dist,
@@ -78,5 +76,5 @@ pub fn begin_coarse(
         values,
         &marks[..n],
     );
-    coarse_run::ready(sides, allowed, examined)
+    Ok(coarse_run::ready(sides, allowed, examined))
 }

@@ -7,8 +7,11 @@ use Prim.Native.Nat.{ℕ, ◌+◌, ◌*◌, ◌<◌}
 use native.Mathlib.Omega.{arith}
 use native.Mathlib.Nat.{mul-le-mul}
 use lib.Dec.{eqb, ltb}
-use lib.IntN.{ℤ}
-use lib.ListN.{length, get_or, get_or-eq_default}
+use lib.IntN.{ℤ, pos}
+use lib.ListN.{length, get_or, get_or-eq_default, replicate}
+use Rattle.std.specs.List.{between}
+use Rattle.std.proofs.lemmas.List.{length-replicate, get_or-replicate}
+use Rattle.std.proofs.lemmas.List.Edits.{length-between, get_or-between}
 use borrow.Author.Tests.{eq-eqb, lt-ltb, le-ltb}
 use Rattle.cells.specs.Linked.{Linked}
 use Rattle.cells.specs.Groups.{filter}
@@ -23,7 +26,6 @@ use Rattle.rules.proofs.Places.{Fit, fit}
 use Rattle.prelude.proofs.Ranges.{get_d-map-range, length-map-range}
 use Rattle.rules.proofs.Inside.{negative-lt, touch-back, found-is-inside}
 use Rattle.values.specs.Values.{labels_of}
-use Rattle.loops.specs.InPlace.{Each}
 use Rattle.loops.proofs.Orders.{split}
 use Rattle.rules.proofs.Topology.Around.{Inner}
 use Rattle.rules.proofs.Topology.Start.{border-inner}
@@ -32,6 +34,7 @@ use Rattle.floods.specs.Flood.{near_by}
 use Rattle.floods.proofs.Positions.{corner, near-in}
 use Rattle.components.specs.Search.{touching, Component, size_of, Searchable, Longest}
 use Rattle.components.specs.Work.{Relabelled, Relabels, Found}
+use Rattle.components.proofs.Relabelling.{relabels-part}
 use Rattle.components.proofs.Touched.{few, near-is}
 
 module _ (s : Sides) (values : List ℤ) (A : Beginnable s values) where
@@ -148,23 +151,30 @@ module _ (s : Sides) (values : List ℤ) (A : Beginnable s values) where
           }
           )
 
-      pub relabelled : (n : ℕ) → n ≡ size s → Relabelled work first end n
+      pub relabelled : (n : ℕ) → n ≡ size s → let part = between first end work in Relabelled part 0 (length part) n
       relabelled n e =
+          let long = length-between work first end W.upto in
           record {
-            order = W.order;
-            upto = W.upto;
-            entries = λ k h u. let w = W.lists.listed k h u in (w.0, w.1, omega (arith, W.within w.0 w.2, len));
+            order = omega arith;
+            upto = omega arith;
+            entries = λ k h u.
+                let w = W.lists.listed (first + k) (omega arith) (omega arith) in
+                (w.0, get_or-between work first end k (pos 0) (omega arith) ∙ w.1, omega (arith, W.within w.0 w.2, len));
           }
 
       -- S is what the stretch names
-      pub relabels-found : (far : ℕ) (l₁ l₂ l₃ : List ℕ) → length l₁ ≡ size s → Each 0 (λ k d. far) 0 (length l₁) l₁ l₂ → Relabels work first end l₂ l₃
+      pub relabels-found : (far n : ℕ) (l₂ l₃ : List ℕ) → n ≡ size s → l₂ ≡ replicate n far
+          → (let part = between first end work in Relabels part 0 (length part) l₂ l₃)
           → Found s (inside s values) far l₃
-      relabels-found far l₁ l₂ l₃ n E R =
+      relabels-found far n l₂ l₃ m fars P =
           record {
-            len = R.len ∙ E.len ∙ n;
+            len = R.len ∙ ap length fars ∙ length-replicate n far ∙ m;
             is = λ k h. named k h (W.test k) refl ∙ sym (ap (λ (t : Bool). cond {A = ℕ} t 0 far) (inside_is k h));
           }
         where
+          R : Relabels work first end l₂ l₃
+          R = relabels-part work first end l₂ l₃ W.order W.upto P
+
           named : (k : ℕ) → k < size s → (t : Bool) → W.test k ≡ t → get_or l₃ k 0 ≡ cond (W.test k) 0 far
           named k h true q =
               let w = W.lists.whole k q in
@@ -174,5 +184,6 @@ module _ (s : Sides) (values : List ℤ) (A : Beginnable s values) where
               (λ j a b c.
               let w = W.lists.listed j a b in
               not-both (W.test k) (subst (λ (x : ℕ). W.test x ≡ true) (ap amount (sym w.1 ∙ c)) w.2) q)
-              ∙ E.inside k (omega arith) (omega arith)
+              ∙ ap (λ (l : List ℕ). get_or l k 0) fars
+              ∙ get_or-replicate n k far 0 (omega arith)
               ∙ sym (ap (λ (t : Bool). cond {A = ℕ} t 0 far) q)

@@ -21,7 +21,7 @@ use Rattle.floods.specs.Flood.{Taken, Flooded, near_by, Floodable}
 use Rattle.pushing.proofs.Counting.{Parts, left, right, none, count-parts, count-labels, mem-some}
 use Rattle.pushing.proofs.Pushes.{label-lt}
 use Rattle.components.specs.Search.{Lists, Component, size_of, Searchable, Longest}
-use Rattle.loops.specs.Searches.{First}
+use Rattle.loops.specs.Searches.{Absent, First}
 use Rattle.loops.proofs.Orders.{split}
 
 lists-same : (test : ℕ → Bool) (work work' : List ℤ) (first end : ℕ) → ((k : ℕ) → k < end → get_or work' k (pos 0) ≡ get_or work k (pos 0))
@@ -376,71 +376,66 @@ module _ (near : ℕ → ℕ → Bool) (L : List ℕ) (turn : (u v : ℕ) → ge
           lists = w.lists;
         }
 
--- ---- the search: i is the next untaken voxel, or n
+-- ---- the search: the components of the voxels below next are counted
 
-pub record Searched (offsets : List ℕ) (back : ℕ) (L : List ℕ) (room n : ℕ) (l : List ℕ) (work : List ℤ) (end i first most : ℕ) : Type 0 where
+pub record Searched (offsets : List ℕ) (back : ℕ) (L : List ℕ) (room n : ℕ) (l : List ℕ) (work : List ℤ) (end next first most : ℕ) : Type 0 where
   pub whole : n ≡ length L
-  pub upto : i ≤ n
+  pub upto : next ≤ n
   pub len : length l ≡ n
   pub same : length work ≡ room
-  pub next : i < n → get_or l i 0 ≡ 1
-  pub tally : (S : Searchable offsets back L room) → Tally (near_by offsets back) L S.turn l work end i first most
+  pub tally : (S : Searchable offsets back L room) → Tally (near_by offsets back) L S.turn l work end next first most
 
 module _ (offsets : List ℕ) (back : ℕ) (L : List ℕ) where
-  pub search-begin : (work : List ℤ) (i : ℕ) → First L 1 0 (length L) i → Searched offsets back L (length work) (length L) L work 0 i 0 0
-  search-begin work i f =
+  pub search-begin : (work : List ℤ) → Searched offsets back L (length work) (length L) L work 0 0 0 0
+  search-begin work =
       record {
         whole = refl;
-        upto = f.high;
+        upto = omega arith;
         len = refl;
         same = refl;
-        next = f.found;
         tally = λ S.
             let c = count-labels L in
-            tally-on (near_by offsets back) L S.turn L work 0 0 i 0 0 (omega arith) f.none_before
-            (tally-start (near_by offsets back) L S.turn work (record { same = S.same; room = omega (arith, S.same); small = S.small }));
+            tally-start (near_by offsets back) L S.turn work (record { same = S.same; room = omega (arith, S.same); small = S.small });
       }
 
-  module _ (room n : ℕ) (l : List ℕ) (work : List ℤ) (end i first most : ℕ) (D : Searched offsets back L room n l work end i first most) (more : i < n) where
-    -- where the next flood may start
-    pub search-start : Searchable offsets back L room → Floodable offsets back (fill_of l work end) i
-    search-start S =
-        let T = D.tally S in
-        let was : (v : ℕ) → get_or l v 0 ≡ 1 → get_or L v 0 ≡ 1 =
-        λ v e. eqb-true (get_or L v 0) 1 (one-member (near_by offsets back) L S.turn l work end i first most T v e) in
-        record {
-          ready = T.ready;
-          seeded = D.next more;
-          low = λ v e. S.low v (was v e);
-          high = λ v j e h. omega (arith, S.high v j (was v e) h, T.len);
-        }
+  module _ (room n : ℕ) (l : List ℕ) (work : List ℤ) (end next first most : ℕ) (D : Searched offsets back L room n l work end next first most) where
+    module _ (i : ℕ) (N : First l 1 next n i) where
+      at-next : (S : Searchable offsets back L room) → Tally (near_by offsets back) L S.turn l work end i first most
+      at-next S = tally-on (near_by offsets back) L S.turn l work end next i first most N.low N.none_before (D.tally S)
 
-    module _ (l' : List ℕ) (work' : List ℤ) (e j : ℕ) (F : Flooded (near_by offsets back) (fill_of l work end) (fill_of l' work' e) i)
-        (same' : length work' ≡ length work) (N : First l' 1 (i + 1) n j) where
-      on : (first' most' : ℕ)
-          → ((S : Searchable offsets back L room) → Tally (near_by offsets back) L S.turn l' work' e (i + 1) first' most')
-          → Searched offsets back L room n l' work' e j first' most'
-      on first' most' T =
+      -- where the next flood may start
+      pub search-start : Searchable offsets back L room → Floodable offsets back (fill_of l work end) i
+      search-start S =
+          let T = at-next S in
+          let was : (v : ℕ) → get_or l v 0 ≡ 1 → get_or L v 0 ≡ 1 =
+          λ v e. eqb-true (get_or L v 0) 1 (one-member (near_by offsets back) L S.turn l work end i first most T v e) in
           record {
-            whole = D.whole;
-            upto = N.high;
-            len = F.len ∙ D.len;
-            same = same' ∙ D.same;
-            next = N.found;
-            tally = λ S. tally-on (near_by offsets back) L S.turn l' work' e (i + 1) j first' most' N.low N.none_before (T S);
+            ready = T.ready;
+            seeded = N.found;
+            low = λ v e. S.low v (was v e);
+            high = λ v j e h. omega (arith, S.high v j (was v e) h, T.len);
           }
 
-      pub search-win : most < e - end → Searched offsets back L room n l' work' e j end (e - end)
-      search-win h =
-          on end (e - end)
-          (λ S. tally-win (near_by offsets back) L S.turn l l' work work' end e i first most (D.tally S) (D.next more) F same' h)
+      module _ (l' : List ℕ) (work' : List ℤ) (e : ℕ) (F : Flooded (near_by offsets back) (fill_of l work end) (fill_of l' work' e) i)
+          (same' : length work' ≡ length work) where
+        on : (first' most' : ℕ)
+            → ((S : Searchable offsets back L room) → Tally (near_by offsets back) L S.turn l' work' e (i + 1) first' most')
+            → Searched offsets back L room n l' work' e (i + 1) first' most'
+        on first' most' T =
+            record { whole = D.whole; upto = omega (arith, N.high); len = F.len ∙ D.len; same = same' ∙ D.same; tally = T }
 
-      pub search-keep : e - end ≤ most → Searched offsets back L room n l' work' e j first most
-      search-keep h =
-          on first most
-          (λ S. tally-keep (near_by offsets back) L S.turn l l' work work' end e i first most (D.tally S) (D.next more) F same' h)
+        pub search-win : most < e - end → Searched offsets back L room n l' work' e (i + 1) end (e - end)
+        search-win h =
+            on end (e - end)
+            (λ S. tally-win (near_by offsets back) L S.turn l l' work work' end e i first most (at-next S) N.found F same' h)
 
-  pub search-end : (room n : ℕ) (l : List ℕ) (work : List ℤ) (end i first most : ℕ) → Searched offsets back L room n l work end i first most → n ≤ i
-      → Searchable offsets back L room → Longest (near_by offsets back) L work first (first + most)
-  search-end room n l work end i first most D h S =
-      tally-done (near_by offsets back) L S.turn l work end i first most (D.tally S) (omega (arith, D.whole)) S.some S.some_is
+        pub search-keep : e - end ≤ most → Searched offsets back L room n l' work' e (i + 1) first most
+        search-keep h =
+            on first most
+            (λ S. tally-keep (near_by offsets back) L S.turn l l' work work' end e i first most (at-next S) N.found F same' h)
+
+    pub search-end : Absent l 1 next n → Searchable offsets back L room → Longest (near_by offsets back) L work first (first + most)
+    search-end absent S =
+        tally-done (near_by offsets back) L S.turn l work end n first most
+        (tally-on (near_by offsets back) L S.turn l work end next n first most D.upto absent (D.tally S))
+        (omega (arith, D.whole)) S.some S.some_is

@@ -5,7 +5,6 @@
 ghost use Rattle.std.specs.Prelude.{◌<◌, length};
 ghost use Rattle.rules.specs.Fill.{filled};
 ghost use Rattle.rules.specs.Begin.{inside};
-ghost use Rattle.loops.specs.InPlace.{Each};
 ghost use Rattle.floods.specs.Flood.{spanned, near_by};
 ghost use Rattle.gaps.specs.Work.{Accepted};
 ghost use Rattle.components.specs.Search.{Searchable, Longest};
@@ -13,13 +12,7 @@ ghost use Rattle.components.specs.Work.{Relabelled, Relabels, Found};
 
 use pushing::Patch;
 use rules::Sides;
-
-// A stretch of the work list, from first up to end.
-#[derive(Clone, Copy)]
-pub struct Stretch {
-    pub first: usize,
-    pub end: usize,
-}
+use std::ops::Range;
 
 // Floods every component, and returns the stretch of the largest, of equal ones of the first. A voxel's neighbours are patches at the offsets.
 fn largest(
@@ -28,51 +21,33 @@ fn largest(
     offsets: &[usize],
     patch: Patch,
     back: usize,
-) -> Stretch
+) -> Range<usize>
     requires { (0 < patch.wide) × (0 < patch.rows) × Searchable (spanned patch offsets.now) back label.old (length work.old) }
-    ensures { Longest (near_by (spanned patch offsets.now) back) label.old work.new result.first result.end }
+    ensures { Longest (near_by (spanned patch offsets.now) back) label.old work.new result.start result.end }
 {
     let n = label.len();
-    let mut first = 0;
-    let mut most = 0;
+    let mut longest = 0..0;
     let mut end = 0;
-    let mut i = loops::first_of(label, 1, 0, n);
-    while i < n {
-        let e = floods::flood(label, work, end, i, offsets, patch, back);
-        if most < e - end {
-            most = e - end;
-            first = end;
+    let mut next = 0;
+    // a flood takes some of the voxels that come next, so that the next one is looked for after it
+    while let Some(i) = loops::first_of(label, 1, next, n) {
+        let found = end..floods::flood(label, work, end, i, offsets, patch, back);
+        end = found.end;
+        if longest.len() < found.len() {
+            longest = found;
         }
-        end = e;
-        i = loops::first_of(label, 1, i + 1, n);
+        next = i + 1;
     }
-    Stretch {
-        first,
-        end: first + most,
-    }
+    longest
 }
 
-// Gives every voxel one label.
-fn clear(label: &mut [u8], far: u8)
-    ensures { Each 0 (λ k d. far) 0 (length label.old) label.old label.new }
+// Gives the voxels the label 0.
+fn relabel(label: &mut [u8], voxels: &[i32])
+    requires { Relabelled voxels.now 0 (length voxels.now) (length label.old) }
+    ensures { Relabels voxels.now 0 (length voxels.now) label.old label.new }
 {
-    let mut i = 0;
-    while i < label.len() {
-        label[i] = far;
-        i += 1;
-    }
-}
-
-// Gives the voxels of a stretch of the work list the label 0.
-fn relabel(label: &mut [u8], work: &[i32], first: usize, end: usize)
-    requires { Relabelled work.now first end (length label.old) }
-    ensures { Relabels work.now first end label.old label.new }
-{
-    let mut k = first;
-    while k < end {
-        let v = floods::entry(work, k);
-        label[v] = 0;
-        k += 1;
+    for v in voxels {
+        label[*v as usize] = 0;
     }
 }
 
@@ -91,9 +66,7 @@ pub fn find(status: &mut [u8], dist: &mut [i32], sides: Sides, values: &[i32], f
         rows: 3,
         step: a,
     };
-    let s = largest(status, dist, &layers, nine, 1 + a + ab);
-    let first = s.first;
-    let end = s.end;
-    clear(status, far);
-    relabel(status, dist, first, end);
+    let found = largest(status, dist, &layers, nine, 1 + a + ab);
+    status.fill(far);
+    relabel(status, &dist[found]);
 }

@@ -7,18 +7,12 @@ ghost use Rattle.counting.specs.Counting.{Countable};
 
 use rules::Record;
 
-fn wide(n: u32) -> u64
-    ensures { result ≡ n }
-{
-    n as u64
-}
-
 // k - m, by which an opening changes the Euler number.
 pub fn change(k: u32, m: u32) -> i32
     requires { (k ≤ 26) × (m ≤ 26) }
     ensures { result ≡ pos k -ℤ pos m }
 {
-    (k as i32) - (m as i32)
+    k as i32 - m as i32
 }
 
 // The record after so many more examinations, removals and openings, and a change of the Euler number.
@@ -26,15 +20,11 @@ pub fn counted(given: Record, examined: u32, removed: u32, opened: u32, change: 
     requires { Countable given opened change }
     ensures { result ≡ count given examined removed opened change }
 {
-    let s = given.sides;
-    let euler = given.euler + change;
     Record {
-        sides: s,
-        allowed: given.allowed,
         openings: given.openings + opened,
-        removals: given.removals + wide(removed),
-        examinations: given.examinations + wide(examined),
-        euler: euler,
-        finished: given.finished,
+        removals: given.removals + u64::from(removed),
+        examinations: given.examinations + u64::from(examined),
+        euler: given.euler + change,
+        ..given
     }
 }

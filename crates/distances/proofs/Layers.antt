@@ -7,11 +7,12 @@ use Prim.Native.Nat.{ℕ, ◌+◌, ◌-◌, ◌*◌, ◌/◌, ◌%◌, ◌≤◌
 use native.Mathlib.Omega.{arith}
 use native.Mathlib.Nat.{mul_comm, mod-lt, div-add-mod', div-lt_iff_lt-mul}
 use lib.ListN.{length, get_or, replicate, length-replicate, get_or-replicate, get_or-eq_default}
+use Rattle.std.specs.List.{between}
+use Rattle.std.proofs.lemmas.List.Edits.{length-between, get_or-between}
 use Rattle.rules.specs.Grid.{gap}
 use Rattle.loops.proofs.Orders.{split}
 use Rattle.transposing.specs.Transposed.{Transposed}
 use Rattle.sweeps.specs.Sweep.{Slab, Both}
-use Rattle.distances.specs.Axes.{Level}
 use Rattle.sweeps.proofs.Spreading.{place_in}
 
 -- an index below n rows of w is at some place of some row
@@ -39,7 +40,7 @@ blank-at k =
 
 module _ (d : List ℕ) (st m at : ℕ) (B : Slab d st m at) where
   -- all are the same
-  pub level-both : Level d at (at + m * st) → Both true st m at d d
+  pub level-both : (let part = between at (at + m * st) d in (k : ℕ) → k < length part → get_or part k 0 ≡ get_or part 0 0) → Both true st m at d d
   unfolding gap
   level-both L =
       record {
@@ -54,7 +55,18 @@ module _ (d : List ℕ) (st m at : ℕ) (B : Slab d st m at) where
       }
     where
       same : (q r : ℕ) → q < m → r < st → get_or d (at + r * m + q) 0 ≡ get_or d at 0
-      same q r h l = let i = place_in true st m at r q h l in L _ i.0 i.1
+      same q r h l =
+          let i = place_in true st m at r q h l in
+          let end = at + m * st in
+          let long = length-between d at end B.fits in
+          let k = r * m + q in
+          let e : at + r * m + q ≡ at + k = omega arith in
+          let z : at + 0 ≡ at = omega arith in
+          ap (λ (x : ℕ). get_or d x 0) e
+          ∙ sym (get_or-between d at end k 0 (omega arith))
+          ∙ L k (omega arith)
+          ∙ get_or-between d at end 0 0 (omega arith)
+          ∙ ap (λ (x : ℕ). get_or d x 0) z
 
   -- transposed into a blank layer, swept there, and transposed back
   module _ (small : m * st ≤ 4096) (layer : List ℕ) (T : Transposed d at st m m 0 blank layer) where

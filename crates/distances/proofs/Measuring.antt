@@ -16,8 +16,8 @@ use Rattle.rules.proofs.Distance.{taxicab-lt, nearest-distance}
 use Rattle.loops.proofs.Orders.{split, times-next}
 use Rattle.loops.proofs.Coordinates.{index_is, coords, grid-in}
 use Rattle.sweeps.specs.Sweep.{place_of}
-use Rattle.distances.specs.Axes.{Whole, Axis}
 use Rattle.distances.specs.Work.{Seeded, Measured}
+use Rattle.distances.proofs.Advancing.{Whole, Axis}
 
 -- a line of an axis, by a position map
 module _ (along : Bool) (st m : ℕ) (d d' : List ℕ) (A : Axis along st m d d') (g r : ℕ) (fits : g * (m * st) + m * st ≤ length d) (h : r < st)
@@ -62,17 +62,15 @@ module _ (s : Sides) (F : Fit s) where
   unfolding size
   few = mul-le-mul (mul-le-mul F.a-high F.b-high) F.c-high
 
-  layer-at : (z : ℕ) → z * (s.b * s.a) ≡ z * ab
+  pub layer-at : (z : ℕ) → z * (s.b * s.a) ≡ z * ab
   layer-at z = ap (λ (x : ℕ). z * x) (mul_comm s.b s.a)
 
   -- ---- the three axes, and what the sweeps may go by
 
   module _ (d : List ℕ) (len : length d ≡ size s) (small : (k : ℕ) → get_or d k 0 < 255) where
-    pub whole-x : Whole d s.b s.a
+    pub whole-x : Whole d s.c s.b s.a
     whole-x =
         record {
-          slabs = s.c;
-          some = pc;
           whole = len ∙ size_is;
           st-pos = pb;
           m-pos = pa;
@@ -80,11 +78,9 @@ module _ (s : Sides) (F : Fit s) where
           small = small;
         }
 
-    pub whole-y : Whole d s.a s.b
+    pub whole-y : Whole d s.c s.a s.b
     whole-y =
         record {
-          slabs = s.c;
-          some = pc;
           whole = len ∙ size_is ∙ sym (layer-at s.c);
           st-pos = pa;
           m-pos = pb;
@@ -92,11 +88,9 @@ module _ (s : Sides) (F : Fit s) where
           small = small;
         }
 
-    pub whole-z : Whole d ab s.c
+    pub whole-z : Whole d 1 ab s.c
     whole-z =
         record {
-          slabs = 1;
-          some = omega arith;
           whole = len ∙ size_is ∙ sym (one-mul (s.c * ab));
           st-pos = let p = mul-le-mul pa pb in omega arith;
           m-pos = pc;

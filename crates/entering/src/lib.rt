@@ -6,8 +6,7 @@ ghost use Rattle.std.specs.Prelude.{◌≤◌, ◌<◌, length};
 ghost use Rattle.rules.specs.Marks.{marked};
 ghost use Rattle.queue.specs.Queue.{Queue, Emptied, Entered};
 
-// How many places are free before the first key of a new front.
-const LEAD: usize = 48;
+use front::LEAD;
 
 // All keys of the front go into the index, the least first.
 fn spill(
@@ -23,9 +22,7 @@ fn spill(
     ensures { Emptied (marked marks.now) dist.now status.now offsets.new tree.new
         front.new head }
 {
-    let mut e = front::end_of(front, head);
-    while head < e {
-        e -= 1;
+    for e in (head..front::end_of(front, head)).rev() {
         let w = front[e];
         pending::raise(dist, marks, offsets, tree, queue::voxel(dist, w), w);
         front[e] = 0;
@@ -47,11 +44,12 @@ fn made_room(
         front.new result × (1 ≤ result) }
 {
     if 0 < head {
-        return head;
+        head
+    } else {
+        spill(dist, marks, status, offsets, tree, front, head);
+        front[LEAD] = 0;
+        LEAD
     }
-    spill(dist, marks, status, offsets, tree, front, head);
-    front[LEAD] = 0;
-    LEAD
 }
 
 // Voxel j, pending or not, is pending from now on.
@@ -78,7 +76,8 @@ pub fn enter(
     let w = keys::voxel_key(dist, marks, j);
     if w <= tree[1] {
         pending::raise(dist, marks, offsets, tree, j, w);
-        return at;
+        at
+    } else {
+        front::insert(front, at, w)
     }
-    front::insert(front, at, w)
 }

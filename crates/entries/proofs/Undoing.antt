@@ -1,10 +1,10 @@
 -- Voxels put back, one entry after the other from the last to the first; and putting back undoes taking out.
-use mathlib.Core.Path.{◌≡◌, refl, ap, ◌∙◌}
+use mathlib.Core.Path.{◌≡◌, ap, ◌∙◌}
 use mathlib.Core.List.{List}
-use Prim.Native.Nat.{ℕ, suc, ◌+◌, ◌-◌, ◌%◌, ◌≤◌, ◌<◌}
+use Prim.Native.Nat.{ℕ, suc, ◌+◌, ◌-◌, ◌%◌, ◌<◌}
 use native.Mathlib.Omega.{arith}
 use lib.Bits.{bit_and, bit_or, and_mask, or_add_and}
-use lib.ListN.{length, set, length-set}
+use lib.ListN.{length, set}
 use lib.Seq.{get_or-set_same, set-set, set-get_or}
 use Rattle.rules.specs.Status.{status_of}
 use Rattle.entries.specs.Entries.{index_of, taken_out, kept_again, put_back}
@@ -20,34 +20,14 @@ module _ (list status : List ℕ) (r : ℕ) (below : index_of list r < length st
       let back : status_of (taken_out status i) i + 1 - status_of (taken_out status i) i % 2 ≡ x = omega arith in
       ap (put_back list r) (ap (set (taken_out status i) i) back ∙ set-set status i (x - 1) x ∙ set-get_or status i 0)
 
--- ---- the loop: r entries are left
+-- ---- the loop: r entries are left, and the last of them is put back
 
 set-bit : (x : ℕ) → bit_or x 1 ≡ x + 1 - x % 2
 set-bit x = let m : bit_and x 1 ≡ x % 2 = and_mask x 1 in omega (arith, or_add_and x 1)
 
-module _ (list before : List ℕ) (entries : ℕ) where
-  pub record Undoing (status : List ℕ) (r : ℕ) : Type 0 where
-    pub few : r ≤ entries
-    pub long : length status ≡ length before
-    pub same : put_back list r status ≡ put_back list entries before
-
-  pub undoing-start : Undoing before entries
-  undoing-start = record { few = omega arith; long = refl; same = refl }
-
-  pub undoing-next : (status : List ℕ) (r i : ℕ) → Undoing status r → 0 < r → i ≡ index_of list (r - 1)
-      → Undoing (set status i (bit_or (status_of status i) 1)) (r - 1)
-  undoing-next status r i u h e =
-      let l = u.few in
-      let one : suc (r - 1) ≡ r = omega arith in
-      record {
-        few = omega arith;
-        long = length-set status i (bit_or (status_of status i) 1) ∙ u.long;
-        same =
-            ap (put_back list (r - 1))
-            (ap (set status i) (set-bit (status_of status i)) ∙ ap (kept_again status) e)
-            ∙ ap (λ (k : ℕ). put_back list k status) one
-            ∙ u.same;
-      }
-
-  pub undoing-done : (status : List ℕ) (r : ℕ) → Undoing status r → r ≤ 0 → status ≡ put_back list entries before
-  undoing-done status r u h = let none : 0 ≡ r = omega arith in ap (λ (k : ℕ). put_back list k status) none ∙ u.same
+pub undoing-next : (list status : List ℕ) (r i : ℕ) → 0 < r → i ≡ index_of list (r - 1)
+    → put_back list (r - 1) (set status i (bit_or (status_of status i) 1)) ≡ put_back list r status
+undoing-next list status r i h e =
+    let one : suc (r - 1) ≡ r = omega arith in
+    ap (put_back list (r - 1)) (ap (set status i) (set-bit (status_of status i)) ∙ ap (kept_again status) e)
+    ∙ ap (λ (k : ℕ). put_back list k status) one

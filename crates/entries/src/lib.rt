@@ -6,12 +6,14 @@ ghost use Rattle.std.specs.Prelude.{◌≡◌, ◌+◌, ◌*◌, ◌≤◌, leng
 ghost use Rattle.judging.specs.Judge.{entry_length};
 ghost use Rattle.entries.specs.Entries.{index_of, put_back, Listed};
 
+use words::Width;
+
 // The voxel of entry r.
 pub fn index_of(list: &[u8], r: usize) -> usize
     requires { entry_length * r + entry_length ≤ length list.now }
     ensures { result ≡ index_of list.now r }
 {
-    words::word(list, 6 * r + 2, 4) as usize
+    words::word(list, 6 * r + 2, Width::Four) as usize
 }
 
 // The voxels of the first entries put back, the last one first.
@@ -19,10 +21,8 @@ pub fn put_back(status: &mut [u8], list: &[u8], entries: usize)
     requires { Listed list.now entries (length status.old) }
     ensures { status.new ≡ put_back list.now entries status.old }
 {
-    let mut r = entries;
-    while 0 < r {
-        r -= 1;
+    for r in (0..entries).rev() {
         let i = index_of(list, r);
-        status[i] = status[i] | 1;
+        status[i] |= 1;
     }
 }

@@ -1,9 +1,10 @@
 -- A body whose pending voxels are kept stays one.
-use mathlib.Core.Path.{◌≡◌, refl, sym, ap, ap₂, ◌∙◌, subst}
+use mathlib.Core.Path.{◌≡◌, refl, sym, ap, ◌∙◌, subst}
 use mathlib.Core.Logic.{inl, inr}
 use mathlib.Core.Bool.{Bool, true, false, not, cond, ◌&&◌}
 use mathlib.Core.List.{List}
-use Prim.Native.Nat.{ℕ, suc, ◌+◌, ◌-◌, ◌/◌, ◌%◌, ◌≤◌, ◌<◌}
+use Rattle.std.specs.Prelude.{Option, None, Some}
+use Prim.Native.Nat.{ℕ, ◌+◌, ◌-◌, ◌/◌, ◌%◌, ◌≤◌, ◌<◌}
 use native.Mathlib.Omega.{arith}
 use native.Mathlib.Decide.{ℕ_discrete, dec_lt}
 use borrow.Author.Tests.{eqb-false, ne_eqb}
@@ -13,7 +14,7 @@ use lib.ListN.{length, set, get_or-eq_default}
 use lib.Seq.{get_or-set_same, get_or-set_other}
 use Rattle.cells.specs.Cells.{Test, test}
 use Rattle.closed_sets.proofs.EveryBlock.{test-ext}
-use Rattle.prelude.proofs.Bools.{two, and-true, true-and, and_one, or-true, not-both}
+use Rattle.prelude.proofs.Bools.{and-true, true-and, and_one, or-true, not-both}
 use Rattle.prelude.proofs.Ranges.{get_d-map-range}
 use Rattle.rules.specs.declared.Sides.{Sides}
 use Rattle.rules.specs.Grid.{size, voxels, touch, neighbourhood}
@@ -143,21 +144,17 @@ module _ (s : Sides) (status : List ℕ) (w : Workable s status) where
     test-rested j = ap (λ (k : ℕ → Bool). test (neighbourhood s k j)) (kept-stayed s status lent i h p)
 
     pub face-examined :
-        (free : ℕ → Bool) (removed last : ℕ)
+        (free : ℕ → Bool) (last : Option ℕ)
         → let u = goes s free status i in
-        face_after s (examine s free status i) (removed + cond u 1 0) (latest last (cond u 1 0) i)
-        ≡ latest (face_after s status removed last) (cond u 1 0) (test_at s status i).face
+        face_after s (examine s free status i) (cond u (Some i) last) ≡ latest (face_after s status last) (cond u 1 0) (test_at s status i).face
     unfolding examine
-    face-examined free removed last = go (goes s free status i)
+    face-examined free = go (goes s free status i)
       where
-        go : (u : Bool) → face_after s (examined_as u s free status i) (removed + cond u 1 0) (latest last (cond u 1 0) i)
-            ≡ latest (face_after s status removed last) (cond u 1 0) (test_at s status i).face
-        go true =
-            let e : removed + 1 ≡ suc removed = omega arith in
-            ap (λ (n : ℕ). latest 6 n (test_at s (without s free status i) i).face) e ∙ ap (λ (t : Test). t.face) (test-gone free)
-        go false =
-            let e : removed + 0 ≡ removed = omega arith in
-            ap₂ (λ (n : ℕ) (t : Test). latest 6 n t.face) e (test-rested last)
+        go : (u : Bool) (last : Option ℕ)
+            → face_after s (examined_as u s free status i) (cond u (Some i) last) ≡ latest (face_after s status last) (cond u 1 0) (test_at s status i).face
+        go true last = ap (λ (t : Test). t.face) (test-gone free)
+        go false None = refl
+        go false (Some j) = ap (λ (t : Test). t.face) (test-rested j)
 
   pub workable-examine : (free : ℕ → Bool) (i : ℕ) → i < size s → is_pending status i ≡ true → Workable s (examine s free status i)
   unfolding examine
@@ -180,20 +177,17 @@ module _ (s : Sides) (m : Marked) (dist : List ℤ) (before after offsets tree f
     abbrev then : Bool → List ℕ
     then t = examined_as t s (may_go m dist) before i
 
-    abbrev one : Bool → ℕ
-    one t = cond t 1 0
-
     same : (t : Bool) → r ≡ t → t ≡ goes s (may_go m dist) before i
     same t f = sym f ∙ e
 
     pub gone-examined :
         r ≡ true → after ≡ without s (may_go m dist) before i → Queue m dist after offsets tree front head
-        → Examined s m dist before after offsets tree front i (record { removed = 1; head = head })
+        → Examined s m dist before after offsets tree front i (record { removed = true; head = head })
     unfolding examine
-    gone-examined t w x = record { count = ap one (same true t); status = w ∙ ap then (same true t); queue = x }
+    gone-examined t w x = record { gone = same true t; status = w ∙ ap then (same true t); queue = x }
 
     pub rest-examined :
         r ≡ false → after ≡ set before i (rested (status_of before i)) → Queue m dist after offsets tree front head
-        → Examined s m dist before after offsets tree front i (record { removed = 0; head = head })
+        → Examined s m dist before after offsets tree front i (record { removed = false; head = head })
     unfolding examine
-    rest-examined t w x = record { count = ap one (same false t); status = w ∙ ap then (same false t); queue = x }
+    rest-examined t w x = record { gone = same false t; status = w ∙ ap then (same false t); queue = x }

@@ -1,5 +1,5 @@
 -- Examinations over the queue of pending voxels: what they ask, and what they leave.
-use Rattle.std.specs.Prelude.{◌≡◌, true, cond, List, ℕ, ◌≤◌, ◌<◌, ℤ, get_or}
+use Rattle.std.specs.Prelude.{◌≡◌, true, List, ℕ, ◌≤◌, ◌<◌, ℤ, get_or}
 use Rattle.rules.specs.declared.Sides.{Sides}
 use Rattle.rules.specs.Grid.{size}
 use Rattle.rules.specs.Status.{is_kept, is_pending, any_pending, goes, examine, progress, carving}
@@ -29,17 +29,17 @@ pub record Examinable (s : Sides) (m : Marked) (dist : List ℤ) (status offsets
   pub first : get_or front head 0 ≡ key_at m.hurried dist status i
 
 pub record Examined (s : Sides) (m : Marked) (dist : List ℤ) (before after offsets tree front : List ℕ) (i : ℕ) (r : Step) : Type 0 where
-  pub count : r.removed ≡ cond (goes s (may_go m dist) before i) 1 0
+  pub gone : r.removed ≡ goes s (may_go m dist) before i
   pub status : after ≡ examine s (may_go m dist) before i
   pub queue : Queue m dist after offsets tree front r.head
 
 -- ---- up to so many examinations
 
 pub record Run (s : Sides) (m : Marked) (dist : List ℤ) (limit : ℕ) (before after offsets tree front : List ℕ) (c : Count) : Type 0 where
-  pub rule : progress c.examined c.removed (face_after s after c.removed c.last) after ≡ carving s (may_go m dist) (sooner m dist) limit before
+  pub rule : progress c.examined c.removed (face_after s after c.last) after ≡ carving s (may_go m dist) (sooner m dist) limit before
   pub up_to : c.examined ≤ limit
   pub fewer : c.removed ≤ c.examined
-  pub last : LastAt s after c.removed c.last
+  pub last : LastAt s after c.last
   pub queue : Queue m dist after offsets tree front c.head
 
 -- buffers to work on, and room for their queue

@@ -7,13 +7,12 @@ ghost use Rattle.queue.specs.Queue.{Queue};
 ghost use Rattle.queue_waking.specs.QueueWaking.{Near};
 ghost use Rattle.examining.specs.Examining.{Workable, Examinable, Examined, Run, Lending, Tallied};
 
-use queue::Choice;
 use rules::Sides;
 
-// Whether the voxel was removed, 1 or 0, and where the front begins now.
+// Whether the voxel was removed, and where the front begins now.
 #[derive(Clone, Copy)]
 pub struct Step {
-    pub removed: u32,
+    pub removed: bool,
     pub head: usize,
 }
 
@@ -51,26 +50,27 @@ fn examine(
         status::left(gone, x),
     );
     if gone {
-        let woken = queue_waking::wake_around(
+        let head = queue_waking::wake_around(
             s, dist, marks, status, offsets, tree, front, rest, near, i, block,
         );
-        return Step {
-            removed: 1,
-            head: woken,
-        };
-    }
-    Step {
-        removed: 0,
-        head: rest,
+        Step {
+            removed: true,
+            head,
+        }
+    } else {
+        Step {
+            removed: false,
+            head: rest,
+        }
     }
 }
 
-// How many voxels were examined, how many of them removed, the last of these, and where the front begins.
+// How many voxels were examined, how many of them removed, the last of these, if any, and where the front begins.
 #[derive(Clone, Copy)]
 pub struct Count {
     pub examined: u32,
     pub removed: u32,
-    pub last: usize,
+    pub last: Option<usize>,
     pub head: usize,
 }
 
@@ -92,32 +92,26 @@ fn run(
     ensures { Run s (marked marks.now) dist.now limit status.old status.new offsets.new
         tree.new front.new result }
 {
-    let mut examined: u32 = 0;
-    let mut removed: u32 = 0;
-    let mut last: usize = 0;
+    let mut examined = 0;
+    let mut removed = 0;
+    let mut last = None;
     let mut head = first;
-    while examined < limit {
+    for _ in 0..limit {
         head = refilling::filled(dist, marks, status, offsets, tree, front, head);
-        let next = queue::first(dist, marks, status, offsets, tree, front, head);
-        let Choice::At(i) = next else {
-            return Count {
-                examined: examined,
-                removed: removed,
-                last: last,
-                head: head,
-            };
+        let Some(i) = queue::first(dist, marks, status, offsets, tree, front, head) else {
+            break;
         };
         let step = examine(s, dist, marks, status, offsets, tree, front, head, near, i);
         last = last_removal::later(last, step.removed, i);
-        removed += step.removed;
+        removed += u32::from(step.removed);
         head = step.head;
         examined += 1;
     }
     Count {
-        examined: examined,
-        removed: removed,
-        last: last,
-        head: head,
+        examined,
+        removed,
+        last,
+        head,
     }
 }
 
@@ -149,11 +143,10 @@ pub fn carve(
     let c = run(
         s, dist, marks, status, offsets, tree, front, first, &near, limit,
     );
-    let left = queue::any_pending(dist, marks, status, offsets, tree, front, c.head);
     Tally {
         examined: c.examined,
         removed: c.removed,
-        pending: left,
-        face: last_removal::last_face(s, status, c.removed, c.last),
+        pending: queue::any_pending(dist, marks, status, offsets, tree, front, c.head),
+        face: last_removal::last_face(s, status, c.last),
     }
 }

@@ -3,21 +3,23 @@
 
 ghost use Rattle.std.specs.Prelude.{◌≡◌, ◌++◌, true, ◌+◌, ◌*◌, ◌≤◌, length, drop};
 ghost use Rattle.rules.specs.Grid.{fit_sides};
-ghost use Rattle.format.specs.Bytes.{Width};
+ghost use Rattle.words.specs.Widths.{bytes_in};
+ghost use Rattle.std.proofs.lemmas.List.Edits.{sets};
+ghost use Rattle.format.specs.Bytes.{half, Holds, value_bytes};
 ghost use Rattle.format.specs.Layer.{kind_of};
 ghost use Rattle.format.specs.File.{header_length};
 ghost use Rattle.format.specs.Written.{header_form, Held, values_form, layer_form};
 
 use rules::Sides;
+use words::Width;
 
-fn kind_of(width: usize) -> u8
-    requires { Width width }
-    ensures { result ≡ kind_of width }
+fn kind_of(width: Width) -> u8
+    ensures { result ≡ kind_of (bytes_in width) }
 {
-    if width == 4 {
-        return 0x57;
+    match width {
+        Width::Two => 0x4C,
+        Width::Four => 0x57,
     }
-    0x4C
 }
 
 pub fn write_header(sides: Sides, allowed: u16, file: &mut [u8])
@@ -29,29 +31,37 @@ pub fn write_header(sides: Sides, allowed: u16, file: &mut [u8])
     file[2] = sides.a as u8;
     file[3] = sides.b as u8;
     file[4] = sides.c as u8;
-    words::put_word(file, 5, 2, allowed as u32);
+    words::put_word(file, 5, Width::Two, u32::from(allowed));
 }
 
-// Writes values, width bytes each.
-fn write_values(width: usize, values: &[i32], bytes: &mut [u8])
-    requires { (Held width values.now) × (length bytes.old ≡ width * length values.now) }
-    ensures { bytes.new ≡ values_form width values.now }
+// Puts a value at index i. The whole place is reckoned behind the test of the width, so that a compiler makes a loop for each.
+fn put_value_at(bytes: &mut [u8], width: Width, i: usize, v: i32)
+    requires { (bytes_in width * i + bytes_in width ≤ length bytes.old) × (Holds (half (bytes_in width)) v) }
+    ensures { bytes.new ≡ sets bytes.old (bytes_in width * i) (value_bytes (bytes_in width) v) }
 {
-    let mut i = 0;
-    while i < values.len() {
-        words::put_value(bytes, width * i, width, values[i]);
-        i += 1;
+    match width {
+        Width::Two => words::put_value(bytes, 2 * i, Width::Two, v),
+        Width::Four => words::put_value(bytes, 4 * i, Width::Four, v),
+    }
+}
+
+// Writes values, each of that width.
+fn write_values(width: Width, values: &[i32], bytes: &mut [u8])
+    requires { (Held (bytes_in width) values.now) × (length bytes.old ≡ bytes_in width * length values.now) }
+    ensures { bytes.new ≡ values_form (bytes_in width) values.now }
+{
+    for (i, v) in values.iter().enumerate() {
+        put_value_at(bytes, width, i, *v);
     }
 }
 
 // The record of layer z.
-pub fn write_layer(width: usize, z: u8, values: &[i32], bytes: &mut [u8])
-    requires { (Held width values.now) × (length bytes.old ≡ 3 + width * length values.now) }
-    ensures { bytes.new ≡ layer_form width z values.now }
+pub fn write_layer(width: Width, z: u8, values: &[i32], bytes: &mut [u8])
+    requires { (Held (bytes_in width) values.now) × (length bytes.old ≡ 3 + bytes_in width * length values.now) }
+    ensures { bytes.new ≡ layer_form (bytes_in width) z values.now }
 {
     bytes[0] = 0x56;
     bytes[1] = kind_of(width);
     bytes[2] = z;
-    let end = bytes.len();
-    write_values(width, values, &mut bytes[3..end]);
+    write_values(width, values, &mut bytes[3..]);
 }

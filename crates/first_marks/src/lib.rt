@@ -13,16 +13,15 @@ const PENDING: u8 = 3;
 fn marked_status(d: i32, hurried: bool, pinned: bool, x: u8) -> u8
     ensures { result ≡ marked_status d hurried pinned x }
 {
-    if (d < 0) | (x == 0) {
-        return x;
+    if d < 0 || x == 0 {
+        x
+    } else if hurried {
+        PENDING
+    } else if pinned {
+        1
+    } else {
+        x
     }
-    if hurried {
-        return PENDING;
-    }
-    if pinned {
-        return 1;
-    }
-    x
 }
 
 // The status at first of each voxel that has a mark, in place of the one without marks.
@@ -31,13 +30,8 @@ pub fn mark_statuses(status: &mut [u8], dist: &[i32], marks: &[u8])
     ensures { Each 0 (marked_status_at dist.now (marked marks.now)) 0 (length marks.now) status.old
         status.new }
 {
-    let mut i = 0;
-    while i < marks.len() {
-        let d = dist[i];
-        let h = marks::hurried(marks, i);
-        let p = marks::pinned(marks, i);
-        let v = marked_status(d, h, p, status[i]);
-        status[i] = v;
-        i += 1;
+    // three slices by one index
+    for (i, &mark) in marks.iter().enumerate() {
+        status[i] = marked_status(dist[i], marks::hurries(mark), marks::pins(mark), status[i]);
     }
 }

@@ -6,12 +6,13 @@ ghost use Rattle.cells.specs.Groups.{any};
 ghost use Rattle.rules.specs.Grid.{size, range};
 ghost use Rattle.rules.specs.Status.{is_pending};
 ghost use Rattle.rules.specs.Checks.{first_failing};
+ghost use Rattle.rules.specs.Refusals.{number_in};
 ghost use Rattle.rules.specs.Machine.{state, unfit_counts, unfit, state_checks, working_checks, finished_checks, marked_checks};
 ghost use Rattle.rules.specs.Fit.{Lent};
 ghost use Rattle.marks.specs.Lent.{All};
 ghost use Rattle.fitness.specs.Numbers.{lent_checks};
 
-use rules::Record;
+use rules::{Record, Refusal};
 
 fn unfit_counts(given: Record, n: usize) -> bool
     requires { (n ≡ size given.sides) × (n ≤ 262144) }
@@ -19,27 +20,27 @@ fn unfit_counts(given: Record, n: usize) -> bool
 {
     let limit = n as u64;
     let allowed = given.allowed as u32;
-    let euler = numbers::magnitude(given.euler);
+    let euler = u64::from(given.euler.unsigned_abs());
     (allowed < given.openings)
         | ((limit < given.removals) | ((27 * limit < given.examinations) | (8 * limit < euler)))
 }
 
-// Checks 1 and 2: the number of the first that fails, or 0.
-fn lent_refusal(given: Record, dist: &[i32], status: &[u8]) -> u8
-    ensures { result ≡ first_failing (lent_checks (state given dist.now status.now)) }
+// Checks 1 and 2, the first that fails.
+fn lent_refusal(given: Record, dist: &[i32], status: &[u8]) -> Result<(), Refusal>
+    ensures { number_in result ≡ first_failing (lent_checks (state given dist.now status.now)) }
 {
     let s = given.sides;
     if !sizes::fit_sides(s) {
-        return 1;
+        return Err(Refusal::Side);
     }
     let n = sizes::voxel_count(s);
     if dist.len() != n {
-        return 2;
+        return Err(Refusal::Length);
     }
     if status.len() != n {
-        return 2;
+        return Err(Refusal::Length);
     }
-    0
+    Ok(())
 }
 
 // Check 7, on buffers of the grid's size.
@@ -55,13 +56,13 @@ pub fn unfit_state(given: Record, dist: &[i32], status: &[u8]) -> bool
 }
 
 // Check 8, of a grid that is finished or not.
-fn worked_refusal(finished: bool) -> u8
-    ensures { result ≡ cond finished 8 0 }
+fn worked_refusal(finished: bool) -> Result<(), Refusal>
+    ensures { number_in result ≡ cond finished 8 0 }
 {
     if finished {
-        return 8;
+        return Err(Refusal::Finished);
     }
-    0
+    Ok(())
 }
 
 // Check 13: some voxel is pending.
@@ -72,61 +73,55 @@ pub fn any_pending(status: &[u8]) -> bool
 }
 
 // Checks 1, 2 and 7.
-fn refusal(given: Record, dist: &[i32], status: &[u8]) -> u8
-    ensures { result ≡ first_failing (state_checks (state given dist.now status.now)) }
+fn refusal(given: Record, dist: &[i32], status: &[u8]) -> Result<(), Refusal>
+    ensures { number_in result ≡ first_failing (state_checks (state given dist.now status.now)) }
 {
-    let n = lent_refusal(given, dist, status);
-    if n != 0 {
-        return n;
-    }
+    lent_refusal(given, dist, status)?;
     if unfit_state(given, dist, status) {
-        return 7;
+        return Err(Refusal::Unfit);
     }
-    0
+    Ok(())
 }
 
 // Checks 1, 2, 7 and 8: for a call that works on the grid.
-pub fn working_refusal(given: Record, dist: &[i32], status: &[u8]) -> u8
-    ensures { result ≡ first_failing (working_checks (state given dist.now status.now)) }
+pub fn working_refusal(given: Record, dist: &[i32], status: &[u8]) -> Result<(), Refusal>
+    ensures { number_in result ≡ first_failing (working_checks (state given dist.now status.now)) }
 {
-    let n = refusal(given, dist, status);
-    if n != 0 {
-        return n;
-    }
+    refusal(given, dist, status)?;
     worked_refusal(given.finished)
 }
 
 // Checks 1, 2, 7 and 9: for a call that looks at the surface of a finished grid.
-pub fn finished_refusal(given: Record, dist: &[i32], status: &[u8]) -> u8
-    ensures { result ≡ first_failing (finished_checks (state given dist.now status.now)) }
+pub fn finished_refusal(given: Record, dist: &[i32], status: &[u8]) -> Result<(), Refusal>
+    ensures { number_in result ≡ first_failing (finished_checks (state given dist.now status.now)) }
 {
-    let n = refusal(given, dist, status);
-    if n != 0 {
-        return n;
-    }
+    refusal(given, dist, status)?;
     if given.finished {
-        return 0;
+        return Ok(());
     }
-    9
+    Err(Refusal::NotFinished)
 }
 
 // Checks 1, 2, 7, 29 and 8: for a call that works on the grid with marks, which all joins.
-pub fn marked_refusal(given: Record, dist: &[i32], marks: &[u8], status: &[u8], all: u8) -> u8
+pub fn marked_refusal(
+    given: Record,
+    dist: &[i32],
+    marks: &[u8],
+    status: &[u8],
+    all: u8,
+) -> Result<(), Refusal>
     requires { All marks.now all }
-    ensures { result ≡ first_failing (marked_checks marks.now (state given dist.now status.now)) }
+    ensures { number_in result ≡ first_failing (marked_checks marks.now (state given dist.now status.now)) }
 {
-    let n = lent_refusal(given, dist, status);
-    if n != 0 {
-        return n;
-    }
+    lent_refusal(given, dist, status)?;
     if marks.len() != status.len() {
-        return 2;
+        return Err(Refusal::Length);
     }
     if unfit_state(given, dist, status) {
-        return 7;
+        return Err(Refusal::Unfit);
     }
     if 3 < all {
-        return 29;
+        return Err(Refusal::MarkByte);
     }
     worked_refusal(given.finished)
 }

@@ -1,5 +1,4 @@
 pub mod Offsets
 pub mod Flooding
 pub mod Spreading
-pub mod Signs
 pub mod Positions

@@ -14,15 +14,14 @@ pub fn entry(work: &[i32], at: usize) -> usize
     requires { (at < length work.now) × (is_negative (get_or work.now at (pos 0)) ≡ false) }
     ensures { get_or work.now at (pos 0) ≡ pos result }
 {
-    let v = work[at];
-    v as usize
+    work[at] as usize
 }
 
 // The patches at the offsets from base.
 fn push_each(
     label: &mut [u8],
     work: &mut [i32],
-    end: usize,
+    mut end: usize,
     base: usize,
     offsets: &[usize],
     patch: Patch,
@@ -31,13 +30,10 @@ fn push_each(
     ensures { fill_of label.new work.new result
         ≡ push_all (shifted base (spanned patch offsets.now)) (fill_of label.old work.old end) }
 {
-    let mut e = end;
-    let mut k = 0;
-    while k < offsets.len() {
-        e = pushing::push_patch(label, work, e, base + offsets[k], patch);
-        k += 1;
+    for offset in offsets {
+        end = pushing::push_patch(label, work, end, base + *offset, patch);
     }
-    e
+    end
 }
 
 // Takes the voxels that are linked to seed, lists them from start on, and returns where the list ends.
@@ -56,6 +52,7 @@ pub fn flood(
 {
     let mut end = pushing::push(label, work, start, seed);
     let mut at = start;
+    // each turn may make the list longer, so that no range gives the turns
     while at < end {
         let v = entry(work, at);
         end = push_each(label, work, end, v - back, offsets, patch);

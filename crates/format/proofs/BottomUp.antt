@@ -22,7 +22,8 @@ use Rattle.format.specs.Bytes.{tagged}
 use Rattle.format.specs.Layer.{narrow_kind, wide_kind, kind_of, width_at, record_length, z_at, layer_checks, read_layer_checks, layer_at, read_layer}
 use Rattle.format.specs.Patch.{patches_checks}
 use Rattle.format.specs.File.{sides_in, header_checks, layer_start, range_checks, record_checks, layers_checks, layers_end}
-use Rattle.format.specs.File.{records_checks, read_checks, Accepted, Header, accepted, read_up_to}
+use Rattle.format.specs.declared.Header.{Header}
+use Rattle.format.specs.File.{records_checks, read_checks, Accepted, accepted, read_up_to}
 use Rattle.format.specs.BottomUp.{any_order_checks, layers_in_any_order, any_order_read_checks, read_in_any_order, Takes, InOrder, BottomUp}
 use Rattle.format.proofs.Records.{order-holds, Checked, record-checked, checked-record}
 use Rattle.format.proofs.Headers.{no_answer, done-checked, done-sides, taken}

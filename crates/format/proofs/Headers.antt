@@ -15,7 +15,8 @@ use Rattle.rules.specs.Answer.{Reply, refused, done, untouched}
 use Rattle.rules.proofs.Checks.{by-checks, unless-held, numbered-append, hold-append, held_at}
 use Rattle.format.specs.Patch.{patches_checks}
 use Rattle.format.specs.File.{sides_in, allowed_in, fit_up_to, header_checks, layers_checks, layers_end, records_checks, read_checks}
-use Rattle.format.specs.File.{Accepted, Header, accepted, read_up_to}
+use Rattle.format.specs.declared.Header.{Header}
+use Rattle.format.specs.File.{Accepted, accepted, read_up_to}
 use Rattle.format.proofs.Patch.{patches-numbered}
 use Rattle.format.proofs.Records.{layers-numbered}
 

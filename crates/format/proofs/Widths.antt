@@ -23,7 +23,8 @@ use Rattle.format.specs.Bytes.{value_of, values_of}
 use Rattle.format.specs.Layer.{area, layer_length, width_at, layer_at, stretch, values_in, with_layer}
 use Rattle.format.specs.Patch.{patch_length, index_at, patch_at, patch_count, applied_of, patched}
 use Rattle.format.specs.File.{header_length, layer_start, range_checks, record_checks, layers_checks, layers_filled, layers_end}
-use Rattle.format.specs.File.{read_checks, Accepted, Header, filled, accepted, read_up_to}
+use Rattle.format.specs.declared.Header.{Header}
+use Rattle.format.specs.File.{read_checks, Accepted, filled, accepted, read_up_to}
 use Rattle.format.specs.BottomUp.{Takes}
 use Rattle.format.specs.Widths.{Even, layer_due, Widths}
 use Rattle.format.proofs.Widening.{widening}

@@ -8,7 +8,8 @@ use Rattle.rules.specs.declared.Sides.{Sides}
 use Rattle.rules.specs.Grid.{size}
 use Rattle.rules.specs.Checks.{Check, unless}
 use Rattle.rules.specs.Answer.{Outcome, outcome, done, untouched}
-use Rattle.format.specs.File.{sides_in, allowed_in, header_checks, layers_checks, layers_end, filled, Header, read_up_to}
+use Rattle.format.specs.declared.Header.{Header}
+use Rattle.format.specs.File.{sides_in, allowed_in, header_checks, layers_checks, layers_end, filled, read_up_to}
 use Rattle.format.specs.WithoutPatches.{layers_alone, WithoutPatches}
 use Rattle.format.proofs.Patch.{checks-none, patched-none}
 

@@ -18,7 +18,8 @@ use Rattle.rules.proofs.Answers.{answers}
 use Rattle.format.specs.Bytes.{signed, widened, value_of, unsigned, narrowed, value_bytes}
 use Rattle.format.specs.Layer.{width_at, read_layer, Part}
 use Rattle.format.specs.Patch.{applied_of, patches_checks}
-use Rattle.format.specs.File.{sides_in, header_checks, layer_start, record_checks, layers_checks, layers_end, Header, accepted, read_up_to, read}
+use Rattle.format.specs.declared.Header.{Header}
+use Rattle.format.specs.File.{sides_in, header_checks, layer_start, record_checks, layers_checks, layers_end, accepted, read_up_to, read}
 use Rattle.format.specs.Written.{width_for, values_form, layers_form, write}
 use Rattle.format.specs.Examples.Layer.{layer_record, wide_record}
 use Rattle.format.specs.Examples.Patch.{patch}

@@ -8,7 +8,8 @@ use Rattle.rules.specs.Begin.{is_in}
 use Rattle.format.specs.Bytes.{tagged}
 use Rattle.format.specs.Layer.{kind_of, width_at, z_at, layer_checks, read_layer}
 use Rattle.format.specs.Patch.{patches_checks}
-use Rattle.format.specs.File.{sides_in, header_checks, layer_start, range_checks, layers_end, Header, accepted, read_up_to}
+use Rattle.format.specs.declared.Header.{Header}
+use Rattle.format.specs.File.{sides_in, header_checks, layer_start, range_checks, layers_end, accepted, read_up_to}
 
 -- ---- read before CR 4: layers in any order, each once. What it writes is what read writes now
 

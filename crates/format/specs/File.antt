@@ -2,6 +2,7 @@
 use Rattle.std.specs.Prelude.{◌≡◌, Bool, true, not, ◌&&◌, List, [], ◌∷◌, ◌++◌, ℕ, zero, suc, ◌+◌, ◌≤◌, leb, ltb, eqb, length, ℤ}
 use Rattle.prelude.specs.Lists.{any}
 use Rattle.rules.specs.declared.Sides.{Sides}
+use Rattle.format.specs.declared.Header.{Header}
 use Rattle.rules.specs.Value.{stray}
 use Rattle.rules.specs.Grid.{fit_sides, size}
 use Rattle.rules.specs.Checks.{Check, ◌when◌, unless, AllHold}
@@ -92,10 +93,6 @@ unfoldable pub filled : Sides → List ℕ → List ℤ → List ℤ
 filled s file lent = patched file (layers_end s file) (layers_filled s file s.c 0 lent)
 
 -- read answers sides and T, and fills the value buffer
-pub record Header : Type 0 where
-  pub sides : Sides
-  pub allowed : ℕ
-
 abbrev pub accepted : List ℕ → List ℤ → Outcome (List ℤ) Header
 accepted file lent =
     let s = sides_in file in

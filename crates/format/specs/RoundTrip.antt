@@ -6,7 +6,8 @@ use Rattle.rules.specs.Value.{stray}
 use Rattle.rules.specs.Grid.{fit_sides, size}
 use Rattle.rules.specs.Answer.{Outcome, outcome, done}
 use Rattle.format.specs.Layer.{layer_length}
-use Rattle.format.specs.File.{header_length, Header, read}
+use Rattle.format.specs.declared.Header.{Header}
+use Rattle.format.specs.File.{header_length, read}
 use Rattle.format.specs.Written.{layer_values, width_for, layer_form, written_form, written_length, write}
 
 -- a grid that write takes: the last is what the type of T says

@@ -7,7 +7,8 @@ use Rattle.rules.specs.Value.{stray}
 use Rattle.rules.specs.Checks.{AllHold}
 use Rattle.format.specs.Layer.{layer_length, width_at, layer_at, values_in}
 use Rattle.format.specs.Patch.{patched}
-use Rattle.format.specs.File.{header_length, layer_start, range_checks, layers_end, Header, read_up_to}
+use Rattle.format.specs.declared.Header.{Header}
+use Rattle.format.specs.File.{header_length, layer_start, range_checks, layers_end, read_up_to}
 use Rattle.format.specs.BottomUp.{Takes}
 
 -- the first so many layers have one width

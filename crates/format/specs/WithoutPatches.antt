@@ -2,7 +2,8 @@
 use Rattle.std.specs.Prelude.{◌≡◌, List, ◌++◌, ℕ, ◌≤◌, length, ℤ}
 use Rattle.rules.specs.Checks.{unless}
 use Rattle.rules.specs.Answer.{Outcome, outcome, done, untouched}
-use Rattle.format.specs.File.{sides_in, allowed_in, header_checks, layers_checks, layers_filled, layers_end, Header, read_up_to}
+use Rattle.format.specs.declared.Header.{Header}
+use Rattle.format.specs.File.{sides_in, allowed_in, header_checks, layers_checks, layers_filled, layers_end, read_up_to}
 
 abbrev pub layers_alone : List ℕ → List ℤ → Outcome (List ℤ) Header
 layers_alone file lent =

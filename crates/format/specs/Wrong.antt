@@ -13,7 +13,8 @@ use Rattle.format.specs.Bytes.{byte_at, word, Width, half, signed, widened, valu
 use Rattle.format.specs.Layer.{narrow_kind, wide_kind, area, layer_length, width_at, record_length, z_at, layer_checks, read_layer, stretch, handed_back}
 use Rattle.format.specs.Patch.{patch_length, index_at, patch_at, patch_checks, patch_count, patches_checks, patched}
 use Rattle.format.specs.File.{header_length, sides_in, allowed_in, fit_up_to, header_checks, layer_start, order_checks, range_checks, record_checks}
-use Rattle.format.specs.File.{layers_filled, layers_end, read_checks, filled, Header, read}
+use Rattle.format.specs.declared.Header.{Header}
+use Rattle.format.specs.File.{layers_filled, layers_end, read_checks, filled, read}
 use Rattle.format.specs.Written.{header_form, layer_values, width_for, layer_form, written_form, written_length, size_checks, grid_checks, write_checks, write}
 use Rattle.format.specs.Examples.File.{narrow, lent}
 

@@ -15,8 +15,12 @@ use Rattle.bits.specs.Lowest.{Lowest}
 use Rattle.keys.specs.Key.{greatest, width, stretch_key}
 use Rattle.keys.proofs.Greatest.{greatest-none, greatest-lift, greatest-moved}
 use Rattle.masks.proofs.Crossing.{has-none}
-use Rattle.keys.proofs.Scanning.{left_over, taken-over}
+use Rattle.keys.proofs.Scanning.{left_over}
 use Rattle.front.specs.Front.{lead, up_to, Parted}
+
+-- a key is taken from those that are left
+taken-over : (k r n x y t : ℕ) → max k x ≡ t → x ≡ max y r → max k r ≡ n → max n y ≡ t
+taken-over k r n x y t e f g = omega arith
 
 module _ (key : ℕ → ℕ) (floor j : ℕ) where
   pub up-to-as : (b : Bool) → ltb floor (key j) ≡ b → up_to floor key j ≡ cond b 0 (key j)

@@ -2,16 +2,15 @@
 // the greater ones, mostly few, down by one; and the greatest keys of a stretch make a new list.
 #![tactic(auto)]
 
-ghost use Rattle.std.specs.Prelude.{◌≡◌, cond, ℕ, ◌+◌, ◌-◌, ◌≤◌, ◌<◌, ltb, length, get_or};
+ghost use Rattle.std.specs.Prelude.{◌≡◌, cond, ℕ, ◌-◌, ◌≤◌, ◌<◌, ltb, length, get_or};
 ghost use Rattle.rules.specs.Marks.{marked};
 ghost use Rattle.keys.specs.Key.{key_at};
 ghost use Rattle.front.specs.Front.{Falling, Inserted, Parting, Parted};
 
-// How many voxels make a stretch.
-const WIDTH: usize = 64;
+use keys::WIDTH;
 
 // How many places are free before the first key of a new list.
-const LEAD: usize = 48;
+pub const LEAD: usize = 48;
 
 // Puts w in its place before or among the keys from head on, and gives the new head.
 pub fn insert(front: &mut [u64], head: usize, w: u64) -> usize
@@ -19,6 +18,7 @@ pub fn insert(front: &mut [u64], head: usize, w: u64) -> usize
     ensures { Inserted front.old front.new head w × (result ≡ head - 1) }
 {
     let mut p = head;
+    // the place is where the greater keys, moved on the way, end
     while w < front[p] {
         front[p - 1] = front[p];
         p += 1;
@@ -33,18 +33,7 @@ pub fn end_of(front: &[u64], head: usize) -> usize
     ensures { (head ≤ result) × (result < length front.now) × (get_or front.now result 0 ≡ 0)
         × ((p : ℕ) → head ≤ p → p < result → 0 < get_or front.now p 0) }
 {
-    let mut e = head;
-    while 0 < front[e] {
-        e += 1;
-    }
-    e
-}
-
-// 1 where a key is above the floor.
-fn above(floor: u64, x: u64) -> usize
-    ensures { (result ≡ cond (ltb floor x) 1 0) × (result ≤ 1) }
-{
-    if floor < x { 1 } else { 0 }
+    head + front[head..].iter().take_while(|key| **key != 0).count()
 }
 
 // The key, or 0 where it is above the floor.
@@ -71,12 +60,13 @@ pub fn part(
     let mut e = LEAD;
     let mut g: u64 = 0;
     let mut m = masks::pending_bits(status, at);
+    // each turn takes the lowest bit
     while 0 < m {
         let x = keys::voxel_key(dist, marks, at + bits::lowest(m));
         front[e] = x;
-        e += above(floor, x);
-        g = numbers::greater_u64(g, up_to(floor, x));
-        m = m & (m - 1);
+        e += usize::from(floor < x);
+        g = g.max(up_to(floor, x));
+        m &= m - 1;
     }
     front[e] = 0;
     g

@@ -55,15 +55,6 @@ module _ (offsets : List ℕ) (back : ℕ) (L : List ℕ) where
     was-one : (v : ℕ) → get_or l v 0 ≡ 1 → get_or L v 0 ≡ 1
     was-one v e = ⊎_elim (λ q. sym q ∙ e) (λ t. let a = t.0.made in let z : ⊥ = omega arith in absurd z) (D.kept v)
 
-    pub still-gaps-to-flood : (room : ℕ) → GapsToFlood offsets back L room → GapsToFlood offsets back l room
-    still-gaps-to-flood room A =
-        record {
-          same = A.same ∙ sym D.len;
-          small = omega (arith, A.small, D.len);
-          low = λ v e. A.low v (was-one v e);
-          high = λ v j e n. omega (arith, A.high v j (was-one v e) n, D.len);
-        }
-
     -- no flood changes where a gap is open
     opens-same : (base : ℕ) → opens offsets base l ≡ opens offsets base L
     unfolding opens
@@ -155,43 +146,27 @@ module _ (offsets : List ℕ) (back : ℕ) (L : List ℕ) where
               (D.done u (let b = label-lt L u e in omega arith) e R.open_at)).made;
         }
 
--- ---- the loop: i is the next untaken voxel
+-- ---- the loop: the untaken voxels below next have been visited
 
-pub record FloodedSoFar (offsets : List ℕ) (back : ℕ) (L : List ℕ) (room n : ℕ) (l : List ℕ) (work : List ℤ) (i : ℕ) : Type 0 where
+pub record FloodedSoFar (offsets : List ℕ) (back : ℕ) (L : List ℕ) (room n : ℕ) (l : List ℕ) (work : List ℤ) (next : ℕ) : Type 0 where
   pub whole : n ≡ length L
-  pub upto : i ≤ n
+  pub upto : next ≤ n
   pub same : length work ≡ room
-  pub next : i < n → get_or l i 0 ≡ 1
-  pub flooding : Flooding offsets back L l i
+  pub flooding : Flooding offsets back L l next
 
 module _ (offsets : List ℕ) (back : ℕ) (L : List ℕ) where
-  pub flooded-begin : (work : List ℤ) (i : ℕ) → First L 1 0 (length L) i → FloodedSoFar offsets back L (length work) (length L) L work i
-  flooded-begin work i f =
-      record {
-        whole = refl;
-        upto = f.high;
-        same = refl;
-        next = f.found;
-        flooding = flooding-on offsets back L L 0 (flooding-start offsets back L) i f.low f.none_before;
-      }
-
-  module _ (room n : ℕ) (l : List ℕ) (work : List ℤ) (i : ℕ) (D : FloodedSoFar offsets back L room n l work i) where
-    pub flooded-ready : GapsToFlood offsets back L room → GapsToFlood offsets back l (length work)
-    flooded-ready A =
-        subst (λ (r : ℕ). GapsToFlood offsets back l r) (sym D.same) (still-gaps-to-flood offsets back L l i D.flooding room A)
-
-    pub flooded-more : i < n → (l' : List ℕ) (work' : List ℤ) → Visited offsets back i l l' work work' → length work' ≡ length work
-        → {k : ℕ} (j : ℕ) → k ≡ i + 1 → First l' 1 k n j → FloodedSoFar offsets back L room n l' work' j
-    flooded-more more l' work' seen e j q f =
+  module _ (room n : ℕ) (l : List ℕ) (work : List ℤ) (next : ℕ) (D : FloodedSoFar offsets back L room n l work next) where
+    pub flooded-more : (i : ℕ) → First l 1 next n i → (l' : List ℕ) (work' : List ℤ) → Visited offsets back i l l' work work'
+        → length work' ≡ length work → FloodedSoFar offsets back L room n l' work' (i + 1)
+    flooded-more i f l' work' seen e =
         record {
           whole = D.whole;
-          upto = f.high;
+          upto = omega (arith, f.high);
           same = e ∙ D.same;
-          next = f.found;
           flooding =
-              flooding-on offsets back L l' (i + 1) (flooding-visited offsets back L l i D.flooding (D.next more) l' work work' seen) j
-              (omega (arith, f.low)) (λ v a b. f.none_before v (omega arith) b);
+              flooding-visited offsets back L l i (flooding-on offsets back L l next D.flooding i f.low f.none_before) f.found l' work work' seen;
         }
 
-    pub flooded-end : n ≤ i → OpenGapsFlooded offsets back L l
-    flooded-end h = flooding-done offsets back L l i D.flooding (omega (arith, D.whole))
+    pub flooded-end : Absent l 1 next n → OpenGapsFlooded offsets back L l
+    flooded-end none =
+        flooding-done offsets back L l n (flooding-on offsets back L l next D.flooding n D.upto none) (omega (arith, D.whole))

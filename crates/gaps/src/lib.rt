@@ -32,13 +32,7 @@ fn opens(label: &[u8], base: usize, offsets: &[usize]) -> bool
     requires { (k : ℕ) → k < length offsets.now → base + get_or offsets.now k 0 < length label.now }
     ensures { result ≡ opens_of offsets.now base label.now }
 {
-    let mut found = false;
-    let mut k = 0;
-    while k < offsets.len() {
-        found = found | (label[base + offsets[k]] == 3);
-        k += 1;
-    }
-    found
+    offsets.iter().any(|o| label[base + *o] == 3)
 }
 
 // Floods from voxel i, if its gap is open beside it.
@@ -62,10 +56,11 @@ fn flood_open_gaps(label: &mut [u8], work: &mut [i32], offsets: &[usize], back: 
     ensures { OpenGapsFlooded offsets.now back label.old label.new }
 {
     let n = label.len();
-    let mut i = loops::first_of(label, 1, 0, n);
-    while i < n {
+    let mut next = 0;
+    // a flood takes some of the voxels that come next, so that the next one is looked for after it
+    while let Some(i) = loops::first_of(label, 1, next, n) {
         visit(label, work, i, offsets, back);
-        i = loops::first_of(label, 1, i + 1, n);
+        next = i + 1;
     }
 }
 

@@ -4,19 +4,14 @@
 ghost use Rattle.std.specs.Prelude.{◌≡◌, true, ◌≤◌, length};
 ghost use Rattle.rules.specs.Grid.{fit_sides, size};
 ghost use Rattle.rules.specs.Checks.{first_failing};
+ghost use Rattle.rules.specs.Refusals.{number_in, replied};
 ghost use Rattle.rules.specs.Answer.{outcome};
 ghost use Rattle.format.specs.File as spec;
 ghost use Rattle.format.specs.File.{header_length, sides_in, fit_up_to, header_checks, record_checks, records_checks, filled, read_checks, Accepted, read_up_to};
-ghost use Rattle.gridfile.specs.Answer.{read_answer};
 
-use rules::Sides;
-
-// What reading a file answers.
-#[derive(Clone, Copy)]
-pub enum ReadAnswer {
-    Grid { sides: Sides, allowed: u16 },
-    Refused(u8),
-}
+use format::Header;
+use rules::{Refusal, Sides};
+use words::Width;
 
 // ---- the header
 
@@ -25,9 +20,9 @@ pub fn sides_in(file: &[u8]) -> Sides
     ensures { result ≡ sides_in file.now }
 {
     Sides {
-        a: file[2] as usize,
-        b: file[3] as usize,
-        c: file[4] as usize,
+        a: usize::from(file[2]),
+        b: usize::from(file[3]),
+        c: usize::from(file[4]),
     }
 }
 
@@ -39,64 +34,56 @@ pub fn fit_up_to(sides: Sides, greatest: usize) -> bool
         & ((sides.a <= greatest) & ((sides.b <= greatest) & (sides.c <= greatest)))
 }
 
-// The number that the header is refused with, for a value buffer of that length, or 0.
-fn header_refusal(file: &[u8], lent: usize, greatest: usize) -> u8
-    ensures { result ≡ first_failing (header_checks greatest file.now lent) }
+// The checks of the header, for a value buffer of that length, the first that fails.
+fn header_refusal(file: &[u8], lent: usize, greatest: usize) -> Result<(), Refusal>
+    ensures { number_in result ≡ first_failing (header_checks greatest file.now lent) }
 {
     if file.len() < 7 {
-        return 21;
+        return Err(Refusal::Short);
     }
     if !words::is_tagged(file, 0, 0x48) {
-        return 22;
+        return Err(Refusal::Mark);
     }
     let sides = sides_in(file);
     if !fit_up_to(sides, greatest) {
-        return 1;
+        return Err(Refusal::Side);
     }
     if lent != sizes::voxel_count(sides) {
-        return 2;
+        return Err(Refusal::Length);
     }
-    0
+    Ok(())
 }
 
 // ---- the layer records
 
-// The number that the record at start is refused with where layer next is due, or 0.
-fn record_refusal(sides: Sides, file: &[u8], start: usize, next: usize) -> u8
+// The checks of the record at start where layer next is due, the first that fails.
+fn record_refusal(sides: Sides, file: &[u8], start: usize, next: usize) -> Result<(), Refusal>
     requires { fit_sides sides ≡ true }
-    ensures { result ≡ first_failing (record_checks sides file.now start next) }
+    ensures { number_in result ≡ first_failing (record_checks sides file.now start next) }
 {
-    let n = layers::layer_refusal(sides, file, start);
-    if n != 0 {
-        return n;
-    }
-    let z = file[start + 2] as usize;
+    layers::layer_refusal(sides, file, start)?;
+    let z = usize::from(file[start + 2]);
     if z < next {
-        return 24;
+        return Err(Refusal::LayerTwice);
     }
     if z != next {
-        return 27;
+        return Err(Refusal::LayerOrder);
     }
     if layers::has_stray(sides, file, start) {
-        return 28;
+        return Err(Refusal::Value);
     }
-    0
+    Ok(())
 }
 
-// The number that the records are refused with, or 0: each layer record before the next, then the patches behind them, in a grid of n voxels.
-fn records_refusal(sides: Sides, n: usize, file: &[u8]) -> u8
+// The checks of the records, each layer record before the next, then the patches behind them, in a grid of n voxels: the first that fails.
+fn records_refusal(sides: Sides, n: usize, file: &[u8]) -> Result<(), Refusal>
     requires { (fit_sides sides ≡ true) × (n ≡ size sides) }
-    ensures { result ≡ first_failing (records_checks sides file.now) }
+    ensures { number_in result ≡ first_failing (records_checks sides file.now) }
 {
     let mut start = 7;
-    let mut next = 0;
-    while next < sides.c {
-        let r = record_refusal(sides, file, start, next);
-        if r != 0 {
-            return r;
-        }
+    for next in 0..sides.c {
+        record_refusal(sides, file, start, next)?;
         start += layers::record_length(sides, file, start);
-        next += 1;
     }
     patches::patches_refusal(n, file, start)
 }
@@ -107,45 +94,37 @@ fn fill(sides: Sides, file: &[u8], values: &mut [i32])
     ensures { values.new ≡ filled sides file.now values.old }
 {
     let mut start = 7;
-    let mut left = sides.c;
-    while 0 < left {
+    for _layer in 0..sides.c {
         start = layers::fill_record(sides, file, start, values);
-        left -= 1;
     }
     patches::apply_patches(file, start, values);
 }
 
 // ---- read
 
-// The number that a file is refused with, for a value buffer of that length, or 0.
-fn refusal(file: &[u8], lent: usize, greatest: usize) -> u8
-    ensures { result ≡ first_failing (read_checks greatest file.now lent) }
+// The checks of a file, for a value buffer of that length, the first that fails.
+fn refusal(file: &[u8], lent: usize, greatest: usize) -> Result<(), Refusal>
+    ensures { number_in result ≡ first_failing (read_checks greatest file.now lent) }
 {
-    let n = header_refusal(file, lent, greatest);
-    if n != 0 {
-        return n;
-    }
+    header_refusal(file, lent, greatest)?;
     records_refusal(sides_in(file), lent, file)
 }
 
 // Read, for sides up to the greatest that the caller takes.
-pub fn read_up_to(file: &[u8], values: &mut [i32], greatest: usize) -> ReadAnswer
-    ensures { outcome (read_answer result) values.new ≡ read_up_to greatest file.now values.old }
+pub fn read_up_to(file: &[u8], values: &mut [i32], greatest: usize) -> Result<Header, Refusal>
+    ensures { outcome (replied result) values.new ≡ read_up_to greatest file.now values.old }
 {
-    let n = refusal(file, values.len(), greatest);
-    if n != 0 {
-        return ReadAnswer::Refused(n);
-    }
+    refusal(file, values.len(), greatest)?;
     let sides = sides_in(file);
     fill(sides, file, values);
-    ReadAnswer::Grid {
+    Ok(Header {
         sides,
-        allowed: words::word(file, 5, 2) as u16,
-    }
+        allowed: words::word(file, 5, Width::Two) as u16,
+    })
 }
 
-pub fn read(file: &[u8], values: &mut [i32]) -> ReadAnswer
-    ensures { outcome (read_answer result) values.new ≡ spec.read file.now values.old }
+pub fn read(file: &[u8], values: &mut [i32]) -> Result<Header, Refusal>
+    ensures { outcome (replied result) values.new ≡ spec.read file.now values.old }
 {
     read_up_to(file, values, 64)
 }

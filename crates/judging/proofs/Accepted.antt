@@ -21,7 +21,8 @@ use Rattle.rules.specs.Status.{is_kept}
 use Rattle.rules.specs.Machine.{State, lent_to, is_inside, working_checks}
 use Rattle.rules.proofs.Checks.{by-checks, hold-append, append-hold, held_at, unless-held, unless-after}
 use Rattle.judging.specs.Judge.{Entry, entry_length, entry_at, entry_count, entries_in, Body, start_from, less_one, can_pass, some_passes, can_open, allows}
-use Rattle.judging.specs.Judge.{goes, leaves, entry_checks, list_checks, Judgement, judgement_of, judge_checks, body_left, judge}
+use Rattle.judging.specs.declared.Judgement.{Judgement}
+use Rattle.judging.specs.Judge.{goes, leaves, entry_checks, list_checks, judgement_of, judge_checks, body_left, judge}
 use Rattle.judging.specs.Accepted.{kept_after, openings, change, NonePasses, InTurn, Accepted, Readable, Fair, counts_of}
 use Rattle.judging.specs.Accepted.{AcceptedExactlyWhen, NothingWritten, OnlyKeptIsRead}
 

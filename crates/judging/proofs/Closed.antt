@@ -3,7 +3,7 @@ use mathlib.Core.Path.{◌≡◌, refl, ap, sym, ◌∙◌, subst, fun_ext}
 use mathlib.Core.Logic.{inl, inr, ◌↔◌}
 use mathlib.Core.Bool.{Bool, true, false, not}
 use mathlib.Core.List.{List, []}
-use mathlib.Core.Option.{none}
+use Rattle.std.specs.Prelude.{None}
 use Prim.Native.Nat.{ℕ}
 use lib.IntN.{ℤ}
 use Rattle.prelude.proofs.Bools.{and-true, not-true, not-both, two}
@@ -73,7 +73,7 @@ module _ (s : Sides) (T : ℕ) (values : List ℤ) (marks : List ℕ) (start : �
     closed : NoneExposed s S (is_kept status)
     closed = subst (NoneExposed s S) (left-kept s T values marks start from l) none-exposed
 
-    none_left : to_open outer reached ≡ none
+    none_left : to_open outer reached ≡ None
     unfolding reached to_open openable removable
     none_left =
         none_first s (farther begun.dist) (farther-order begun.dist) (openable s outer status) (λ v h.

@@ -2,7 +2,7 @@
 use mathlib.Core.Path.{◌≡◌, refl, ap, ap₂, sym, ◌∙◌, subst}
 use mathlib.Core.Bool.{Bool, true, false, not, cond, ◌&&◌, true≢false}
 use mathlib.Core.List.{List, [], ◌∷◌, ◌++◌}
-use mathlib.Core.Option.{Option, none, some}
+use Rattle.std.specs.Prelude.{Option, None, Some}
 use Prim.Native.Nat.{ℕ, zero, suc, ◌+◌, ◌<◌}
 use native.Mathlib.Omega.{arith}
 use lib.IntN.{ℤ, pos, ◌+ℤ◌, ◌-ℤ◌, +ℤ_idr}
@@ -135,11 +135,11 @@ module _ (s : Sides) (S : ℕ → Bool) (T : ℕ) where
       first : (o : Option ℕ) → first_of s ahead (is_pending status) ≡ o
           → Runs b (examining s free status (λ i. carving s free ahead limit (examine s free status i)) o)
           (elim o [
-            | none ↦ []
-            | some i ↦ let more = removed_by s free ahead limit (examine s free status i) in cond (goes_at s free status i) (ordinary i ∷ more) more
+            | None ↦ []
+            | Some i ↦ let more = removed_by s free ahead limit (examine s free status i) in cond (goes_at s free status i) (ordinary i ∷ more) more
           ])
-      first none e = nothing_run b status same
-      first (some i) e =
+      first None e = nothing_run b status same
+      first (Some i) e =
           let f = first-foremost s ahead order (is_pending status) i e in examined i f.below f.chosen (goes_at s free status i) refl
 
     carving-runs : (limit : ℕ) (status : List ℕ) → FromHere limit status
@@ -245,8 +245,8 @@ module _ (S held : ℕ → Bool) (total : ℕ) (g : State) (good : Good S held t
 
       through : Openable marks g → (o : Option ℕ) → to_open free g ≡ o → let p = opened free (the_voxel o) g in
           InStep (not (is_refused p.answer)) (if_done p.answer (λ r. opening r.index ∷ [])) (after (λ r. r.next) g p)
-      through w none e = absurd (true≢false (ap is_none (sym e) ∙ w.found))
-      through w (some i) e =
+      through w None e = absurd (true≢false (ap is_none (sym e) ∙ w.found))
+      through w (Some i) e =
           unfold opened Allowed leaves goes test_at in
           let first = first-foremost s (farther g.dist) (farther-order g.dist) (openable s free g.status) i (unfold to_open in e) in
           let o = and-true (removable free g.status i) (exposed s (is_kept g.status) i) (unfold openable in first.chosen) in

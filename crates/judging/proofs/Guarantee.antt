@@ -15,7 +15,8 @@ use Rattle.rules.specs.Meaning.{found}
 use Rattle.rules.proofs.Topology.Moves.{Shape}
 use Rattle.rules.proofs.Topology.Steps.{Tally, Sound, sound-taken, sound-opened}
 use Rattle.rules.proofs.Demand.{all_held, Startable, start_state, FromStart, from-begin}
-use Rattle.judging.specs.Judge.{Entry, entries_in, Body, start_from, less_one, allows, goes, leaves, Judgement, judgement_of}
+use Rattle.judging.specs.declared.Judgement.{Judgement}
+use Rattle.judging.specs.Judge.{Entry, entries_in, Body, start_from, less_one, allows, goes, leaves, judgement_of}
 use Rattle.judging.specs.Accepted.{kept_after, InTurn, Accepted, counts_of}
 use Rattle.judging.specs.Guarantee.{AcceptedList, Guarantee, ListGuaranteed, BegunGuarantee, CoarseGuarantee}
 use Rattle.judging.proofs.Accepted.{Follows, allowed-turn, accepted-follows, leaves_kept, leaves-counts, accepted-exactly-when}

@@ -22,7 +22,8 @@ use Rattle.rules.proofs.Topology.Calls.{Good, Held, call-keeps}
 use Rattle.rules.proofs.Demand.{lends-map, all_held, held_all, Startable, start_state, FromStart, from-begin}
 use Rattle.rules.proofs.NeverUnfit.{start-fit}
 use Rattle.format.proofs.Sizes.{size_small}
-use Rattle.judging.specs.Judge.{Entry, entries_in, Body, start_from, Judgement, judge}
+use Rattle.judging.specs.declared.Judgement.{Judgement}
+use Rattle.judging.specs.Judge.{Entry, entries_in, Body, start_from, judge}
 use Rattle.judging.specs.Accepted.{NonePasses, Accepted, AllReadable, counts_of}
 use Rattle.judging.specs.Own.{list_bytes, own_list, OwnAccepted, opens_at, OpenLast}
 use Rattle.judging.specs.Own.{AcceptedOpeningLast, OwnListExactlyWhen, CoarseOwnListExactlyWhen, PinNothing, UnpinnedAccepted, OwnListIsAccepted}

@@ -9,7 +9,8 @@ use Rattle.rules.specs.Checks.{Check, unless}
 use Rattle.rules.specs.Answer.{Reply, refused, done}
 use Rattle.rules.specs.Machine.{State, state, is_inside, count, lent_to, working_checks}
 use Rattle.rules.specs.Cases.{case_c}
-use Rattle.judging.specs.Judge.{entry_length, entry_at, entry_count, Body, goes, list_checks, Judgement, judgement_of, body_left, judge_checks, judge}
+use Rattle.judging.specs.declared.Judgement.{Judgement}
+use Rattle.judging.specs.Judge.{entry_length, entry_at, entry_count, Body, goes, list_checks, judgement_of, body_left, judge_checks, judge}
 use Rattle.judging.specs.Own.{ordinary, opening, list_bytes}
 use Rattle.judging.specs.Examples.{strange, body, resting_d, ring, arc, two_within, cross, opened_before}
 use Rattle.judging.specs.Wrong.{list_by, judge_by, fresh, in_order, in_turn, still_passes, JudgeInParts, WrongJudges, JudgeAnswers}

@@ -10,7 +10,8 @@ use Rattle.rules.specs.Answer.{done}
 use Rattle.rules.specs.Status.{is_kept}
 use Rattle.rules.specs.Machine.{State, is_inside, working_checks, lent_to}
 use Rattle.format.specs.Bytes.{tagged}
-use Rattle.judging.specs.Judge.{Entry, entry_length, entry_at, entries_in, less_one, Judgement, judge}
+use Rattle.judging.specs.declared.Judgement.{Judgement}
+use Rattle.judging.specs.Judge.{Entry, entry_length, entry_at, entries_in, less_one, judge}
 
 -- ---- what entries do
 

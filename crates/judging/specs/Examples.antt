@@ -10,7 +10,8 @@ use Rattle.rules.specs.Machine.{State, state, count, as_finished}
 use Rattle.rules.specs.Demand.{carve_up_to, open_one}
 use Rattle.rules.specs.Marks.{no_marks}
 use Rattle.rules.specs.Cases.{sides, case_c, case_d, mark_d}
-use Rattle.judging.specs.Judge.{Entry, Judgement, judge}
+use Rattle.judging.specs.declared.Judgement.{Judgement}
+use Rattle.judging.specs.Judge.{Entry, judge}
 use Rattle.judging.specs.Own.{ordinary, opening, list_bytes, own_list}
 
 abbrev pub judgement : ℕ → ℕ → ℕ → Reply Judgement

@@ -13,7 +13,8 @@ use Rattle.rules.specs.Machine.{State, state, open_next}
 use Rattle.rules.specs.Demand.{Call, run, Promise, FromBegin}
 use Rattle.rules.specs.Fifteen.{OpenToBorder}
 use Rattle.coarse.specs.Promises.{FromCoarse}
-use Rattle.judging.specs.Judge.{Entry, entries_in, Judgement, judge}
+use Rattle.judging.specs.declared.Judgement.{Judgement}
+use Rattle.judging.specs.Judge.{Entry, entries_in, judge}
 use Rattle.judging.specs.Accepted.{kept_after, change}
 use Rattle.judging.specs.Own.{PinNothing}
 

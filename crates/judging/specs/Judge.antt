@@ -10,7 +10,7 @@ use Rattle.rules.specs.Answer.{Reply, refused, done, Outcome, outcome, untouched
 use Rattle.rules.specs.Status.{is_kept}
 use Rattle.rules.specs.Machine.{State, lent_to, is_inside, working_checks}
 use Rattle.format.specs.Bytes.{word, tagged}
-use Rattle.judging.specs.declared.Judged.{Judged}
+use Rattle.judging.specs.declared.Judgement.{Judgement}
 
 -- ---- "Records are hex 56 52 (ordinary) or hex 56 4F (opening), then a four-byte index"
 
@@ -97,16 +97,7 @@ module _ (s : Sides) (S : ℕ → Bool) where
 
 -- ---- the call: "Checks 1, 2, 7 and 8 come first"
 
--- "The answer is removals, openings and Euler number"
-pub record Judgement : Type 0 where
-  pub removed : ℕ
-  pub opened : ℕ
-  pub euler : ℤ
-
-abbrev pub judged_answer : Judged → Reply Judgement
-judged_answer (Judged.Accepted removed opened euler) = done (record { removed = removed; opened = opened; euler = euler })
-judged_answer (Judged.Refused n) = refused n
-
+-- "The answer is removals, openings and Euler number": Judgement
 abbrev pub judge_checks : List ℕ → State → List Check
 judge_checks list g =
     working_checks g ++ list_checks g.rec.sides (is_inside g.dist) g.rec.allowed list (entry_count list) 0 (start_from g.status)

@@ -1,6 +1,5 @@
 -- Document 02's CR 11: the list of removals that our own calls make, written as bytes. proofs/ReadBack.antt and proofs/Own.antt prove what is said of it.
-use Rattle.std.specs.Prelude.{◌≡◌, Bool, true, false, not, cond, List, [], ◌∷◌, ◌++◌, ℕ, zero, suc, ◌≤◌, ◌<◌}
-use Rattle.std.proofs.Math.Option.{none, some}
+use Rattle.std.specs.Prelude.{◌≡◌, Bool, true, false, not, cond, List, [], ◌∷◌, ◌++◌, ℕ, zero, suc, ◌≤◌, ◌<◌, None, Some}
 use Rattle.rules.specs.declared.Sides.{Sides}
 use Rattle.rules.specs.Answer.{Reply, refused, done}
 use Rattle.rules.specs.Status.{is_kept, is_pending, any_pending, first_of, goes, examine}
@@ -9,7 +8,8 @@ use Rattle.rules.specs.Machine.{State, is_inside, may_go, sooner, carve, take, o
 use Rattle.rules.specs.Demand.{Call, carve_up_to, take_at, open_one, finish_it, call, run, Promise, FromBegin, refuses, AllLend}
 use Rattle.format.specs.Bytes.{word_bytes}
 use Rattle.coarse.specs.Promises.{FromCoarse}
-use Rattle.judging.specs.Judge.{Entry, entries_in, Judgement, judge}
+use Rattle.judging.specs.declared.Judgement.{Judgement}
+use Rattle.judging.specs.Judge.{Entry, entries_in, judge}
 use Rattle.judging.specs.Accepted.{NonePasses, AllReadable}
 
 abbrev pub ordinary : ℕ → Entry
@@ -43,8 +43,8 @@ unfoldable pub removed_by : Sides → (ℕ → Bool) → (ℕ → ℕ → Bool) 
 removed_by s free ahead zero status = []
 removed_by s free ahead (suc limit) status =
     elim (first_of s ahead (is_pending status)) [
-      | none ↦ []
-      | some i ↦ let rest = removed_by s free ahead limit (examine s free status i) in cond (goes s free status i) (ordinary i ∷ rest) rest
+      | None ↦ []
+      | Some i ↦ let rest = removed_by s free ahead limit (examine s free status i) in cond (goes s free status i) (ordinary i ∷ rest) rest
     ]
 
 -- a refused call removes none

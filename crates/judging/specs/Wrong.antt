@@ -10,7 +10,8 @@ use Rattle.rules.specs.Status.{is_kept, is_pending}
 use Rattle.rules.specs.Machine.{State, is_inside, farther, working_checks, quiet_checks}
 use Rattle.format.specs.Bytes.{tagged}
 use Rattle.judging.specs.Judge.{Entry, entry_length, entry_at, entry_count, entries_in, Body, start_from, goes, leaves, can_pass, some_passes, can_open, allows}
-use Rattle.judging.specs.Judge.{Judgement, judgement_of, judge}
+use Rattle.judging.specs.declared.Judgement.{Judgement}
+use Rattle.judging.specs.Judge.{judgement_of, judge}
 use Rattle.judging.specs.Examples.{ring}
 
 -- ---- judge in parts: the body at the start, what is checked before the first record, the order of a record's own four checks, which entry may be

@@ -3,11 +3,8 @@
 
 // How many voxels the list removes, how many of them are openings, and the Euler number of what is left.
 #[derive(Clone, Copy)]
-pub enum Judged {
-    Accepted {
-        removals: u64,
-        openings: u32,
-        euler: i32,
-    },
-    Refused(u8),
+pub struct Judgement {
+    pub removed: u64,
+    pub opened: u32,
+    pub euler: i32,
 }

@@ -2,7 +2,7 @@
 use mathlib.Core.Path.{◌≡◌, refl, sym, ap, ◌∙◌, subst}
 use mathlib.Core.Bool.{Bool, true, false, not, cond, ◌&&◌, ◌||◌}
 use mathlib.Core.List.{List, [], ◌∷◌}
-use Prim.Native.Nat.{ℕ, suc, ◌+◌, ◌-◌, ◌^◌, ◌≤◌, ◌<◌, max}
+use Prim.Native.Nat.{ℕ, ◌+◌, ◌^◌, ◌≤◌, ◌<◌}
 use native.Mathlib.Omega.{arith}
 use native.Mathlib.Decide.{dec_lt}
 use borrow.Author.Tests.{lt-ltb, le-ltb}
@@ -13,9 +13,8 @@ use lib.Signed.{lt_z}
 use mir.Syntax.{w32, w64}
 use mir.Val.{SFits, to_z, of_z}
 use mir.Facts.{to_z-of_z}
+use Rattle.std.proofs.lemmas.Int.{ints}
 use Rattle.prelude.proofs.Bools.{not-both}
-use Rattle.prelude.proofs.Signs.{widened}
-use Rattle.numbers.specs.Signed.{greater}
 use Rattle.rules.specs.Grid.{distance_at}
 use Rattle.rules.specs.Status.{is_pending}
 use Rattle.rules.specs.Marks.{Marked, hurried_mark, marked, unmarked}
@@ -24,14 +23,6 @@ use Rattle.rules.proofs.Topology.Steps.{pending-beyond}
 use Rattle.keys.specs.Key.{most, Lent, rank_of, hurry_of, rank_by, rank_at, key_of, key_at, voxel_key}
 
 -- ---- a distance raised by 2^31 + 1
-
-rank-sum : (z : ℤ) → SFits w32 z → z +ℤ pos 2147483649 ≡ pos (rank_of z)
-unfolding rank_of
-rank-sum (pos n) h = let e : n + 2147483649 ≡ suc (n + 2147483648) = omega arith in ap pos e
-rank-sum (negsuc n) h =
-    let l : n < 2 ^ 31 = h.sfits in
-    let e : 2147483649 - suc n ≡ suc (2147483647 - n) = omega arith in
-    ap (λ (t : Bool). cond t (negsuc (suc n - 2147483650)) (pos (2147483649 - suc n))) (le-ltb 2147483649 (suc n) (omega arith)) ∙ ap pos e
 
 pub rank-some : (z : ℤ) → 0 < rank_of z
 unfolding rank_of
@@ -47,19 +38,13 @@ rank-small (negsuc n) h = omega arith
 pub read_fits : {z : ℤ} → SFits w32 z → SFits w32 (to_z w32 (of_z w32 z))
 read_fits h = subst (SFits w32) (sym (to_z-of_z h)) h
 
-raised-sum : (z : ℤ) → SFits w32 z → to_z w64 (of_z w64 (to_z w32 (of_z w32 z))) +ℤ pos 2147483649 ≡ pos (rank_of z)
-raised-sum z h = ap (λ (x : ℤ). x +ℤ pos 2147483649) (to_z-of_z (widened h) ∙ to_z-of_z h) ∙ rank-sum z h
-
-pub raised-fits : (z : ℤ) → SFits w32 z → SFits w64 (to_z w64 (of_z w64 (to_z w32 (of_z w32 z))) +ℤ pos 2147483649)
-raised-fits z h =
-    let l : rank_of z < 2 ^ 63 = omega (arith, rank-small z h) in
-    subst (λ (x : ℤ). SFits w64 x) (sym (raised-sum z h)) (record { sfits = l })
-
 -- the rank, as it is read back
 pub raised-read :
-    (z : ℤ) → SFits w32 z
-    → to_z w64 (of_z w64 (to_z w64 (of_z w64 (to_z w32 (of_z w32 z))) +ℤ pos 2147483649)) ≡ pos (rank_of z)
-raised-read z h = to_z-of_z (raised-fits z h) ∙ raised-sum z h
+    (z x : ℤ) → SFits w32 z → x ≡ to_z w32 (of_z w32 z)
+    → to_z w64 (of_z w64 (to_z w64 (of_z w64 x) +ℤ pos 2147483649)) ≡ pos (rank_of z)
+unfolding rank_of
+raised-read (pos n) x h e = omega (arith, ints)
+raised-read (negsuc n) x h e = omega (arith, ints)
 
 -- ---- the order of ranks is that of distances
 
@@ -82,14 +67,6 @@ compared a b f =
     elim (dec_lt (rank_of a) (rank_of b)) [
       | yes h ↦ rank_less a b h ∙ sym (lt-ltb (rank_of a) (rank_of b) h)
       | no h ↦ rank-least a b f (omega arith) ∙ sym (le-ltb (rank_of a) (rank_of b) (omega arith))
-    ]
-
--- so the rank of the greater distance is the greater rank
-pub rank-greater : (a b : ℤ) → SFits w32 a → rank_of (greater a b) ≡ max (rank_of a) (rank_of b)
-rank-greater a b f =
-    elim (dec_lt (rank_of a) (rank_of b)) [
-      | yes h ↦ ap (λ (t : Bool). rank_of (cond t b a)) (rank_less a b h) ∙ omega arith
-      | no h ↦ ap (λ (t : Bool). rank_of (cond t b a)) (rank-least a b f (omega arith)) ∙ omega arith
     ]
 
 -- ---- the order of ranks is that of the choice: a hurried voxel before all others, and then the greater distance

@@ -5,9 +5,7 @@ use mathlib.Core.List.{List}
 use Prim.Native.Nat.{ℕ, ◌+◌, ◌-◌, ◌*◌, ◌≤◌, ◌<◌, max}
 use native.Mathlib.Omega.{arith}
 use native.Mathlib.Decide.{ℕ_discrete, dec_lt}
-use borrow.Author.Tests.{lt-ltb, le-ltb}
 use borrow.Author.Rules.{part_to_end}
-use lib.Dec.{ltb}
 use lib.IntN.{ℤ, pos}
 use lib.ListN.{length, take, drop, length-drop}
 use lib.Seq.{get_or-drop}
@@ -37,32 +35,6 @@ left_over m t c L e = go (dec_lt t c)
           | no q ↦ (let z = L.least c (old q) in let b : ⊥ = omega arith in absurd b)
         ]
 
--- of two keys the greater is that of the greater rank, and of equal ranks that of the index met first
-leading-key :
-    (g b r t at h i : ℕ) → at + t < most → 0 < r → (0 < g → b < t) → h ≡ max g r → i ≡ cond (ltb g r) t b
-    → max (key_of g (at + b)) (key_of r (at + t)) ≡ key_of h (at + i)
-leading-key g b r t at h i u p l e q = go (dec_lt g r)
-  where
-    go : Dec (g < r) → max (key_of g (at + b)) (key_of r (at + t)) ≡ key_of h (at + i)
-    go (yes s) =
-        let j : i ≡ t = q ∙ ap (λ (x : Bool). cond x t b) (lt-ltb g r s) in
-        let k : h ≡ r = omega arith in
-        let m : max (key_of g (at + b)) (key_of r (at + t)) ≡ key_of r (at + t) = omega arith in
-        m ∙ ap (λ (x : ℕ). key_of x (at + t)) (sym k) ∙ ap (λ (x : ℕ). key_of h (at + x)) (sym j)
-    go (no s) =
-        let j : i ≡ b = q ∙ ap (λ (x : Bool). cond x t b) (le-ltb g r (omega arith)) in
-        let k : h ≡ g = omega arith in
-        let f : b < t = l (omega arith) in
-        let m : max (key_of g (at + b)) (key_of r (at + t)) ≡ key_of g (at + b) = omega arith in
-        m ∙ ap (λ (x : ℕ). key_of x (at + b)) (sym k) ∙ ap (λ (x : ℕ). key_of h (at + x)) (sym j)
-
--- a key is taken from those that are left
-pub taken-over : (k r n x y t : ℕ) → max k x ≡ t → x ≡ max y r → max k r ≡ n → max n y ≡ t
-taken-over k r n x y t e f g = omega arith
-
-greater-small : (g r h : ℕ) → g ≤ 8589934592 → r ≤ 8589934592 → h ≡ max g r → h ≤ 8589934592
-greater-small g r h a b e = omega arith
-
 module _ (hurried : ℕ → Bool) (dist : List ℤ) (at set : ℕ) where
   -- the greatest rank so far and its bit, and the bits that are left, all above it
   pub record Scanning (g b m : ℕ) : Type 0 where
@@ -87,43 +59,54 @@ module _ (hurried : ℕ → Bool) (dist : List ℤ) (at set : ℕ) where
   bit-key : (m t : ℕ) (b : Bool) → has m t ≡ b → bit_key hurried dist at m t ≡ cond b (key_of (rank_by hurried (distance_at dist t) (at + t)) (at + t)) 0
   bit-key m t b e = ap (λ (b : Bool). cond b (key_of (rank_by hurried (distance_at dist t) (at + t)) (at + t)) 0) e
 
-  module _ (g b m t r h i : ℕ) (S : Scanning g b m) (L : Lowest m t) where
-    pub scanning-step :
-        r ≡ rank_by hurried (distance_at dist t) (at + t) → r ≤ 8589934592 → i ≡ cond (ltb g r) t b → h ≡ max g r → Scanning h i (bit_and m (m - 1))
-    scanning-step e f q k =
+  module _ (g b m t r : ℕ) (S : Scanning g b m) (L : Lowest m t) (e : r ≡ rank_by hurried (distance_at dist t) (at + t)) (f : r ≤ 8589934592) where
+    -- the bit's key, and those that are left
+    taken : greatest (bit_key hurried dist at m) 0 width ≡ max (greatest (bit_key hurried dist at (bit_and m (m - 1))) 0 width) (key_of r (at + t))
+    taken =
+        let own : bit_key hurried dist at m t ≡ key_of r (at + t) = bit-key m t true L.here ∙ ap (λ (x : ℕ). key_of x (at + t)) (sym e) in
+        greatest-lift (bit_key hurried dist at (bit_and m (m - 1))) (bit_key hurried dist at m) 0 width t (omega arith) (omega (arith, L.below))
+        (bit-key (bit_and m (m - 1)) t false L.gone) (λ c n. bit-key (bit_and m (m - 1)) c (has m c) (L.others c n))
+        ∙ ap (max _) own
+
+    -- the greater rank goes ahead
+    pub scanning-ahead : g < r → Scanning r t (bit_and m (m - 1))
+    scanning-ahead l =
         let few = S.few in
         let here = S.left t L.below L.here in
-        let p : 0 < r = subst (λ (x : ℕ). 0 < x) (sym e) (by-some hurried (distance_at dist t) (at + t)) in
-        let own : bit_key hurried dist at m t ≡ key_of r (at + t) = bit-key m t true L.here ∙ ap (λ (x : ℕ). key_of x (at + t)) (sym e) in
-        let one = leading-key g b r t at h i (omega arith) p (S.above t L.here) k q in
-        let x = greatest-lift (bit_key hurried dist at (bit_and m (m - 1))) (bit_key hurried dist at m) 0 width t (omega arith) (omega (arith, L.below))
-        (bit-key (bit_and m (m - 1)) t false L.gone) (λ c n. bit-key (bit_and m (m - 1)) c (has m c) (L.others c n)) in
+        let total = S.total in
+        let one = taken in
         record {
           few = few;
-          small = greater-small g r h S.small f k;
-          inside = chosen (dec_lt g r);
+          small = f;
+          inside = here;
           left = λ c v u. S.left c v (left_over m t c L u).0;
-          above = λ c u l. later c (left_over m t c L u).1 (dec_lt g r);
-          total = taken-over (key_of g (at + b)) (key_of r (at + t)) _ _ _ _ S.total (x ∙ ap (max _) own) one;
+          above = λ c u p. (left_over m t c L u).1;
+          total = omega arith;
         }
-      where
-        chosen : Dec (g < r) → i < length dist
-        chosen (yes s) = let j : i ≡ t = q ∙ ap (λ (x : Bool). cond x t b) (lt-ltb g r s) in omega (arith, S.left t L.below L.here)
-        chosen (no s) = let j : i ≡ b = q ∙ ap (λ (x : Bool). cond x t b) (le-ltb g r (omega arith)) in omega (arith, S.inside)
 
-        later : (c : ℕ) → t < c → Dec (g < r) → i < c
-        later c l (yes s) = let j : i ≡ t = q ∙ ap (λ (x : Bool). cond x t b) (lt-ltb g r s) in omega arith
-        later c l (no s) =
-            let j : i ≡ b = q ∙ ap (λ (x : Bool). cond x t b) (le-ltb g r (omega arith)) in
-            let p : 0 < r = subst (λ (x : ℕ). 0 < x) (sym e) (by-some hurried (distance_at dist t) (at + t)) in
-            omega (arith, S.above t L.here (omega arith))
+    -- and of equal ranks the one met first
+    pub scanning-behind : r ≤ g → Scanning g b (bit_and m (m - 1))
+    scanning-behind l =
+        let few = S.few in
+        let here = S.left t L.below L.here in
+        let total = S.total in
+        let one = taken in
+        let some : 0 < r = subst (λ (x : ℕ). 0 < x) (sym e) (by-some hurried (distance_at dist t) (at + t)) in
+        let before = S.above t L.here (omega arith) in
+        record {
+          few = few;
+          small = S.small;
+          inside = S.inside;
+          left = λ c v u. S.left c v (left_over m t c L u).0;
+          above = λ c u p. omega (arith, (left_over m t c L u).1);
+          total = omega arith;
+        }
 
   -- the lowest bit is the first taken
   pub scanning-first :
       (t r : ℕ) → Readable dist at set → Lowest set t → r ≡ rank_by hurried (distance_at dist t) (at + t) → r ≤ 8589934592 → Scanning r t (bit_and set (set - 1))
   scanning-first t r R L e f =
-      let l : 0 < r = subst (λ (x : ℕ). 0 < x) (sym e) (by-some hurried (distance_at dist t) (at + t)) in
-      scanning-step 0 0 set t r r t (scanning-start R) L e f (sym (ap (λ (x : Bool). cond x t 0) (lt-ltb 0 r l))) (omega arith)
+      scanning-ahead 0 0 set t r (scanning-start R) L e f (subst (λ (x : ℕ). 0 < x) (sym e) (by-some hurried (distance_at dist t) (at + t)))
 
   pub scanning-none : set ≡ 0 → 0 ≡ greatest (bit_key hurried dist at set) 0 width
   scanning-none e = sym (greatest-none (bit_key hurried dist at set) 0 width (λ t l. bit-key set t false (ap (λ (x : ℕ). has x t) e ∙ has-none t)))

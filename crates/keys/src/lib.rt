@@ -2,42 +2,28 @@
 // among equal ranks the first met is the one to keep.
 #![tactic(auto)]
 
-ghost use Rattle.std.specs.Prelude.{◌≡◌, cond, ◌+◌, ◌-◌, ◌*◌, ◌/◌, ◌^◌, ◌≤◌, ◌<◌, length};
-ghost use Rattle.bits.specs.Bits.{has, bits};
-ghost use Rattle.rules.specs.Grid.{distance_at};
+ghost use Rattle.std.specs.Prelude.{◌≡◌, ◌≤◌, ◌<◌, length};
 ghost use Rattle.rules.specs.Marks.{marked, unmarked};
-ghost use Rattle.keys.specs.Key.{most, Lent, rank_of, hurry_of, rank_by, key_of, key_at, voxel_key, width, stretches, greatest, stretch_key, bit_key};
+ghost use Rattle.keys.specs.Key.{most, Lent, rank_of, hurry_of, rank_by, key_of, key_at, voxel_key, voxel_of, width, stretches, greatest, stretch_key, bit_key};
 ghost use Rattle.keys.specs.Key.{Readable};
 
-// How many voxels make a stretch.
-const WIDTH: usize = 64;
+pub use masks::WIDTH;
 
-// The greatest number of voxels, 2^18.
-const MOST: u64 = 262144;
+// The greatest number of voxels.
+const MOST: u64 = 1 << 18;
 
 // The rank of a distance, never 0: raised by 2^31 + 1.
 fn raised(d: i32) -> u64
     ensures { (result ≡ rank_of d) × (result ≤ 4294967296) }
 {
-    let e = d as i64;
-    (e + 2147483649) as u64
-}
-
-fn distance(dist: &[i32], j: usize) -> i32
-    requires { j < length dist.now }
-    ensures { result ≡ distance_at dist.now j }
-{
-    dist[j]
+    (i64::from(d) + 2147483649) as u64
 }
 
 // By which the rank of a hurried voxel is above that of every distance.
 fn hurry(marks: &[u8], j: usize) -> u64
     ensures { (result ≡ hurry_of (marked marks.now).hurried j) × (result ≤ 4294967296) }
 {
-    if marks::hurried(marks, j) {
-        return 4294967296;
-    }
-    0
+    if marks::hurried(marks, j) { 1 << 32 } else { 0 }
 }
 
 // The rank of voxel j, whose distance is d.
@@ -52,10 +38,15 @@ fn key(r: u64, j: usize) -> u64
     requires { (r ≤ 8589934592) × (j < most) }
     ensures { result ≡ key_of r j }
 {
-    if r == 0 {
-        return 0;
-    }
-    r * MOST - j as u64
+    (r * MOST).saturating_sub(j as u64)
+}
+
+// The voxel of a key that is not 0.
+pub fn voxel_of(w: u64) -> usize
+    requires { 0 < w }
+    ensures { result ≡ voxel_of w }
+{
+    (MOST - 1 - (w - 1) % MOST) as usize
 }
 
 // The key of voxel j if it is pending.
@@ -63,14 +54,7 @@ pub fn voxel_key(dist: &[i32], marks: &[u8], j: usize) -> u64
     requires { (j < length dist.now) × (j < most) }
     ensures { result ≡ voxel_key (marked marks.now).hurried dist.now j }
 {
-    key(rank(distance(dist, j), marks, j), j)
-}
-
-// t where it goes ahead of b.
-fn leading(ahead: bool, t: usize, b: usize) -> usize
-    ensures { result ≡ cond ahead t b }
-{
-    if ahead { t } else { b }
+    key(rank(dist[j], marks, j), j)
 }
 
 // The greatest key of the voxels of the bits, whose distances are those from voxel at on. Ranks are compared, from 0 on, which no voxel has,
@@ -79,15 +63,18 @@ fn hurried_scan(dist: &[i32], marks: &[u8], at: usize, set: u64) -> u64
     requires { Readable dist.now at set }
     ensures { result ≡ greatest (bit_key (marked marks.now).hurried dist.now at set) 0 width }
 {
-    let mut b: usize = 0;
-    let mut g: u64 = 0;
+    let mut b = 0;
+    let mut g = 0;
     let mut m = set;
+    // each turn takes the lowest bit
     while 0 < m {
         let t = bits::lowest(m);
-        let r = rank(distance(dist, t), marks, at + t);
-        b = leading(g < r, t, b);
-        g = numbers::greater_u64(g, r);
-        m = m & (m - 1);
+        let r = rank(dist[t], marks, at + t);
+        if g < r {
+            b = t;
+            g = r;
+        }
+        m &= m - 1;
     }
     key(g, at + b)
 }
@@ -101,14 +88,17 @@ fn plain_scan(dist: &[i32], at: usize, set: u64) -> u64
         return 0;
     }
     let mut b = bits::lowest(set);
-    let mut g = distance(dist, b);
+    let mut g = dist[b];
     let mut m = set & (set - 1);
+    // each turn takes the lowest bit
     while 0 < m {
         let t = bits::lowest(m);
-        let d = distance(dist, t);
-        b = leading(g < d, t, b);
-        g = numbers::greater_i32(g, d);
-        m = m & (m - 1);
+        let d = dist[t];
+        if g < d {
+            b = t;
+            g = d;
+        }
+        m &= m - 1;
     }
     key(raised(g), at + b)
 }
@@ -118,10 +108,11 @@ fn scan(dist: &[i32], marks: &[u8], at: usize, set: u64) -> u64
     requires { Readable dist.now at set }
     ensures { result ≡ greatest (bit_key (marked marks.now).hurried dist.now at set) 0 width }
 {
-    if marks.len() == 0 {
-        return plain_scan(dist, at, set);
+    if marks.is_empty() {
+        plain_scan(dist, at, set)
+    } else {
+        hurried_scan(dist, marks, at, set)
     }
-    hurried_scan(dist, marks, at, set)
 }
 
 // The greatest key of stretch k.

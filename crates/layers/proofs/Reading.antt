@@ -1,4 +1,5 @@
 -- A layer record: what holds where no check fails, and where the layer then lies.
+use Rattle.std.specs.Prelude.{Result, Ok, Err, IsErrAnd}
 use mathlib.Core.Path.{◌≡◌, ap, sym, subst, ◌∙◌}
 use mathlib.Core.Bool.{true, not}
 use mathlib.Core.List.{List}
@@ -10,7 +11,9 @@ use Rattle.prelude.proofs.Bools.{not-false}
 use Rattle.rules.specs.declared.Sides.{Sides}
 use Rattle.rules.specs.Grid.{fit_sides}
 use Rattle.rules.specs.Checks.{AllHold}
-use Rattle.rules.specs.Answer.{refused, done}
+use Rattle.rules.specs.Answer.{Reply, refused, done}
+use Rattle.rules.specs.declared.Refusal.{Refusal}
+use Rattle.rules.specs.Refusals.{number_of, replied}
 use Rattle.rules.proofs.Checks.{by-checks, held_at, unless-held}
 use Rattle.format.specs.declared.LayerSpan.{LayerSpan}
 use Rattle.format.specs.Bytes.{Width}
@@ -18,7 +21,11 @@ use Rattle.format.specs.Layer.{area, record_length, layer_checks, read_layer_che
 use Rattle.format.proofs.WidthAt.{width_is}
 use Rattle.format.proofs.Sizes.{length_part}
 use Rattle.layers.specs.Readable.{Readable}
-use Rattle.layers.specs.Part.{Within}
+
+-- what `?` hands on
+pub refused_on : {A : Type 0} (r : Result A Refusal) (e : Refusal) → IsErrAnd r (λ d. d ≡ e) → replied r ≡ refused (number_of e)
+refused_on (Ok a) e h = absurd h
+refused_on (Err d) e h = ap (λ (d : Refusal). refused (number_of d)) h
 
 pub span-is : (l m : LayerSpan) → l.z ≡ m.z → l.width ≡ m.width → l.from ≡ m.from → l.to ≡ m.to → l ≡ m
 span-is l m e w f g = λ i. record { z = e i; width = w i; from = f i; to = g i }
@@ -30,6 +37,11 @@ pub record Placed (s : Sides) (file : List ℕ) (l : LayerSpan) : Type 0 where
   pub ordered : l.from ≤ l.to
   pub in-file : l.to ≤ length file
   pub long : length (stretch file l) ≡ l.width * area s
+
+-- the stretch lies in the file
+abbrev pub Within : List ℕ → Reply LayerSpan → Type 0
+Within file (refused n) = Unit {0}
+Within file (done l) = (l.from ≤ l.to) × (l.to ≤ length file)
 
 module _ (s : Sides) (file : List ℕ) (start : ℕ) where
   pub readable : fit_sides s ≡ true → AllHold (layer_checks s file start) → Readable s file start

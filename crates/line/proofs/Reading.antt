@@ -1,4 +1,5 @@
 -- The line of a file, by what read and begin answer; and the buffers that the program lends, which matter only where the header is right.
+use Rattle.std.specs.Prelude.{Result, Ok, Err}
 use mathlib.Core.Path.{◌≡◌, refl, ap, sym, ◌∙◌}
 use mathlib.Core.Bool.{Bool, true, false, not, cond}
 use mathlib.Core.List.{List, ◌∷◌}
@@ -13,19 +14,19 @@ use Rattle.prelude.proofs.Ranges.{length-map-range}
 use Rattle.prelude.proofs.Replicate.{take-replicate}
 use Rattle.rules.specs.declared.Sides.{Sides}
 use Rattle.rules.specs.declared.Record.{Record}
-use Rattle.rules.specs.declared.Begun.{Begun}
+use Rattle.rules.specs.declared.Refusal.{Refusal}
 use Rattle.rules.specs.Grid.{fit_sides, size, voxels}
 use Rattle.rules.specs.Checks.{◌when◌, unless}
-use Rattle.rules.specs.Answer.{done, Outcome, outcome, untouched, Buffers, buffers, begun_answer}
+use Rattle.rules.specs.Answer.{done, Outcome, outcome, untouched, Buffers, buffers}
+use Rattle.rules.specs.Refusals.{number_of, replied}
 use Rattle.rules.specs.Fill.{filled}
 use Rattle.rules.specs.Marks.{marked, no_marks}
 use Rattle.rules.specs.Begin.{inside, in_box, status_at, start_status, begin}
 use Rattle.rules.specs.Machine.{state}
 use Rattle.rules.proofs.Demand.{by-begin}
 use Rattle.format.specs.Bytes.{tagged}
-use Rattle.gridfile.specs.declared.ReadAnswer.{ReadAnswer}
-use Rattle.format.specs.File.{sides_in, fit_up_to, records_checks, Header, accepted, read_up_to}
-use Rattle.gridfile.specs.Answer.{read_answer}
+use Rattle.format.specs.declared.Header.{Header}
+use Rattle.format.specs.File.{sides_in, fit_up_to, records_checks, accepted, read_up_to}
 use Rattle.format.proofs.Headers.{taken}
 use Rattle.text.specs.declared.Text.{Text}
 use Rattle.text.specs.Line.{refused_line}
@@ -48,20 +49,20 @@ module _ (s : Sides) (T : ℕ) (values : List ℤ) (marks : List ℕ) (dist : Li
       (λ accepted. length-map-range (status_at s (marked marks) S (in_box s S)) (size s)) next (sym (ap (λ (o : Outcome Buffers Record). o.answer) e))
 
   -- the line, by begin's answer
-  module _ (a : Begun) (d : List ℤ) (b : List ℕ) (e : outcome (begun_answer a) (buffers d b) ≡ begin s T values marks dist status) where
-    pub ready : (next : Record) → a ≡ Begun.Ready next → outcome (done next) (buffers d b) ≡ begin s T values marks dist status
-    ready next f = sym (ap (λ (x : Begun). outcome (begun_answer x) (buffers d b)) f) ∙ e
+  module _ (a : Result Record Refusal) (d : List ℤ) (b : List ℕ) (e : outcome (replied a) (buffers d b) ≡ begin s T values marks dist status) where
+    pub ready : (next : Record) → a ≡ Ok next → outcome (done next) (buffers d b) ≡ begin s T values marks dist status
+    ready next f = sym (ap (λ (x : Result Record Refusal). outcome (replied x) (buffers d b)) f) ∙ e
 
-    pub line-begun : (next : Record) → a ≡ Begun.Ready next → (r : Text) → r ≡ printed (carved_to_end marks (state next d b))
+    pub line-begun : (next : Record) → a ≡ Ok next → (r : Text) → r ≡ printed (carved_to_end marks (state next d b))
         → r ≡ printed (line_from marks (begin s T values marks dist status))
     unfolding line_from
     line-begun next f r h = h ∙ ap (λ (o : Outcome Buffers Record). printed (line_from marks o)) (ready next f)
 
-    pub line-begin-refused : (n : ℕ) → a ≡ Begun.Refused n → (r : Text) → r ≡ printed (refused_line n)
+    pub line-begin-refused : (why : Refusal) → a ≡ Err why → (r : Text) → r ≡ printed (refused_line (number_of why))
         → r ≡ printed (line_from marks (begin s T values marks dist status))
     unfolding line_from
-    line-begin-refused n f r h =
-        h ∙ ap (λ (o : Outcome Buffers Record). printed (line_from marks o)) (sym (ap (λ (x : Begun). outcome (begun_answer x) (buffers d b)) f) ∙ e)
+    line-begin-refused why f r h =
+        h ∙ ap (λ (o : Outcome Buffers Record). printed (line_from marks o)) (sym (ap (λ (x : Result Record Refusal). outcome (replied x) (buffers d b)) f) ∙ e)
 
 -- ---- how many voxels' buffers are lent
 
@@ -132,40 +133,41 @@ module _ (file : List ℕ) where
 
   -- ---- the line by what read answered
 
-  module _ (answer : ReadAnswer) (values lent : List ℤ) (r : outcome (read_answer answer) values ≡ read_up_to greatest_side file lent)
+  module _ (answer : Result Header Refusal) (values lent : List ℤ) (r : outcome (replied answer) values ≡ read_up_to greatest_side file lent)
       (z : lent ≡ zeros (lent_for file)) where
-    by_answer : line_after_read (outcome (read_answer answer) values) ≡ file_line file
+    by_answer : line_after_read (outcome (replied answer) values) ≡ file_line file
     by_answer = ap line_after_read (r ∙ ap (read_up_to greatest_side file) z) ∙ sym line-lent
 
-    pub line_refused : (m n : ℕ) → answer ≡ ReadAnswer.Refused m → n ≡ refusal_of (read_answer answer) → refused_line n ≡ file_line file
+    pub line_refused : (m : Refusal) (n : ℕ) → answer ≡ Err m → n ≡ refusal_of (replied answer) → refused_line n ≡ file_line file
     unfolding line_after_read
     line_refused m n e f =
-        ap refused_line (f ∙ ap (λ (a : ReadAnswer). refusal_of (read_answer a)) e)
-        ∙ sym (ap (λ (a : ReadAnswer). line_after_read (outcome (read_answer a) values)) e)
+        ap refused_line (f ∙ ap (λ (a : Result Header Refusal). refusal_of (replied a)) e)
+        ∙ sym (ap (λ (a : Result Header Refusal). line_after_read (outcome (replied a) values)) e)
         ∙ by_answer
 
     pub line-grid :
-        (s : Sides) (T : ℕ) (marks : List ℕ) (dist : List ℤ) (status : List ℕ)
-        → answer ≡ ReadAnswer.Grid s T
+        (h : Header) (marks : List ℕ) (dist : List ℤ) (status : List ℕ)
+        → answer ≡ Ok h
         → marks ≡ replicate (lent_for file) 0
         → dist ≡ zeros (lent_for file)
         → status ≡ replicate (lent_for file) 0
-        → line_from marks (begin s T values marks dist status) ≡ file_line file
+        → line_from marks (begin h.sides h.allowed values marks dist status) ≡ file_line file
     unfolding line_after_read no_marks
-    line-grid s T marks dist status e m d b =
-        let h : Header = record { sides = s; allowed = T } in
+    line-grid h marks dist status e m d b =
+        let s = h.sides in
+        let T = h.allowed in
         let n : size s ≡ lent_for file =
-        read_done lent h (sym (ap (λ (o : Outcome (List ℤ) Header). o.answer) r) ∙ ap read_answer e) ∙ ap length z ∙ length-replicate (lent_for file) (pos 0) in
+        read_done lent h (sym (ap (λ (o : Outcome (List ℤ) Header). o.answer) r) ∙ ap replied e) ∙ ap length z ∙ length-replicate (lent_for file) (pos 0) in
         let same : marks ≡ no_marks s = m ∙ ap (λ (k : ℕ). replicate k 0) (sym n) in
         ap (λ (l : List ℕ). line_from l (begin s T values l dist status)) same
         ∙ ap (λ (l : List ℤ). line_from (no_marks s) (begin s T values (no_marks s) l status)) (d ∙ ap zeros (sym n))
         ∙ ap (λ (l : List ℕ). line_from (no_marks s) (begin s T values (no_marks s) (zeros (size s)) l)) (b ∙ ap (λ (k : ℕ). replicate k 0) (sym n))
-        ∙ sym (ap (λ (a : ReadAnswer). line_after_read (outcome (read_answer a) values)) e)
+        ∙ sym (ap (λ (a : Result Header Refusal). line_after_read (outcome (replied a) values)) e)
         ∙ by_answer
 
     -- and as it is printed
-    pub printed-grid : (text : Text) (s : Sides) (T : ℕ) (marks : List ℕ) (dist : List ℤ) (status : List ℕ)
-        → text ≡ printed (line_from marks (begin s T values marks dist status))
-        → answer ≡ ReadAnswer.Grid s T → marks ≡ replicate (lent_for file) 0 → dist ≡ zeros (lent_for file) → status ≡ replicate (lent_for file) 0
+    pub printed-grid : (text : Text) (h : Header) (marks : List ℕ) (dist : List ℤ) (status : List ℕ)
+        → text ≡ printed (line_from marks (begin h.sides h.allowed values marks dist status))
+        → answer ≡ Ok h → marks ≡ replicate (lent_for file) 0 → dist ≡ zeros (lent_for file) → status ≡ replicate (lent_for file) 0
         → text ≡ printed (file_line file)
-    printed-grid text s T marks dist status p e m d b = p ∙ ap printed (line-grid s T marks dist status e m d b)
+    printed-grid text h marks dist status p e m d b = p ∙ ap printed (line-grid h marks dist status e m d b)

@@ -2,15 +2,15 @@
 #![tactic(auto)]
 
 ghost use Rattle.std.specs.Prelude.{◌≡◌, ◌≤◌};
+ghost use Rattle.rules.specs.Refusals.{replied};
 ghost use Rattle.rules.specs.Begin.{begin};
 ghost use Rattle.text.specs.Written.{printed};
 ghost use Rattle.program.specs.Program.{line_from, file_line, program_line};
-ghost use Rattle.gridfile.specs.Answer.{read_answer};
 ghost use Rattle.line.specs.Buffers.{lent_for, Lent};
 ghost use Rattle.line.specs.Refusal.{refusal_of};
 
-use gridfile::ReadAnswer;
-use rules::{Begun, Sides};
+use format::Header;
+use rules::{Refusal, Sides};
 use text::Text;
 
 fn begun_line(
@@ -25,21 +25,18 @@ fn begun_line(
         (begin sides allowed values.now marks.now dist.old status.old)) }
 {
     match beginning::begin(sides, allowed, values, marks, dist, status) {
-        Begun::Ready(next) => rounds::carved_to_end(next, dist, marks, status),
-        Begun::Refused(n) => text::refused_line(n),
+        Ok(next) => rounds::carved_to_end(next, dist, marks, status),
+        Err(refusal) => text::refused_line(u8::from(refusal)),
     }
 }
 
-// The number that read gave, 0 where it took the file.
-fn refusal_of(answer: ReadAnswer) -> u8
-    ensures { result ≡ refusal_of (read_answer answer) }
+// The number that read gave, 0 where it took the file: the `let .. else` of `line_in`, a form that document 01 names, binds no error.
+fn refusal_of(answer: Result<Header, Refusal>) -> u8
+    ensures { result ≡ refusal_of (replied answer) }
 {
     match answer {
-        ReadAnswer::Grid {
-            sides: _,
-            allowed: _,
-        } => 0,
-        ReadAnswer::Refused(n) => n,
+        Ok(_) => 0,
+        Err(refusal) => u8::from(refusal),
     }
 }
 
@@ -55,10 +52,10 @@ fn line_in(
     ensures { result ≡ printed (file_line file.now) }
 {
     let answer = gridfile::read_up_to(file, values, 24);
-    let ReadAnswer::Grid { sides, allowed } = answer else {
+    let Ok(header) = answer else {
         return text::refused_line(refusal_of(answer));
     };
-    begun_line(sides, allowed, values, marks, dist, status)
+    begun_line(header.sides, header.allowed, values, marks, dist, status)
 }
 
 // The voxels of the grid that a header names, 0 where it is refused for its sides.

@@ -108,25 +108,6 @@ fn bare_face(t: u64) -> u32
     u64::trailing_zeros(face_bits(t) + 1)
 }
 
-// k, m and the face alone.
-pub fn groups_of(block: [[u8; 3]; 3]) -> Groups
-    requires { Rows block }
-    ensures { GroupsOf (test (kept_in block)) result }
-{
-    let t = touched_cells::touched(block);
-    let k = touched_groups(t);
-    Groups {
-        k: k,
-        m: bare_groups(
-            k,
-            u64::count_ones(t & 0x11011000011011),
-            u64::count_ones(t & 0x04444440444444),
-            u64::count_ones(t & 0x00100111100100),
-        ),
-        face: bare_face(t),
-    }
-}
-
 // The whole test.
 pub fn local_test(block: [[u8; 3]; 3]) -> Local
     requires { Rows block }
@@ -138,13 +119,22 @@ pub fn local_test(block: [[u8; 3]; 3]) -> Local
     let edges = u64::count_ones(t & 0x04444440444444);
     let faces = u64::count_ones(t & 0x00100111100100);
     Local {
-        k: k,
+        k,
         m: bare_groups(k, corners, edges, faces),
-        corners: corners,
-        edges: edges,
-        faces: faces,
+        corners,
+        edges,
+        faces,
         face: bare_face(t),
     }
+}
+
+// k, m and the face alone.
+pub fn groups_of(block: [[u8; 3]; 3]) -> Groups
+    requires { Rows block }
+    ensures { GroupsOf (test (kept_in block)) result }
+{
+    let Local { k, m, face, .. } = local_test(block);
+    Groups { k, m, face }
 }
 
 // Whether k = 1 and m = 1, by the statuses side by side. Most that do not pass fail by the Euler count alone, so it is asked first. The mask tells

@@ -1,14 +1,13 @@
 -- What each struct holds for each reply of a call that changes no grid. After a refusal all else is 0.
-use Rattle.std.specs.Prelude.{true, false, ℕ, pos}
-use Rattle.std.proofs.Math.Option.{Option, none, some}
+use Rattle.std.specs.Prelude.{true, false, ℕ, pos, Option, None, Some}
 use Rattle.std.specs.Float.Ieee.{of_bits}
 use Rattle.std.specs.Float.{binary64}
 use Rattle.rules.specs.Answer.{Reply, refused, done}
 use Rattle.surface.specs.declared.Point.{Point}
-use Rattle.points.specs.Listing.{Listing}
-use Rattle.format.specs.File.{Header}
+use Rattle.points.specs.declared.Listing.{Listing}
+use Rattle.format.specs.declared.Header.{Header}
 use Rattle.format.specs.declared.LayerSpan.{LayerSpan}
-use Rattle.judging.specs.Judge.{Judgement}
+use Rattle.judging.specs.declared.Judgement.{Judgement}
 use Rattle.look_replies.specs.declared.CrossingAnswer.{CrossingAnswer}
 use Rattle.look_replies.specs.declared.PointsAnswer.{PointsAnswer}
 use Rattle.look_replies.specs.declared.ReadReply.{ReadReply}
@@ -23,8 +22,8 @@ origin = record { x = of_bits binary64 0; y = of_bits binary64 0; z = of_bits bi
 
 abbrev pub crossing_struct : Reply (Option Point) → CrossingAnswer
 crossing_struct (refused n) = record { refusal = n; crosses = false; point = origin }
-crossing_struct (done none) = record { refusal = 0; crosses = false; point = origin }
-crossing_struct (done (some p)) = record { refusal = 0; crosses = true; point = p }
+crossing_struct (done None) = record { refusal = 0; crosses = false; point = origin }
+crossing_struct (done (Some p)) = record { refusal = 0; crosses = true; point = p }
 
 abbrev pub points_struct : Reply Listing → PointsAnswer
 points_struct (refused n) = record { refusal = n; count = 0; next = 0 }

@@ -2,23 +2,15 @@
 #![tactic(auto)]
 
 ghost use Rattle.std.specs.Prelude.{◌≡◌};
+ghost use Rattle.rules.specs.Refusals.{replied};
 ghost use Rattle.surface.specs.Surface.{crossed_answer};
-ghost use Rattle.points.specs.Listing.{listed_answer};
-ghost use Rattle.gridfile.specs.Answer.{read_answer};
-ghost use Rattle.layers.specs.Part.{layer_answer};
-ghost use Rattle.writing.specs.Answer.{write_answer};
-ghost use Rattle.judging.specs.Judge.{judged_answer};
-ghost use Rattle.practice.specs.Practice.{practised_answer};
-ghost use Rattle.look_replies.specs.Looks.{origin, crossing_struct, points_struct, read_struct, layer_struct, write_struct, judge_struct, practice_struct};
+ghost use Rattle.look_replies.specs.Looks.{crossing_struct, points_struct, read_struct, layer_struct, write_struct, judge_struct, practice_struct};
 
-use gridfile::ReadAnswer;
-use judging::Judged;
-use layers::LayerAnswer;
-use points::Listed;
-use practice::Practised;
-use rules::Sides;
+use format::{Header, LayerSpan};
+use judging::Judgement;
+use points::Listing;
+use rules::{Refusal, Sides};
 use surface::{Crossed, Point};
-use writing::WriteAnswer;
 
 #[repr(C)]
 #[derive(Clone, Copy)]
@@ -76,130 +68,141 @@ pub struct PracticeAnswer {
     pub refusal: u8,
 }
 
-fn zero() -> Point
-    ensures { result ≡ origin }
-{
-    Point {
-        x: 0.0,
-        y: 0.0,
-        z: 0.0,
+const ORIGIN: Point = Point {
+    x: 0.0,
+    y: 0.0,
+    z: 0.0,
+};
+
+impl From<Crossed> for CrossingAnswer {
+    ghost from_gives = { λ crossed answer. answer ≡ crossing_struct (crossed_answer crossed) };
+
+    fn from(crossed: Crossed) -> CrossingAnswer {
+        match crossed {
+            Crossed::Nowhere => CrossingAnswer {
+                refusal: 0,
+                crosses: false,
+                point: ORIGIN,
+            },
+            Crossed::At(point) => CrossingAnswer {
+                refusal: 0,
+                crosses: true,
+                point,
+            },
+            Crossed::Refused(refusal) => CrossingAnswer {
+                refusal,
+                crosses: false,
+                point: ORIGIN,
+            },
+        }
     }
 }
 
-pub fn crossing_answer(c: Crossed) -> CrossingAnswer
-    ensures { result ≡ crossing_struct (crossed_answer c) }
-{
-    match c {
-        Crossed::Nowhere => CrossingAnswer {
-            refusal: 0,
-            crosses: false,
-            point: zero(),
-        },
-        Crossed::At(point) => CrossingAnswer {
-            refusal: 0,
-            crosses: true,
-            point,
-        },
-        Crossed::Refused(refusal) => CrossingAnswer {
-            refusal,
-            crosses: false,
-            point: zero(),
-        },
+impl From<Result<Listing, Refusal>> for PointsAnswer {
+    ghost from_gives = { λ listed answer. answer ≡ points_struct (replied listed) };
+
+    fn from(listed: Result<Listing, Refusal>) -> PointsAnswer {
+        match listed {
+            Ok(Listing { count, next }) => PointsAnswer {
+                refusal: 0,
+                count,
+                next,
+            },
+            Err(refusal) => PointsAnswer {
+                refusal: u8::from(refusal),
+                count: 0,
+                next: 0,
+            },
+        }
     }
 }
 
-pub fn points_answer(l: Listed) -> PointsAnswer
-    ensures { result ≡ points_struct (listed_answer l) }
-{
-    match l {
-        Listed::Done { count, next } => PointsAnswer {
-            refusal: 0,
-            count,
-            next,
-        },
-        Listed::Refused(refusal) => PointsAnswer {
-            refusal,
-            count: 0,
-            next: 0,
-        },
+impl From<Result<Header, Refusal>> for ReadReply {
+    ghost from_gives = { λ read answer. answer ≡ read_struct (replied read) };
+
+    fn from(read: Result<Header, Refusal>) -> ReadReply {
+        match read {
+            Ok(Header { sides, allowed }) => ReadReply {
+                refusal: 0,
+                sides,
+                allowed,
+            },
+            Err(refusal) => ReadReply {
+                refusal: u8::from(refusal),
+                sides: Sides { a: 0, b: 0, c: 0 },
+                allowed: 0,
+            },
+        }
     }
 }
 
-pub fn read_answer(r: ReadAnswer) -> ReadReply
-    ensures { result ≡ read_struct (read_answer r) }
-{
-    match r {
-        ReadAnswer::Grid { sides, allowed } => ReadReply {
-            refusal: 0,
-            sides,
-            allowed,
-        },
-        ReadAnswer::Refused(refusal) => ReadReply {
-            refusal,
-            sides: Sides { a: 0, b: 0, c: 0 },
-            allowed: 0,
-        },
+impl From<Result<LayerSpan, Refusal>> for LayerReply {
+    ghost from_gives = { λ layer answer. answer ≡ layer_struct (replied layer) };
+
+    fn from(layer: Result<LayerSpan, Refusal>) -> LayerReply {
+        match layer {
+            Ok(LayerSpan { z, width, from, to }) => LayerReply {
+                refusal: 0,
+                z,
+                width,
+                from,
+                to,
+            },
+            Err(refusal) => LayerReply {
+                refusal: u8::from(refusal),
+                z: 0,
+                width: 0,
+                from: 0,
+                to: 0,
+            },
+        }
     }
 }
 
-pub fn layer_answer(l: LayerAnswer) -> LayerReply
-    ensures { result ≡ layer_struct (layer_answer l) }
-{
-    match l {
-        LayerAnswer::Found { z, width, from, to } => LayerReply {
-            refusal: 0,
-            z,
-            width,
-            from,
-            to,
-        },
-        LayerAnswer::Refused(refusal) => LayerReply {
-            refusal,
-            z: 0,
-            width: 0,
-            from: 0,
-            to: 0,
-        },
+impl From<Result<usize, Refusal>> for WriteReply {
+    ghost from_gives = { λ written answer. answer ≡ write_struct (replied written) };
+
+    fn from(written: Result<usize, Refusal>) -> WriteReply {
+        match written {
+            Ok(length) => WriteReply { refusal: 0, length },
+            Err(refusal) => WriteReply {
+                refusal: u8::from(refusal),
+                length: 0,
+            },
+        }
     }
 }
 
-pub fn write_answer(w: WriteAnswer) -> WriteReply
-    ensures { result ≡ write_struct (write_answer w) }
-{
-    match w {
-        WriteAnswer::Written(length) => WriteReply { refusal: 0, length },
-        WriteAnswer::Refused(refusal) => WriteReply { refusal, length: 0 },
+impl From<Result<Judgement, Refusal>> for JudgeAnswer {
+    ghost from_gives = { λ judged answer. answer ≡ judge_struct (replied judged) };
+
+    fn from(judged: Result<Judgement, Refusal>) -> JudgeAnswer {
+        match judged {
+            Ok(judgement) => JudgeAnswer {
+                refusal: 0,
+                removals: judgement.removed,
+                openings: judgement.opened,
+                euler: judgement.euler,
+            },
+            Err(refusal) => JudgeAnswer {
+                refusal: u8::from(refusal),
+                removals: 0,
+                openings: 0,
+                euler: 0,
+            },
+        }
     }
 }
 
-pub fn judge_answer(j: Judged) -> JudgeAnswer
-    ensures { result ≡ judge_struct (judged_answer j) }
-{
-    match j {
-        Judged::Accepted {
-            removals,
-            openings,
-            euler,
-        } => JudgeAnswer {
-            refusal: 0,
-            removals,
-            openings,
-            euler,
-        },
-        Judged::Refused(refusal) => JudgeAnswer {
-            refusal,
-            removals: 0,
-            openings: 0,
-            euler: 0,
-        },
-    }
-}
+impl From<Result<(), Refusal>> for PracticeAnswer {
+    ghost from_gives = { λ filled answer. answer ≡ practice_struct (replied filled) };
 
-pub fn practice_answer(p: Practised) -> PracticeAnswer
-    ensures { result ≡ practice_struct (practised_answer p) }
-{
-    match p {
-        Practised::Filled => PracticeAnswer { refusal: 0 },
-        Practised::Refused(refusal) => PracticeAnswer { refusal },
+    fn from(filled: Result<(), Refusal>) -> PracticeAnswer {
+        match filled {
+            Ok(()) => PracticeAnswer { refusal: 0 },
+            Err(refusal) => PracticeAnswer {
+                refusal: u8::from(refusal),
+            },
+        }
     }
 }

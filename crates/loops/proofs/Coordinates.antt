@@ -1,8 +1,8 @@
 -- An index by rows and layers, and the coordinates that it stands for.
 use mathlib.Core.Path.{◌≡◌, sym, ap, ◌∙◌}
-use Prim.Native.Nat.{ℕ, ◌+◌, ◌*◌, ◌/◌, ◌≤◌, ◌<◌}
+use Prim.Native.Nat.{ℕ, ◌+◌, ◌*◌, ◌<◌}
 use native.Mathlib.Omega.{arith}
-use native.Mathlib.Nat.{mul-le-mul_right, suc-mul, mul_comm, mul_assoc, mul-add, div-lt_iff_lt-mul, mod-lt, one-mul}
+use native.Mathlib.Nat.{mul-le-mul_right, suc-mul, mul_comm, mul_assoc, mul-add}
 use Rattle.rules.specs.declared.Sides.{Sides}
 use Rattle.rules.specs.Grid.{Voxel, size, index, voxel}
 use Rattle.rules.proofs.Places.{voxel-index, index-voxel}

@@ -1,23 +1,33 @@
--- A loop that joins the bits of bytes, and the test whether any byte has one.
+-- Bytes joined, and the test whether any byte has a bit.
 use mathlib.Core.Path.{◌≡◌, refl, ap, sym, ◌∙◌}
 use mathlib.Core.Bool.{Bool, true, not, ◌||◌}
-use mathlib.Core.List.{List}
-use Prim.Native.Nat.{ℕ, zero, suc, ◌+◌, ◌-◌, ◌≤◌, ◌<◌}
+use mathlib.Core.List.{List, [], ◌∷◌}
+use Prim.Native.Nat.{ℕ, zero, suc, ◌-◌, ◌≤◌, ◌<◌}
 use native.Mathlib.Omega.{arith}
 use borrow.Author.Tests.{ne_eqb}
 use lib.Bits.{bit_or, or_add_and, and_le_r}
 use lib.Dec.{eqb}
-use lib.ListN.{get_or}
-use Rattle.prelude.proofs.Ranges.{any-run-none, scan-more}
+use lib.ListN.{length, take, drop}
+use Rattle.std.specs.List.{fold}
+use Rattle.cells.specs.Groups.{any}
+use Rattle.prelude.proofs.Bools.{or-zero, or_assoc}
 use Rattle.loops.specs.Joined.{BitTest, Joined}
+use Rattle.loops.proofs.Spans.{any-span}
 
-module _ (l : List ℕ) (first i : ℕ) where
-  pub joined-none : i - first ≡ 0 → Joined l first i 0
-  joined-none e = record { each = λ p t. t.none ∙ sym (any-run-none _ _ _ e) }
+module _ (p : ℕ → Bool) (t : BitTest p) where
+  fold-joined : (all : ℕ) (xs : List ℕ) → p (fold bit_or all xs) ≡ p all || any p xs
+  unfolding any
+  fold-joined all [] = sym (or-zero (p all))
+  fold-joined all (x ∷ xs) = fold-joined (bit_or all x) xs ∙ ap (λ (u : Bool). u || any p xs) (t.either all x) ∙ or_assoc (p all) (p x) (any p xs)
 
-  pub joined-more : (all : ℕ) → first ≤ i → Joined l first i all → Joined l first (i + 1) (bit_or all (get_or l i 0))
-  joined-more all h J =
-      record { each = λ p t. t.either all (get_or l i 0) ∙ scan-more (λ i. p (get_or l i 0)) first i (p all) _ h (J.each p t) refl }
+-- the bytes from first up to end, one after the other
+pub joined_all : (l : List ℕ) (first end : ℕ) → first ≤ end → end ≤ length l → Joined l first end (fold bit_or 0 (take (end - first) (drop first l)))
+joined_all l first end h k =
+    record {
+      each = λ p t. fold-joined p t 0 (take (end - first) (drop first l))
+          ∙ ap (λ (u : Bool). u || any p (take (end - first) (drop first l))) t.none
+          ∙ any-span p 0 l first (end - first) (omega arith);
+    }
 
 -- a number other than 0 has a bit
 pub nonzero-test : BitTest (λ x. not (eqb x 0))

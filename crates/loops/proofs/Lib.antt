@@ -1,7 +1,11 @@
 pub mod Orders
 pub mod Below
 pub mod InPlace
+pub mod Parts
 pub mod Coordinates
 pub mod Rows
 pub mod Borders
+pub mod Spans
+pub mod Folds
+pub mod Searching
 pub mod Joining

@@ -1,10 +1,10 @@
 -- Numbers in order, and a loop that stores one element after the other.
-use mathlib.Core.Path.{◌≡◌, refl, ◌∙◌, subst}
+use mathlib.Core.Path.{◌≡◌, refl, ◌∙◌}
 use mathlib.Core.Logic.{◌⊎◌, inl, inr, ⊎_elim}
 use mathlib.Core.List.{List, [], ◌∷◌}
 use Prim.Native.Nat.{ℕ, zero, suc, ◌+◌, ◌*◌, ◌≤◌, ◌<◌}
 use native.Mathlib.Omega.{arith}
-use native.Mathlib.Nat.{eq-or-lt_of_le, mul-le-mul_right, suc-mul}
+use native.Mathlib.Nat.{mul-le-mul_right, suc-mul}
 use borrow.Author.Count.{below_more}
 use borrow.Author.Tests.{leb-true, leb-false}
 use lib.Dec.{leb}
@@ -37,16 +37,5 @@ get_d-within (x ∷ l) (suc i) d e h = get_d-within l i d e (omega arith)
 -- ---- a search
 
 module _ (l : List ℕ) {v low high : ℕ} where
-  pub absent_none : high ≤ low → Absent l v low high
-  absent_none e k f h = let z : ⊥ = omega arith in absurd z
-
   pub absent-join : (i : ℕ) → Absent l v low i → Absent l v i high → Absent l v low high
   absent-join i before after k f h e = ⊎_elim (λ q. after k q h e) (λ q. before k f q e) (split i k)
-
-  -- nor at i, nor before, nor after
-  pub absent-around : (i : ℕ) → (get_or l i 0 ≡ v → ⊥) → Absent l v low i → Absent l v (suc i) high → Absent l v low high
-  absent-around i here before after k f h e =
-      ⊎_elim
-      (λ q. ⊎_elim (λ q. here (subst (λ (j : ℕ). get_or l j 0 ≡ v) q e)) (λ q. before k f q e) (eq-or-lt_of_le q))
-      (λ q. after k q h e)
-      (split k i)

@@ -11,16 +11,16 @@ pub record Passed (l : List ℕ) (v first end r : ℕ) : Type 0 where
   pub high : r ≤ end
   pub none_before : Absent l v first r
 
--- r is the first index from first up to end at which v stands, or end
-pub record First (l : List ℕ) (v first end r : ℕ) : Type 0 where
-  pub low : first ≤ r
-  pub high : r ≤ end
-  pub none_before : Absent l v first r
-  pub found : r < end → get_or l r 0 ≡ v
+-- i is the first index from first up to end at which v stands
+pub record First (l : List ℕ) (v first end i : ℕ) : Type 0 where
+  pub low : first ≤ i
+  pub high : i < end
+  pub none_before : Absent l v first i
+  pub found : get_or l i 0 ≡ v
 
--- r is the last index from first up to end at which v stands, or first
-pub record Last (l : List ℕ) (v first end r : ℕ) : Type 0 where
-  pub low : first ≤ r
-  pub high : r < end
-  pub none_after : Absent l v (suc r) end
-  pub found : first < r → get_or l r 0 ≡ v
+-- i is the last index from first up to end at which v stands
+pub record Last (l : List ℕ) (v first end i : ℕ) : Type 0 where
+  pub low : first ≤ i
+  pub high : i < end
+  pub none_after : Absent l v (suc i) end
+  pub found : get_or l i 0 ≡ v

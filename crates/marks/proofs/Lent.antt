@@ -12,8 +12,7 @@ use lib.ListN.{length, get_or, take, get_or-eq_default}
 use lib.Seq.{take-length}
 use Rattle.cells.specs.Groups.{any}
 use Rattle.prelude.proofs.Bools.{two, not-false}
-use Rattle.prelude.proofs.Lists.{any-map}
-use Rattle.prelude.proofs.Ranges.{is-map-range, none_below}
+use Rattle.prelude.proofs.Ranges.{none_below}
 use Rattle.rules.specs.declared.Sides.{Sides}
 use Rattle.rules.specs.Grid.{fit_sides, size, range}
 use Rattle.rules.specs.Marks.{mark_of, marked, stray_mark}
@@ -22,6 +21,7 @@ use Rattle.rules.proofs.Rows.{size-high}
 use Rattle.rules.proofs.Unmarked.{marked-none}
 use Rattle.loops.specs.Joined.{BitTest, Joined}
 use Rattle.loops.proofs.Joining.{nonzero-test}
+use Rattle.loops.proofs.Spans.{any-read}
 use Rattle.marks.specs.Lent.{All, used_of}
 
 -- a number over 3 has a bit from bit 2 on
@@ -46,12 +46,6 @@ over-test = record { none = refl; either = either }
           ]
         ]
 
--- a test of each place is one of each element
-any-read : (p : ℕ → Bool) (l : List ℕ) → any (λ i. p (get_or l i 0)) (range 0 (length l)) ≡ any p l
-any-read p l =
-    sym (any-map p (λ i. get_or l i 0) (range 0 (length l)))
-    ∙ ap (any p) (sym (is-map-range (λ i. get_or l i 0) 0 (length l) l refl (λ i h. refl)))
-
 -- all are handed on, or none, and then they are 0
 used-either : (all n : ℕ) → (used_of all n ≡ n) ⊎ ((all ≡ 0) × (used_of all n ≡ 0))
 unfolding used_of
@@ -67,7 +61,7 @@ module _ (marks : List ℕ) (all : ℕ) (j : Joined marks 0 (length marks) all) 
 
   pub joined-stray : ltb 3 all ≡ stray_mark marks
   unfolding stray_mark
-  joined-stray = joined-each (ltb 3) over-test ∙ any-read (ltb 3) marks
+  joined-stray = joined-each (ltb 3) over-test ∙ sym (any-read (ltb 3) 0 marks)
 
 module _ (marks : List ℕ) (all : ℕ) (h : All marks all) (few : length marks ≤ 262144) where
   pub stray-is : ltb 3 all ≡ stray_mark marks

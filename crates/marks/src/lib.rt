@@ -27,10 +27,7 @@ pub fn hurries(mark: u8) -> bool
 fn mark(marks: &[u8], j: usize) -> u8
     ensures { result ≡ mark_of marks.now j }
 {
-    if j < marks.len() {
-        return marks[j];
-    }
-    0
+    marks.get(j).copied().unwrap_or(0)
 }
 
 pub fn pinned(marks: &[u8], j: usize) -> bool
@@ -50,9 +47,10 @@ pub fn all(marks: &[u8]) -> u8
     ensures { All marks.now result }
 {
     if MOST < marks.len() {
-        return 0;
+        0
+    } else {
+        loops::joined(marks, 0, marks.len())
     }
-    loops::joined(marks, 0, marks.len())
 }
 
 // Number 29: whether a mark is over 3, of as many as there are.
@@ -66,8 +64,5 @@ pub fn stray(marks: &[u8]) -> bool
 pub fn used(all: u8, n: usize) -> usize
     ensures { (result ≡ used_of all n) × (result ≤ n) }
 {
-    if all == 0 {
-        return 0;
-    }
-    n
+    if all == 0 { 0 } else { n }
 }

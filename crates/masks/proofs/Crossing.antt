@@ -1,5 +1,5 @@
 -- The pending voxels of eight times eight bytes as the bits of one number, and bits that change places.
-use mathlib.Core.Path.{◌≡◌, refl, sym, ap, ap₂, ◌∙◌, subst}
+use mathlib.Core.Path.{◌≡◌, refl, sym, ap, ap₂, ◌∙◌}
 use mathlib.Core.Bool.{Bool, true, false, not, cond, ◌&&◌, ◌||◌, true≢false}
 use mathlib.Core.Logic.{◌⊎◌, inl, inr}
 use Prim.Native.Nat.{ℕ, zero, suc, ◌+◌, ◌-◌, ◌*◌, ◌/◌, ◌%◌, ◌^◌, ◌≤◌, ◌<◌}
@@ -9,8 +9,8 @@ use borrow.Author.Tests.{eqb-true, ltb-true, leb-true}
 use lib.Dec.{eqb, leb, ltb, lit<}
 use lib.Pow.{shl_exact, shr_le}
 use lib.Bits.{bit_and, bit_or, bit_xor, and_le_r, xor_lt}
-use Rattle.prelude.proofs.Bools.{and-true, or-zero, and_zero, and_one, not-true, two}
-use Rattle.bits.specs.Bits.{has, bits}
+use Rattle.prelude.proofs.Bools.{or-zero, and_zero, and_one, not-true, two}
+use Rattle.bits.specs.Bits.{has}
 use Rattle.bits.proofs.Bits.{has-shr, has-shl, has-and, has-or, has-bits, bits-has, bits-xor, below, all_below, unlike}
 use Rattle.masks.specs.Bits.{crossed, partner}
 

@@ -1,16 +1,17 @@
 -- Bytes side by side in one number, and the pending voxels of the bytes up to the last as the bits of one.
-use mathlib.Core.Path.{◌≡◌, sym, ap, ap₂, ◌∙◌, subst}
+use mathlib.Core.Path.{◌≡◌, refl, sym, ap, ap₂, ◌∙◌, subst}
 use mathlib.Core.Bool.{Bool, false, ◌&&◌, ◌||◌}
-use mathlib.Core.List.{List}
+use mathlib.Core.List.{List, [], ◌∷◌}
 use Prim.Native.Nat.{ℕ, zero, suc, ◌+◌, ◌-◌, ◌*◌, ◌/◌, ◌%◌, ◌^◌, ◌≤◌, ◌<◌}
-use native.Mathlib.Nat.{lt_of_lt_of_le, pow-le-pow_right, div-eq_of_lt}
+use native.Mathlib.Nat.{lt_of_lt_of_le, pow-le-pow_right, div-eq_of_lt, add_comm}
 use native.Mathlib.Omega.{arith}
 use native.Mathlib.Decide.{dec_lt}
 use borrow.Author.Tests.{le-leb, lt-leb}
 use lib.Dec.{eqb, lit<}
 use lib.Arith.{digits_lt}
-use lib.Pow.{shl_exact, pow-add}
-use lib.Bits.{bit_or, or_shifted_r}
+use lib.Pow.{pow-add}
+use lib.Bits.{or_shifted_r}
+use Rattle.std.specs.Int.{w64, from_le_bytes}
 use lib.ListN.{length, get_or}
 use Rattle.prelude.proofs.Bools.{or-zero}
 use Rattle.cells.specs.Cells.{bit}
@@ -35,34 +36,50 @@ loaded-one s at x e h = record { small = h; pending = one }
     one zero l = let z : at ≡ at + 0 = omega arith in ap (λ (y : ℕ). eqb (y / 2 % 2) 1) (e ∙ ap (λ (i : ℕ). get_or s i 0) z)
     one (suc b) l = let z : ⊥ = omega arith in absurd z
 
--- as code joins them in 64 bits
-pub loaded-join :
-    (w : ℕ) (s : List ℕ) (at x y : ℕ) → 8 * w + 8 * w ≤ 64 → Loaded w s at x → Loaded w s (at + w) y
-    → Loaded (w + w) s at (bit_or x ((y * 2 ^ (8 * w)) % 2 ^ 64))
-loaded-join w s at x y h X Y =
+-- one byte more
+pub loaded-more :
+    (w : ℕ) (s : List ℕ) (at x y : ℕ) → Loaded w s at x → y ≡ get_or s (at + w) 0 → y < 256 → Loaded (w + 1) s at (x + y * 2 ^ (8 * w))
+unfolding has pending_byte is_pending
+loaded-more w s at x y X e h =
     let k : ℕ = 8 * w in
-    let twice : k + k ≡ 8 * (w + w) = omega arith in
+    let more : 8 + k ≡ 8 * (w + 1) = omega arith in
+    let byte : y < 2 ^ 8 = h in
     record {
       small =
-          subst (λ (n : ℕ). n < 2 ^ (8 * (w + w))) (sym (ap (bit_or x) exact ∙ or_shifted_r y k x X.small))
-          (subst (λ (n : ℕ). y * 2 ^ k + x < n) (sym (pow-add 2 k k) ∙ ap (λ (n : ℕ). 2 ^ n) twice) (digits_lt Y.small X.small));
-      pending = λ b l. ap (λ (n : ℕ). has n (8 * b + 1)) (ap (bit_or x) exact) ∙ has-or x (y * 2 ^ k) (8 * b + 1) ∙ digit b l (dec_lt b w);
+          subst (λ (n : ℕ). n < 2 ^ (8 * (w + 1))) (add_comm (y * 2 ^ k) x)
+          (subst (λ (n : ℕ). y * 2 ^ k + x < n) (sym (pow-add 2 8 k) ∙ ap (λ (n : ℕ). 2 ^ n) more) (digits_lt byte X.small));
+      pending =
+          λ b l.
+          ap (λ (n : ℕ). has n (8 * b + 1)) (add_comm x (y * 2 ^ k) ∙ sym (or_shifted_r y k x X.small))
+          ∙ has-or x (y * 2 ^ k) (8 * b + 1)
+          ∙ digit b l (dec_lt b w);
     }
   where
-    exact : (y * 2 ^ (8 * w)) % 2 ^ 64 ≡ y * 2 ^ (8 * w)
-    exact = shl_exact (8 * w) (8 * w) 64 Y.small h
-
-    digit : (b : ℕ) → b < w + w → Dec (b < w) → has x (8 * b + 1) || has (y * 2 ^ (8 * w)) (8 * b + 1) ≡ is_pending s (at + b)
+    digit : (b : ℕ) → b < w + 1 → Dec (b < w) → has x (8 * b + 1) || has (y * 2 ^ (8 * w)) (8 * b + 1) ≡ is_pending s (at + b)
     digit b l (yes u) =
         let past = lt-leb (8 * w) (8 * b + 1) (omega arith) in
         ap₂ ◌||◌ (X.pending b u) (has-shl y (8 * w) (8 * b + 1) ∙ ap (λ (t : Bool). t && has y (8 * b + 1 - 8 * w)) past)
         ∙ or-zero (is_pending s (at + b))
     digit b l (no u) =
-        let i : 8 * b + 1 - 8 * w ≡ 8 * (b - w) + 1 = omega arith in
-        let j : at + w + (b - w) ≡ at + b = omega arith in
+        let z : b ≡ w = omega arith in
+        let i : 8 * b + 1 - 8 * w ≡ 1 = omega arith in
         ap₂ ◌||◌ (has-past x (8 * w) (8 * b + 1) X.small (omega arith))
         (has-shl y (8 * w) (8 * b + 1)
-        ∙ ap₂ ◌&&◌ (le-leb (8 * w) (8 * b + 1) (omega arith)) (ap (has y) i ∙ Y.pending (b - w) (omega arith) ∙ ap (is_pending s) j))
+        ∙ ap₂ ◌&&◌ (le-leb (8 * w) (8 * b + 1) (omega arith)) (ap (has y) i)
+        ∙ ap (λ (v : ℕ). eqb (v / 2 % 2) 1) (e ∙ ap (λ (c : ℕ). get_or s (at + c) 0) (sym z)))
+
+-- eight bytes, as the library sums them
+module _ (s : List ℕ) (at : ℕ) (small : (i : ℕ) → get_or s i 0 < 256) where
+  abbrev byte : ℕ → ℕ
+  byte i = get_or s (at + i) 0
+
+  more : (w x : ℕ) → Loaded w s at x → Loaded (w + 1) s at (x + byte w * 2 ^ (8 * w))
+  more w x X = loaded-more w s at x (byte w) X refl (small (at + w))
+
+  pub loaded-eight : (r : ℕ) → r ≡ from_le_bytes w64 (get_or s at 0 ∷ byte 1 ∷ byte 2 ∷ byte 3 ∷ byte 4 ∷ byte 5 ∷ byte 6 ∷ byte 7 ∷ []) → Loaded 8 s at r
+  loaded-eight r e =
+      subst (Loaded 8 s at) (sym e)
+      (more 7 _ (more 6 _ (more 5 _ (more 4 _ (more 3 _ (more 2 _ (more 1 _ (loaded-one s at _ refl (small at)))))))))
 
 -- ---- the bytes from j to the last, the last first
 

@@ -7,34 +7,23 @@ ghost use Rattle.rules.specs.Status.{is_pending};
 ghost use Rattle.masks.specs.Bits.{width, Loaded, crossed, partner, Exchange};
 
 // How many voxels make a stretch.
-const WIDTH: usize = 64;
+pub const WIDTH: usize = 64;
 
-fn wide(x: u8) -> u64
-    ensures { (result ≡ x) × (result < 256) }
-{
-    x as u64
-}
-
-// Two, four, eight bytes as one number, the first the lowest.
-fn load2(s: &[u8], at: usize) -> u64
-    requires { at + 2 ≤ length s.now }
-    ensures { Loaded 2 s.now at result }
-{
-    wide(s[at]) | wide(s[at + 1]) << 8
-}
-
-fn load4(s: &[u8], at: usize) -> u64
-    requires { at + 4 ≤ length s.now }
-    ensures { Loaded 4 s.now at result }
-{
-    load2(s, at) | load2(s, at + 2) << 16
-}
-
+// Eight bytes as one number, the first the lowest.
 fn load8(s: &[u8], at: usize) -> u64
     requires { at + 8 ≤ length s.now }
     ensures { Loaded 8 s.now at result }
 {
-    load4(s, at) | load4(s, at + 4) << 32
+    u64::from_le_bytes([
+        s[at],
+        s[at + 1],
+        s[at + 2],
+        s[at + 3],
+        s[at + 4],
+        s[at + 5],
+        s[at + 6],
+        s[at + 7],
+    ])
 }
 
 // Bit 8 b + c says whether voxel at + 8 c + b is pending.
@@ -69,13 +58,12 @@ fn whole(status: &[u8], at: usize) -> u64
 {
     let x = across(status, at);
     if x == 0 {
-        return 0;
+        0
+    } else {
+        let near = exchange(x, 0x00AA00AA00AA00AA, 7);
+        let far = exchange(near, 0x0000CCCC0000CCCC, 14);
+        exchange(far, 0x00000000F0F0F0F0, 28)
     }
-    exchange(
-        exchange(exchange(x, 0x00AA00AA00AA00AA, 7), 0x0000CCCC0000CCCC, 14),
-        0x00000000F0F0F0F0,
-        28,
-    )
 }
 
 // The pending voxels from at to the last, fewer than a stretch has.
@@ -84,9 +72,7 @@ fn rest(status: &[u8], at: usize) -> u64
     ensures { result ≡ bits (length status.now - at) (λ c. is_pending status.now (at + c)) }
 {
     let mut m: u64 = 0;
-    let mut j = status.len();
-    while at < j {
-        j -= 1;
+    for j in (at..status.len()).rev() {
         m = m * 2 + status::pending_bit(status[j]);
     }
     m
@@ -98,7 +84,8 @@ pub fn pending_bits(status: &[u8], at: usize) -> u64
     ensures { (t : ℕ) → t < width → has result t ≡ is_pending status.now (at + t) }
 {
     if WIDTH <= status.len() - at {
-        return whole(status, at);
+        whole(status, at)
+    } else {
+        rest(status, at)
     }
-    rest(status, at)
 }

@@ -10,13 +10,15 @@ use lib.Dec.{eqb}
 use borrow.Author.Tests.{eq-eqb, ne_eqb}
 use Rattle.cells.specs.Groups.{any, filter}
 use Rattle.prelude.proofs.Bools.{true-or}
-use Rattle.rules.specs.Answer.{Reply, refused, done, outcome, Carving}
+use Rattle.rules.specs.declared.Carving.{Carving}
+use Rattle.rules.specs.Answer.{Reply, refused, done, outcome}
 use Rattle.rules.specs.Status.{any_pending}
 use Rattle.rules.specs.Machine.{State, carve}
 use Rattle.rules.specs.Demand.{carve_up_to, call, run, both, of_carve}
 use Rattle.office.specs.Parts.{part_at}
 use Rattle.office.specs.Order.{queue}
-use Rattle.office.specs.Serve.{Office, grids, sizes, grid_at, waits, to_serve, Serving, left, after_serve}
+use Rattle.office.specs.declared.Serving.{Serving}
+use Rattle.office.specs.Serve.{Office, grids, sizes, grid_at, waits, to_serve, left, after_serve}
 use Rattle.office.specs.Lists.{OthersStay, RefusedLeavesAll, Request, Service, noted, after_all, services, of_place, ServedWithin, ServedInTime}
 use Rattle.office.specs.Lists.{carves_of, answers_alone, AsAlone, sums_of}
 use Rattle.office.proofs.Queue.{FitOrder, Stands, stands-in, moves-up}

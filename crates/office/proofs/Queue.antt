@@ -3,7 +3,7 @@ use mathlib.Core.Path.{◌≡◌, refl, ap, ap₂, sym, ◌∙◌, subst}
 use mathlib.Core.Logic.{◌⊎◌, inl, inr, ◌≢◌}
 use mathlib.Core.Bool.{Bool, true, false, not, cond, ◌&&◌, ◌||◌}
 use mathlib.Core.List.{List, [], ◌∷◌, ◌++◌, append_assoc}
-use mathlib.Core.Option.{none, some}
+use Rattle.std.specs.Prelude.{None, Some}
 use Prim.Native.Nat.{ℕ, suc, ◌≤◌, ◌<◌}
 use native.Mathlib.Omega.{arith}
 use lib.Dec.{leb, ltb, eqb}
@@ -171,36 +171,36 @@ module _ (n p : ℕ) (order : List ℕ) where
 -- ---- who is chosen
 
 module _ (w : ℕ → Bool) where
-  pub first-mem : (xs : List ℕ) (p : ℕ) → first_waiting w xs ≡ some p → (Mem p xs) × (w p ≡ true)
+  pub first-mem : (xs : List ℕ) (p : ℕ) → first_waiting w xs ≡ Some p → (Mem p xs) × (w p ≡ true)
   unfolding first_waiting
   first-mem [] p e = let z : ◌≡◌ {A = ℕ} 0 1 = cc in let y : ⊥ = omega arith in absurd y
   first-mem (x ∷ xs) p e = go (w x) refl e (first-mem xs p)
     where
-      go : (t : Bool) → w x ≡ t → cond t (some x) (first_waiting w xs) ≡ some p → (first_waiting w xs ≡ some p → (Mem p xs) × (w p ≡ true))
+      go : (t : Bool) → w x ≡ t → cond t (Some x) (first_waiting w xs) ≡ Some p → (first_waiting w xs ≡ Some p → (Mem p xs) × (w p ≡ true))
           → (Mem p (x ∷ xs)) × (w p ≡ true)
       go true f e rest = let q : x ≡ p = cc in subst (λ (y : ℕ). (Mem y (x ∷ xs)) × (w y ≡ true)) q (here, f)
       go false f e rest = let r = rest e in (there r.0, r.1)
 
   -- where none is, nobody waits
-  pub none-waits : (xs : List ℕ) → first_waiting w xs ≡ none → (x : ℕ) → Mem x xs → w x ≡ false
+  pub none-waits : (xs : List ℕ) → first_waiting w xs ≡ None → (x : ℕ) → Mem x xs → w x ≡ false
   unfolding first_waiting
   none-waits [] e x m = elim m [ ]
   none-waits (y ∷ xs) e x m = go (w y) refl e (mem-cons m) (λ e. none-waits xs e x)
     where
-      go : (t : Bool) → w y ≡ t → cond t (some y) (first_waiting w xs) ≡ none → (x ≡ y) ⊎ (Mem x xs)
-          → (first_waiting w xs ≡ none → Mem x xs → w x ≡ false) → w x ≡ false
+      go : (t : Bool) → w y ≡ t → cond t (Some y) (first_waiting w xs) ≡ None → (x ≡ y) ⊎ (Mem x xs)
+          → (first_waiting w xs ≡ None → Mem x xs → w x ≡ false) → w x ≡ false
       go true f e m rest = let z : ◌≡◌ {A = ℕ} 0 1 = cc in let y : ⊥ = omega arith in absurd y
       go false f e (inl q) rest = ap w q ∙ f
       go false f e (inr m) rest = rest e m
 
   -- whoever waits, or one before it
-  first-ahead : (x : ℕ) → w x ≡ true → (front back : List ℕ) (p : ℕ) → first_waiting w (front ++ x ∷ back) ≡ some p → (p ≡ x) ⊎ (Mem p front)
+  first-ahead : (x : ℕ) → w x ≡ true → (front back : List ℕ) (p : ℕ) → first_waiting w (front ++ x ∷ back) ≡ Some p → (p ≡ x) ⊎ (Mem p front)
   unfolding first_waiting
-  first-ahead x e [] back p c = inl (let q : some x ≡ some p = ap (λ (t : Bool). cond t (some x) (first_waiting w back)) (sym e) ∙ c in cc)
+  first-ahead x e [] back p c = inl (let q : Some x ≡ Some p = ap (λ (t : Bool). cond t (Some x) (first_waiting w back)) (sym e) ∙ c in cc)
   first-ahead x e (y ∷ front) back p c = go (w y) c (first-ahead x e front back p)
     where
-      go : (t : Bool) → cond t (some y) (first_waiting w (front ++ x ∷ back)) ≡ some p
-          → (first_waiting w (front ++ x ∷ back) ≡ some p → (p ≡ x) ⊎ (Mem p front)) → (p ≡ x) ⊎ (Mem p (y ∷ front))
+      go : (t : Bool) → cond t (Some y) (first_waiting w (front ++ x ∷ back)) ≡ Some p
+          → (first_waiting w (front ++ x ∷ back) ≡ Some p → (p ≡ x) ⊎ (Mem p front)) → (p ≡ x) ⊎ (Mem p (y ∷ front))
       go true c rest = let q : y ≡ p = cc in inr (subst (λ (z : ℕ). Mem z (y ∷ front)) q here)
       go false c rest = elim (rest c) [ inl q ↦ inl q | inr m ↦ inr (there m) ]
 
@@ -233,7 +233,7 @@ stands-in n x order fit h = go (queue n order) (in-queue n order x h) (queue-fit
           few = omega (arith, few-below n q f, ap length e, length-append r.0 (x ∷ r.1.0));
         }
 
-pub moves-up : (w : ℕ → Bool) (n x p k : ℕ) (order : List ℕ) → w x ≡ true → first_waiting w (queue n order) ≡ some p → x ≢ p
+pub moves-up : (w : ℕ → Bool) (n x p k : ℕ) (order : List ℕ) → w x ≡ true → first_waiting w (queue n order) ≡ Some p → x ≢ p
     → Stands x (suc k) (queue n order) → Stands x k (queue n (served_last p order))
 unfolding others filter
 moves-up w n x p k order e c d s =

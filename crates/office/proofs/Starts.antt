@@ -33,7 +33,8 @@ use Rattle.coarse.specs.Starts.{AcceptedGrid, plain, coarse, handed_by, Promised
 use Rattle.coarse.proofs.Starts.{promised, of-handed}
 use Rattle.office.specs.Parts.{total, laid, part_at}
 use Rattle.office.specs.Order.{unfit_order}
-use Rattle.office.specs.Serve.{Office, grids, sizes, no_record, grid_at, waits, to_serve, wrong_lengths, serve_checks, Serving, Left, left}
+use Rattle.office.specs.declared.Serving.{Serving}
+use Rattle.office.specs.Serve.{Office, grids, sizes, no_record, grid_at, waits, to_serve, wrong_lengths, serve_checks, Left, left}
 use Rattle.office.specs.Serve.{served_at, serve, after_serve}
 use Rattle.office.specs.Lists.{Request, Service, after_all, services, of_place, Start, begun, office_of, fresh}
 use Rattle.office.specs.Lists.{carves_of, AsAlone, EachAsAlone, DemandOfEach, InRange, RefusedOnlyWhenQuiet}

@@ -3,7 +3,7 @@ use mathlib.Core.Path.{◌≡◌, refl, ap, ap₂, sym, ◌∙◌, subst}
 use mathlib.Core.Logic.{◌≢◌}
 use mathlib.Core.Bool.{Bool, false, not, ◌&&◌, ◌||◌}
 use mathlib.Core.List.{List}
-use mathlib.Core.Option.{Option, none, some}
+use Rattle.std.specs.Prelude.{Option, None, Some}
 use Prim.Native.Nat.{ℕ, ◌<◌}
 use native.Mathlib.Omega.{arith}
 use lib.Dec.{eqb}
@@ -17,7 +17,8 @@ use Rattle.prelude.proofs.Ranges.{none_below, any_below}
 use Rattle.rules.specs.declared.Record.{Record}
 use Rattle.rules.specs.Grid.{range, fit_sides, size}
 use Rattle.rules.specs.Checks.{AllHold}
-use Rattle.rules.specs.Answer.{done, Outcome, outcome, untouched, Buffers, buffers, Carving}
+use Rattle.rules.specs.declared.Carving.{Carving}
+use Rattle.rules.specs.Answer.{done, Outcome, outcome, untouched, Buffers, buffers}
 use Rattle.rules.specs.Marks.{marked, stray_mark, wrong_marks}
 use Rattle.rules.specs.Machine.{State, may_go, sooner, unfit, wrong_length, marked_checks, the_voxel, carved, carve}
 use Rattle.rules.specs.Fit.{Marking}
@@ -30,7 +31,8 @@ use Rattle.rules.proofs.NeverUnfit.{is-carved}
 use Rattle.office.specs.Parts.{total, part_at, put}
 use Rattle.office.specs.Order.{unfit_order, queue, served_last}
 use Rattle.office.specs.Serve.{Office, office, grids, sizes, no_record, grid_at, waits, to_serve, wrong_lengths, serve_checks}
-use Rattle.office.specs.Serve.{Serving, Left, left, served_at, serve, after_serve}
+use Rattle.office.specs.declared.Serving.{Serving}
+use Rattle.office.specs.Serve.{Left, left, served_at, serve, after_serve}
 use Rattle.office.proofs.Parts.{length-put, part-put, part-put-other, put_same, part_length, none-in-part}
 use Rattle.office.proofs.Queue.{FitOrder, fit-order, in-queue, queue-fit, first-mem, none-waits}
 
@@ -85,16 +87,16 @@ module _ (marks : List ℕ) (limit : ℕ) (o : Office) (h : AllHold (serve_check
       )
 
   -- some place is chosen, and it is a grid's
-  chosen : (p : ℕ) × (to_serve o ≡ some p) × (p < grids o)
+  chosen : (p : ℕ) × (to_serve o ≡ Some p) × (p < grids o)
   unfolding to_serve
   chosen = go (to_serve o) refl
     where
       q : List ℕ
       q = queue (grids o) o.order
 
-      go : (found : Option ℕ) → to_serve o ≡ found → (p : ℕ) × (to_serve o ≡ some p) × (p < grids o)
-      go (some p) e = (p, e, (queue-fit (grids o) o.order order-fits).below p (first-mem (waits o) q p e).0)
-      go none e =
+      go : (found : Option ℕ) → to_serve o ≡ found → (p : ℕ) × (to_serve o ≡ Some p) × (p < grids o)
+      go (Some p) e = (p, e, (queue-fit (grids o) o.order order-fits).below p (first-mem (waits o) q p e).0)
+      go None e =
           let x = any_below (waits o) (grids o) (not-false _ (held 35)) in
           not-both (waits o x.0) x.2 (none-waits (waits o) q e x.0 (in-queue (grids o) o.order x.0 x.1))
 
@@ -171,7 +173,7 @@ module _ (o : Office) (lens : Lengths o) (p : ℕ) (below : p < grids o) (marks 
 
 pub record Serves (marks : List ℕ) (limit : ℕ) (o : Office) (a : Serving) (next : Office) : Type 0 where
   pub fit : FitOrder (grids o) o.order
-  pub chosen : to_serve o ≡ some a.place
+  pub chosen : to_serve o ≡ Some a.place
   pub below : a.place < grids o
   pub answered : (carve (part_at (sizes o) marks a.place) limit (grid_at o a.place)).answer ≡ done a.carving
   pub order : next.order ≡ served_last a.place o.order
@@ -191,7 +193,7 @@ module _ (marks : List ℕ) (limit : ℕ) (o : Office) where
   unfolding served_at after_serve
   served h = go (chosen marks limit o h)
     where
-      go : (p : ℕ) × (to_serve o ≡ some p) × (p < grids o) → Answered (served_at marks limit o (the_voxel (to_serve o)))
+      go : (p : ℕ) × (to_serve o ≡ Some p) × (p < grids o) → Answered (served_at marks limit o (the_voxel (to_serve o)))
       go (p, e, below) =
           let own = part_at (sizes o) marks p in
           let c = carves own limit (grid_at o p) (marking (grid_at o p) own (grid-holds marks limit o h p below)) in

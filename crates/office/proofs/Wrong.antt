@@ -14,7 +14,8 @@ use Rattle.rules.specs.Answer.{Reply, refused, done, Outcome}
 use Rattle.rules.specs.Machine.{State, unfit}
 use Rattle.rules.specs.Cases.{case_d, mark_d}
 use Rattle.rules.proofs.Answers.{answers}
-use Rattle.office.specs.Serve.{Office, grids, grid_at, Serving, Left, served_at, serve}
+use Rattle.office.specs.declared.Serving.{Serving}
+use Rattle.office.specs.Serve.{Office, grids, grid_at, Left, served_at, serve}
 use Rattle.office.specs.Lists.{office_of}
 use Rattle.office.specs.Examples.{no_mark, waiting, resting, ended, overcounted, sideless}
 use Rattle.office.specs.Wrong.{serve_by, checks_by, ServeInParts, Other, WrongServings, ServeAnswers}

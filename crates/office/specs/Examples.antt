@@ -5,7 +5,8 @@ use Rattle.rules.specs.Begin.{new_record}
 use Rattle.rules.specs.Machine.{State, state, count, as_finished}
 use Rattle.rules.specs.Cases.{sides, case_a, case_d, box_d, mark_d}
 use Rattle.office.specs.Parts.{total}
-use Rattle.office.specs.Serve.{Office, sizes, grid_at, Serving, serve}
+use Rattle.office.specs.declared.Serving.{Serving}
+use Rattle.office.specs.Serve.{Office, sizes, grid_at, serve}
 use Rattle.office.specs.Lists.{Request, services, after_all, office_of}
 
 -- no voxel is marked

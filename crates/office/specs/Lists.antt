@@ -5,13 +5,15 @@ use Rattle.std.proofs.Math.Option.{some}
 use Rattle.std.proofs.Math.ListN.{get_elem?}
 use Rattle.cells.specs.Groups.{any, filter}
 use Rattle.rules.specs.declared.Sides.{Sides}
-use Rattle.rules.specs.Answer.{Reply, refused, done, Carving}
+use Rattle.rules.specs.declared.Carving.{Carving}
+use Rattle.rules.specs.Answer.{Reply, refused, done}
 use Rattle.rules.specs.Marks.{stray_mark}
 use Rattle.rules.specs.Machine.{State, after, carve}
 use Rattle.rules.specs.Demand.{Call, carve_up_to, run, Sums, nothing, both, of_carve, Demand}
 use Rattle.coarse.specs.Starts.{AcceptedGrid, handed_by, Promised}
 use Rattle.office.specs.Parts.{total, laid, part_at}
-use Rattle.office.specs.Serve.{Office, office, grids, sizes, grid_at, waits, Serving, left, serve, after_serve}
+use Rattle.office.specs.declared.Serving.{Serving}
+use Rattle.office.specs.Serve.{Office, office, grids, sizes, grid_at, waits, left, serve, after_serve}
 
 -- ---- one call
 

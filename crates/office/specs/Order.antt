@@ -1,6 +1,5 @@
 -- Document 02's CR 14: the order record, "the places served so far, the one last served longest ago first"; and which place is served.
-use Rattle.std.specs.Prelude.{Bool, false, not, cond, ◌||◌, List, [], ◌∷◌, ◌++◌, ℕ, leb, ltb, eqb, length}
-use Rattle.std.proofs.Math.Option.{Option, none, some}
+use Rattle.std.specs.Prelude.{Bool, false, not, cond, ◌||◌, List, [], ◌∷◌, ◌++◌, ℕ, leb, ltb, eqb, length, Option, None, Some}
 use Rattle.cells.specs.Groups.{any, filter}
 use Rattle.rules.specs.Grid.{range, is_in}
 
@@ -18,8 +17,8 @@ queue n order = filter (λ p. not (is_in order p)) (range 0 n) ++ order
 
 -- "It chooses among the grids with something pending"
 unfoldable pub first_waiting : (ℕ → Bool) → List ℕ → Option ℕ
-first_waiting waits [] = none
-first_waiting waits (p ∷ ps) = cond (waits p) (some p) (first_waiting waits ps)
+first_waiting waits [] = None
+first_waiting waits (p ∷ ps) = cond (waits p) (Some p) (first_waiting waits ps)
 
 -- the order record after a place was served: that place is the last
 unfoldable pub others : ℕ → List ℕ → List ℕ

@@ -1,15 +1,15 @@
 -- Document 02's CR 14, "Many scans at once": the rule of serve.
-use Rattle.std.specs.Prelude.{Bool, false, not, ◌&&◌, ◌||◌, List, [], ◌∷◌, map, ℕ, leb, eqb, length, get_or, set, ℤ, pos}
-use Rattle.std.proofs.Math.Option.{Option}
+use Rattle.std.specs.Prelude.{Bool, false, not, ◌&&◌, ◌||◌, List, [], ◌∷◌, map, ℕ, leb, eqb, length, get_or, set, ℤ, pos, Option}
 use Rattle.cells.specs.Groups.{any}
 use Rattle.rules.specs.declared.Record.{Record}
 use Rattle.rules.specs.Grid.{range, fit_sides, size}
 use Rattle.rules.specs.Checks.{Check, ◌when◌, unless}
-use Rattle.rules.specs.Answer.{Reply, refused, done, Outcome, outcome, untouched, Carving}
+use Rattle.rules.specs.declared.Carving.{Carving}
+use Rattle.rules.specs.Answer.{Reply, refused, done, Outcome, outcome, untouched}
 use Rattle.rules.specs.Marks.{stray_mark}
 use Rattle.rules.specs.Status.{any_pending}
 use Rattle.rules.specs.Machine.{State, state, unfit, the_voxel, carve}
-use Rattle.office.specs.declared.Served.{Served}
+use Rattle.office.specs.declared.Serving.{Serving}
 use Rattle.office.specs.Parts.{total, part_at, put}
 use Rattle.office.specs.Order.{unfit_order, queue, first_waiting, served_last}
 
@@ -68,16 +68,7 @@ serve_checks marks limit o =
     ∷ 35 when not (any (waits o) (range 0 (grids o)))
     ∷ []
 
--- ---- "One call serves one grid .. and answers its place and carve's answer"
-
-pub record Serving : Type 0 where
-  pub place : ℕ
-  pub carving : Carving
-
-abbrev pub served_answer : Served → Reply Serving
-served_answer (Served.Done place e r pending face next) =
-    done (record { place = place; carving = record { examined = e; removed = r; pending = pending; face = face; next = next } })
-served_answer (Served.Refused n) = refused n
+-- ---- "One call serves one grid .. and answers its place and carve's answer": Serving
 
 abbrev pub placed : ℕ → Reply Carving → Reply Serving
 placed p (refused n) = refused n

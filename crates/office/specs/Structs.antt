@@ -5,7 +5,8 @@ use Rattle.rules.specs.Grid.{range}
 use Rattle.rules.specs.Answer.{Reply, refused, done, Outcome, outcome}
 use Rattle.office.specs.declared.Grids.{Grids}
 use Rattle.office.specs.declared.Order.{Order}
-use Rattle.office.specs.Serve.{Office, office, no_record, Serving, Left}
+use Rattle.office.specs.declared.Serving.{Serving}
+use Rattle.office.specs.Serve.{Office, office, no_record, Left}
 
 -- ---- what it is given
 

@@ -1,6 +1,5 @@
 -- Serving by another rule, part by part, and that none of them is the rule: a worked call tells each (proofs/Wrong.antt).
-use Rattle.std.specs.Prelude.{◌≡◌, Bool, true, not, cond, ◌&&◌, ◌||◌, List, [], ◌∷◌, ◌++◌, map, reverse, ℕ, leb, ltb, eqb, length, drop}
-use Rattle.std.proofs.Math.Option.{Option}
+use Rattle.std.specs.Prelude.{◌≡◌, Bool, true, not, cond, ◌&&◌, ◌||◌, List, [], ◌∷◌, ◌++◌, map, reverse, ℕ, leb, ltb, eqb, length, drop, Option}
 use Rattle.cells.specs.Groups.{any, filter}
 use Rattle.rules.specs.Grid.{range, is_in, fit_sides}
 use Rattle.rules.specs.Checks.{Check, ◌when◌, unless}
@@ -9,7 +8,8 @@ use Rattle.rules.specs.Marks.{stray_mark}
 use Rattle.rules.specs.Machine.{State, unfit, marked_checks, the_voxel, carve}
 use Rattle.office.specs.Parts.{laid, part_at, put}
 use Rattle.office.specs.Order.{names_twice, unfit_order, queue, first_waiting, others, served_last}
-use Rattle.office.specs.Serve.{Office, office, grids, sizes, grid_at, waits, to_serve, within, wrong_lengths, Serving, placed, Left, left, serve}
+use Rattle.office.specs.declared.Serving.{Serving}
+use Rattle.office.specs.Serve.{Office, office, grids, sizes, grid_at, waits, to_serve, within, wrong_lengths, placed, Left, left, serve}
 use Rattle.office.specs.Lists.{office_of}
 use Rattle.office.specs.Examples.{no_mark, waiting}
 

@@ -1,16 +1,16 @@
 // Document 02's CR 14, "Many scans at once": what the call is given and answers. Its rule stands in specs/.
 #![tactic(auto)]
 
-use rules::Record;
+use rules::{Carving, Record};
 
-// The records of the grids by their places, of which count are there.
+// The records of the grids by their places, of which count are there: memory is fixed and there is no heap.
 #[derive(Clone, Copy)]
 pub struct Grids {
     pub count: usize,
     pub records: [Record; 16],
 }
 
-// The order record: the places served so far, the one last served longest ago first, of which len are there.
+// The order record: the places served so far, the one last served longest ago first, of which len are there. C holds it between calls, by value.
 #[repr(C)]
 #[derive(Clone, Copy)]
 pub struct Order {
@@ -20,14 +20,7 @@ pub struct Order {
 
 // The place that was served, and carve's answer.
 #[derive(Clone, Copy)]
-pub enum Served {
-    Done {
-        place: u8,
-        examined: u32,
-        removed: u32,
-        pending: bool,
-        face: u32,
-        next: Record,
-    },
-    Refused(u8),
+pub struct Serving {
+    pub place: u8,
+    pub carving: Carving,
 }

@@ -16,7 +16,8 @@ use Rattle.rules.specs.Checks.{Check, first_failing, unless}
 use Rattle.rules.specs.Answer.{done, Outcome, outcome, untouched}
 use Rattle.rules.specs.Machine.{the_voxel}
 use Rattle.rules.proofs.Checks.{all_hold, held_at, call-refused, unless-held}
-use Rattle.office.specs.Serve.{Office, office, grids, no_record, to_serve, serve_checks, Serving, Left, left, served_at, serve, after_serve}
+use Rattle.office.specs.declared.Serving.{Serving}
+use Rattle.office.specs.Serve.{Office, office, grids, no_record, to_serve, serve_checks, Left, left, served_at, serve, after_serve}
 use Rattle.office.specs.Lists.{Request, after_all}
 use Rattle.office.proofs.Step.{served}
 use Rattle.replies.specs.declared.CRecord.{CRecord}

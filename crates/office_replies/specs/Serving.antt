@@ -6,7 +6,8 @@ use Rattle.rules.specs.Grid.{range}
 use Rattle.rules.specs.Answer.{Reply, refused, done, Outcome, Buffers, buffers}
 use Rattle.office.specs.declared.Grids.{Grids}
 use Rattle.office.specs.declared.Order.{Order}
-use Rattle.office.specs.Serve.{Serving, Left}
+use Rattle.office.specs.declared.Serving.{Serving}
+use Rattle.office.specs.Serve.{Left}
 use Rattle.replies.specs.Reply.{Returned, returned}
 use Rattle.replies.specs.Structs.{record_in, record_out, no_record}
 use Rattle.office.specs.Structs.{Kept, as_struct}

@@ -1,12 +1,11 @@
 // What serve is given by C, and answers to it, as structs.
 #![tactic(auto)]
 
-ghost use Rattle.std.specs.Prelude.{◌≡◌, ◌<◌};
-ghost use Rattle.rules.specs.Answer.{refused as refused_by};
-ghost use Rattle.office.specs.Serve.{served_answer};
-ghost use Rattle.office_replies.specs.Serving.{record_at, grids_in, serve_struct};
+ghost use Rattle.std.specs.Prelude.{◌≡◌};
+ghost use Rattle.rules.specs.Refusals.{replied};
+ghost use Rattle.office_replies.specs.Serving.{grids_in, serve_struct};
 
-use office::{Grids, Order, Served};
+use office::{Grids, Order, Serving};
 use replies::CRecord;
 use rules::Record;
 use serving::Turn;
@@ -33,23 +32,13 @@ pub struct ServeAnswer {
     pub order: Order,
 }
 
-// The record at p.
-fn record_at(c: CGrids, p: usize) -> Record
-    requires { p < 16 }
-    ensures { result ≡ record_at c p }
-{
-    replies::record_in(c.records[p])
-}
-
 pub fn grids_in(c: CGrids) -> Grids
     ensures { result ≡ grids_in c }
 {
-    let first = record_at(c, 0);
-    let mut records = [first; 16];
-    let mut p: usize = 0;
-    while p < 16 {
-        records[p] = record_at(c, p);
-        p += 1;
+    let mut records = [Record::from(c.records[0]); 16];
+    // no `map`: that has two more arrays of all records on the stack
+    for p in 0..16 {
+        records[p] = Record::from(c.records[p]);
     }
     Grids {
         count: c.count,
@@ -57,50 +46,30 @@ pub fn grids_in(c: CGrids) -> Grids
     }
 }
 
-fn refused(refusal: u8, order: Order) -> ServeAnswer
-    ensures { result ≡ serve_struct (refused_by refusal) order }
+pub fn serve_answer(t: Turn) -> ServeAnswer
+    ensures { result ≡ serve_struct (replied t.answer) t.order }
 {
-    ServeAnswer {
-        refusal,
-        place: 0,
-        examined: 0,
-        removed: 0,
-        pending: false,
-        face: 0,
-        next: replies::no_record(),
-        order,
-    }
-}
-
-fn answered(answer: Served, order: Order) -> ServeAnswer
-    ensures { result ≡ serve_struct (served_answer answer) order }
-{
+    let Turn { answer, order } = t;
     match answer {
-        Served::Done {
-            place,
-            examined,
-            removed,
-            pending,
-            face,
-            next,
-        } => ServeAnswer {
+        Ok(Serving { place, carving }) => ServeAnswer {
             refusal: 0,
             place,
-            examined,
-            removed,
-            pending,
-            face,
-            next: replies::record_out(next),
+            examined: carving.examined,
+            removed: carving.removed,
+            pending: carving.pending,
+            face: carving.face,
+            next: CRecord::from(carving.next),
             order,
         },
-        Served::Refused(refusal) => refused(refusal, order),
+        Err(refusal) => ServeAnswer {
+            refusal: u8::from(refusal),
+            place: 0,
+            examined: 0,
+            removed: 0,
+            pending: false,
+            face: 0,
+            next: replies::no_record(),
+            order,
+        },
     }
-}
-
-pub fn serve_answer(t: Turn) -> ServeAnswer
-    ensures { result ≡ serve_struct (served_answer t.answer) t.order }
-{
-    let answer = t.answer;
-    let order = t.order;
-    answered(answer, order)
 }

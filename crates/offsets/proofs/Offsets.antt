@@ -1,16 +1,16 @@
--- The offset of a stretch's best voxel, for any key that names its voxel; and filling a list.
-use mathlib.Core.Path.{◌≡◌, refl, sym, ap, ◌∙◌, subst}
+-- The offset of a stretch's best voxel, for any key that names its voxel.
+use mathlib.Core.Path.{◌≡◌, sym, ap, ◌∙◌, subst}
 use mathlib.Core.Logic.{◌⊎◌, inl, inr}
 use mathlib.Core.List.{List}
-use Prim.Native.Nat.{ℕ, ◌+◌, ◌-◌, ◌*◌, ◌/◌, ◌%◌, ◌≤◌, ◌<◌}
+use Prim.Native.Nat.{ℕ, ◌+◌, ◌*◌, ◌%◌, ◌≤◌, ◌<◌}
 use native.Mathlib.Omega.{arith}
 use native.Mathlib.Decide.{ℕ_discrete}
 use borrow.Author.Tests.{ne_eqb}
-use lib.ListN.{length, get_or, set, length-set}
+use lib.ListN.{length, get_or, set}
 use lib.Seq.{get_or-set_same, get_or-set_other}
-use Rattle.keys.specs.Key.{most, voxel_of, greatest, width, stretch_key}
+use Rattle.keys.specs.Key.{voxel_of, width, stretch_key}
 use Rattle.keys.proofs.Greatest.{greatest-of}
-use Rattle.offsets.specs.Offsets.{offset_of, Offset, Offsets}
+use Rattle.offsets.specs.Offsets.{offset_of, Offset}
 
 -- what stands at m after a change at i
 pub at_set :
@@ -21,34 +21,6 @@ at_set P t i v m h f g =
       | yes e ↦ subst P (sym (ap (λ (x : ℕ). get_or (set t i v) x 0) e ∙ get_or-set_same t i v 0 h)) (f e)
       | no n ↦ subst P (sym (get_or-set_other t i m v 0 n)) (g n)
     ]
-
--- ---- filling a list from base on: the numbers below k are there
-
-pub record Filling (f : ℕ → ℕ) (base p : ℕ) (t₀ t : List ℕ) (k : ℕ) : Type 0 where
-  pub same : length t ≡ length t₀
-  pub high : k ≤ p
-  pub filled : (m : ℕ) → m < k → get_or t (base + m) 0 ≡ f m
-
-pub filling-start : (f : ℕ → ℕ) (base p : ℕ) (t : List ℕ) → Filling f base p t t 0
-filling-start f base p t = record { same = refl; high = omega arith; filled = λ m u. let z : ⊥ = omega arith in absurd z }
-
-pub filling_step :
-    (f : ℕ → ℕ) (base p : ℕ) (t₀ t : List ℕ) (k i v : ℕ) → i ≡ base + k → base + p ≤ length t₀ → k < p → v ≡ f k
-    → Filling f base p t₀ t k
-    → Filling f base p t₀ (set t i v) (k + 1)
-filling_step f base p t₀ t k i v q room h e F =
-    let z = F.same in
-    record {
-      same = length-set t i v ∙ z;
-      high = omega arith;
-      filled = λ m u.
-          at_set (λ (x : ℕ). x ≡ f m) t i v (base + m) (omega arith)
-          (λ r. let d : k ≡ m = omega arith in e ∙ ap f d)
-          (λ r. F.filled m (other m k base i u q r));
-    }
-  where
-    other : (m k base i : ℕ) → m < k + 1 → i ≡ base + k → (base + m ≡ i → ⊥) → m < k
-    other m k base i u q r = omega arith
 
 -- ---- offsets
 

@@ -2,9 +2,8 @@
 use mathlib.Core.Path.{◌≡◌, refl, sym, ap, ◌∙◌}
 use mathlib.Core.Bool.{Bool, ◌&&◌}
 use mathlib.Core.List.{List, [], ◌∷◌, ◌++◌}
-use mathlib.Core.Option.{Option, none, some}
+use Rattle.std.specs.Prelude.{Option, None, Some}
 use Prim.Native.Nat.{ℕ}
-use native.Mathlib.Omega.{arith}
 use borrow.Author.Tests.{eqb-false}
 use lib.Dec.{eqb}
 use lib.IntN.{ℤ, pos, ◌-ℤ◌}
@@ -13,7 +12,8 @@ use Rattle.local_test.specs.declared.Groups.{Groups}
 use Rattle.local_test.specs.Answers.{GroupsOf}
 use Rattle.prelude.proofs.Bools.{and-true}
 use Rattle.rules.specs.declared.Record.{Record}
-use Rattle.rules.specs.Answer.{done, Outcome, outcome, untouched, Buffers, buffers, Opening}
+use Rattle.rules.specs.declared.Opening.{Opening}
+use Rattle.rules.specs.Answer.{done, Outcome, outcome, untouched, Buffers, buffers}
 use Rattle.rules.specs.Checks.{Check, ◌when◌, first_failing}
 use Rattle.rules.specs.Begin.{exposed}
 use Rattle.rules.specs.Status.{is_kept, test_at, without, removable, openable}
@@ -26,7 +26,10 @@ use Rattle.neighbourhood.proofs.Bodies.{fit-body}
 use Rattle.waking.specs.Waking.{Removable}
 use Rattle.waking.proofs.Fitting.{kept-removable}
 use Rattle.searching.specs.Argmax.{Searchable}
-use Rattle.rules.proofs.Checks.{fails-first, holds-first, all_hold, call-refused, call-done, hold-append, held_at, refused-first, held_first}
+use Rattle.rules.specs.declared.Refusal.{Refusal}
+use Rattle.rules.specs.Refusals.{number_of}
+use Rattle.rules.proofs.Checks.{fails-first, holds-first, hold-append, held_at}
+use Rattle.rules.proofs.Refusals.{refused-before, passed-before, passed, call-refused-by, call-passed}
 use Rattle.rules.proofs.Fit.{marking}
 use Rattle.opening.specs.Opening.{spent_checks, OpensAt}
 
@@ -63,7 +66,7 @@ module _ (free : ℕ → Bool) (g : State) where
 
 -- ---- open, by its checks up to 14 and what the search finds
 
-module _ (marks : List ℕ) (g : State) (n : ℕ) (e : n ≡ first_failing (spent_checks marks g)) where
+module _ (marks : List ℕ) (g : State) where
   abbrev next : Option ℕ
   next = to_open (may_go (marked marks) g.dist) g
 
@@ -76,32 +79,32 @@ module _ (marks : List ℕ) (g : State) (n : ℕ) (e : n ≡ first_failing (spen
   abbrev answer : Outcome Buffers Opening
   answer = opened (may_go (marked marks) g.dist) (the_voxel next) g
 
-  pub open-refused : (n ≡ 0 → ⊥) → untouched (lent_to g) n ≡ open_next marks g
+  pub open-refused : (r : Refusal) → number_of r ≡ first_failing (spent_checks marks g) → untouched (lent_to g) (number_of r) ≡ open_next marks g
   unfolding open_next
-  open-refused f = call-refused (untouched (lent_to g)) answer (open_checks marks g) n (refused-first (spent_checks marks g) last n e f) f
+  open-refused r e = call-refused-by (untouched (lent_to g)) answer (open_checks marks g) r (refused-before (spent_checks marks g) last r e)
 
-  module _ (z : n ≡ 0) where
+  module _ (e : 0 ≡ first_failing (spent_checks marks g)) where
     checked : (Marking marks g) × (g.rec.openings ≡ g.rec.allowed → ⊥)
     checked =
-        let h = all_hold (spent_checks marks g) refl (sym e ∙ z) in
+        let h = passed (spent_checks marks g) refl e in
         (marking g marks (hold-append (marked_checks marks g) (quiet_checks g ++ spent) h).0, eqb-false _ _ (held_at (spent_checks marks g) h 14))
 
     pub open-fit : Marking marks g
     open-fit = checked.0
 
-    pub open-nothing : next ≡ none → untouched (lent_to g) 15 ≡ open_next marks g
+    pub open-nothing : next ≡ None → untouched (lent_to g) 15 ≡ open_next marks g
     unfolding open_next
     open-nothing f =
-        call-refused (untouched (lent_to g)) answer (open_checks marks g) 15
-        (held_first (spent_checks marks g) last n e refl z 15 (sym (fails-first 15 (is_none next) [] (ap is_none f)))) (λ q. let y : ⊥ = omega arith in y)
+        call-refused-by (untouched (lent_to g)) answer (open_checks marks g) Refusal.NothingToOpen
+        (passed-before (spent_checks marks g) last refl e 15 (sym (fails-first 15 (is_none next) [] (ap is_none f))))
 
-    module _ (i : ℕ) (f : next ≡ some i) where
+    module _ (i : ℕ) (f : next ≡ Some i) where
       pub opens_at : OpensAt marks i g
       opens_at = record { working = checked.0.working; left = checked.1; found = f }
 
       pub open_done : (r : Outcome Buffers Opening) → r ≡ opened (may_go (marked marks) g.dist) i g → r ≡ open_next marks g
       unfolding open_next first_failing
       open_done r h =
-          call-done (untouched (lent_to g)) answer (open_checks marks g) 0
-          (held_first (spent_checks marks g) last n e refl z 0 (sym (holds-first 15 (is_none next) [] (ap is_none f)))) refl refl r
+          call-passed (untouched (lent_to g)) answer (open_checks marks g) refl
+          (passed-before (spent_checks marks g) last refl e 0 (sym (holds-first 15 (is_none next) [] (ap is_none f)))) r
           (h ∙ ap (λ (o : Option ℕ). opened (may_go (marked marks) g.dist) (the_voxel o) g) (sym f))

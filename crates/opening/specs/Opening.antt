@@ -1,6 +1,5 @@
 -- What the functions of open ask of each other.
-use Rattle.std.specs.Prelude.{◌≡◌, List, [], ◌∷◌, ◌++◌, ℕ, eqb}
-use Rattle.std.proofs.Math.Option.{some}
+use Rattle.std.specs.Prelude.{◌≡◌, List, [], ◌∷◌, ◌++◌, ℕ, eqb, Some}
 use Rattle.rules.specs.Checks.{Check, ◌when◌}
 use Rattle.rules.specs.Marks.{marked}
 use Rattle.rules.specs.Machine.{State, may_go, to_open, marked_checks, quiet_checks}
@@ -14,4 +13,4 @@ spent_checks marks g = marked_checks marks g ++ (quiet_checks g ++ (14 when eqb 
 pub record OpensAt (marks : List ℕ) (i : ℕ) (g : State) : Type 0 where
   pub working : Working g
   pub left : g.rec.openings ≡ g.rec.allowed → ⊥
-  pub found : to_open (may_go (marked marks) g.dist) g ≡ some i
+  pub found : to_open (may_go (marked marks) g.dist) g ≡ Some i

@@ -1,33 +1,29 @@
 // The order record of document 02's CR 14: whether it is fit, and a place that is served.
 #![tactic(auto)]
 
-ghost use Rattle.std.specs.Prelude.{◌≡◌, ◌≤◌, ◌<◌, length, get_or, drop};
+ghost use Rattle.std.specs.Prelude.{◌≡◌, ◌≤◌, ◌<◌, length, drop};
 ghost use Rattle.rules.specs.Grid.{is_in};
 ghost use Rattle.office.specs.Order.{unfit_order, others, served_last};
 ghost use Rattle.office.specs.Structs.{places_of, packed};
 
 use office::Order;
 
-// The place that stands at k.
-pub fn place_at(o: Order, k: usize) -> usize
-    requires { (k < o.len) × (o.len ≤ 16) }
-    ensures { result ≡ get_or o.places k 0 }
+// The places that stand in the order record.
+pub fn listed(o: &Order) -> &[u8]
+    requires { o.now.len ≤ 16 }
+    ensures { result.now ≡ places_of o.now }
 {
-    o.places[k] as usize
+    &o.places[..o.len]
 }
 
-// Whether the place stands in the order record from k on: looked at from its end.
+// Whether the place stands in the order record from k on.
 pub fn stands_from(o: Order, k: usize, place: usize) -> bool
     requires { (k ≤ o.len) × (o.len ≤ 16) }
     ensures { result ≡ is_in (drop k (places_of o)) place }
 {
-    let mut found = false;
-    let mut j = o.len;
-    while k < j {
-        j -= 1;
-        found = (place == place_at(o, j)) | found;
-    }
-    found
+    listed(&o)[k..]
+        .iter()
+        .any(|&other| place == usize::from(other))
 }
 
 // Number 7 of the order record of so many grids: too long, or a place past the last grid, or one that stands again further on.
@@ -38,15 +34,13 @@ pub fn unfit(o: Order, count: usize) -> bool
     if count < o.len {
         return true;
     }
-    let mut bad = false;
-    let mut next = o.len;
-    while 0 < next {
-        let k = next - 1;
-        let place = place_at(o, k);
-        bad = (stands_from(o, next, place) | (count <= place)) | bad;
-        next = k;
+    let all = listed(&o);
+    for (k, place) in all.iter().enumerate() {
+        if count <= usize::from(*place) || all[k + 1..].contains(place) {
+            return true;
+        }
     }
-    bad
+    false
 }
 
 // The order record after the place was served: without it, and then it.
@@ -54,18 +48,17 @@ pub fn served_last(o: Order, place: u8) -> Order
     requires { (o.len ≤ 16) × (length (others place (places_of o)) < 16) }
     ensures { result ≡ packed (served_last place (places_of o)) }
 {
-    let n = o.len;
-    let mut places = [0u8; 16];
-    let mut m: usize = 0;
-    let mut k: usize = 0;
-    while k < n {
-        let other = o.places[k];
+    let mut after = [0u8; 16];
+    let mut len = 0;
+    for &other in listed(&o) {
         if other != place {
-            places[m] = other;
-            m += 1;
+            after[len] = other;
+            len += 1;
         }
-        k += 1;
     }
-    places[m] = place;
-    Order { len: m + 1, places }
+    after[len] = place;
+    Order {
+        len: len + 1,
+        places: after,
+    }
 }

@@ -1,6 +1,7 @@
 -- A carve in parts of longer buffers.
 use Rattle.std.specs.Prelude.{List, ◌++◌, ℕ, ◌-◌, ◌≤◌, ℤ, length, take, drop}
-use Rattle.rules.specs.Answer.{Outcome, outcome, Buffers, Carving}
+use Rattle.rules.specs.declared.Carving.{Carving}
+use Rattle.rules.specs.Answer.{Outcome, outcome, Buffers}
 
 abbrev pub part : {A : Type 0} → List A → ℕ → ℕ → List A
 part l from to = take (to - from) (drop from l)

@@ -2,13 +2,13 @@
 #![tactic(auto)]
 
 ghost use Rattle.std.specs.Prelude.{◌≡◌};
-ghost use Rattle.rules.specs.Answer.{outcome, carved_answer};
+ghost use Rattle.rules.specs.Answer.{done, outcome};
 ghost use Rattle.rules.specs.Machine as machine;
 ghost use Rattle.rules.specs.Machine.{state};
 ghost use Rattle.rules.specs.Fit.{Marking};
 ghost use Rattle.part_carving.specs.Part.{part, spliced, Within};
 
-use rules::{Carved, Record};
+use rules::{Carving, Record};
 
 // Carves a grid whose parts of the buffers are those from .. to. Every other status byte stays.
 pub fn carve(
@@ -19,10 +19,10 @@ pub fn carve(
     from: usize,
     to: usize,
     limit: u32,
-) -> Carved
+) -> Carving
     requires { Within from to dist.now status.old marks.now
         × Marking (part marks.now from to) (state given (part dist.now from to) (part status.old from to)) }
-    ensures { outcome (carved_answer result) status.new
+    ensures { outcome (done result) status.new
         ≡ spliced status.old from to (machine.carve (part marks.now from to) limit
         (state given (part dist.now from to) (part status.old from to))) }
 {

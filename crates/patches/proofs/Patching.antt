@@ -1,5 +1,5 @@
 -- Patches one after the other: what holds of one that is checked, and what is left to apply.
-use mathlib.Core.Path.{◌≡◌, refl, sym, subst, ◌∙◌}
+use mathlib.Core.Path.{◌≡◌, sym, subst, ◌∙◌}
 use mathlib.Core.List.{List}
 use Prim.Native.Nat.{ℕ, ◌+◌, ◌≤◌, ◌<◌}
 use lib.ListN.{length, set, length-set}
@@ -32,9 +32,6 @@ module _ (file : List ℕ) where
     pub same : patched file at values ≡ patched file start lent
 
   module _ (lent : List ℤ) (start : ℕ) where
-    pub applying-start : AllHold (patches_checks (length lent) file start) → Applying lent start lent start
-    applying-start h = record { long = refl; checked = h; same = refl }
-
     module _ (values : List ℤ) (at : ℕ) (p : Applying lent start values at) (h : at < length file) where
       both : (AllHold (patch_checks (length lent) file at)) × (AllHold (patches_checks (length lent) file (at + patch_length)))
       both =

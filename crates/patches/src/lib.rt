@@ -3,44 +3,43 @@
 
 ghost use Rattle.std.specs.Prelude.{◌≡◌, ◌+◌, ◌≤◌, ◌<◌, length};
 ghost use Rattle.rules.specs.Checks.{first_failing, AllHold};
+ghost use Rattle.rules.specs.Refusals.{number_in};
 ghost use Rattle.format.specs.Patch.{patch_length, index_at, patch_checks, patches_checks, patched};
+
+use rules::Refusal;
+use words::Width;
 
 fn index_at(file: &[u8], start: usize) -> usize
     requires { start + patch_length ≤ length file.now }
     ensures { (result ≡ index_at file.now start) × (result < 4294967296) }
 {
-    words::word(file, start + 2, 4) as usize
+    words::word(file, start + 2, Width::Four) as usize
 }
 
-// The number that the record at start is refused with, in a grid of n voxels, or 0.
-fn patch_refusal(n: usize, file: &[u8], start: usize) -> u8
-    ensures { result ≡ first_failing (patch_checks n file.now start) }
+// The checks of the record at start, in a grid of n voxels, the first that fails.
+fn patch_refusal(n: usize, file: &[u8], start: usize) -> Result<(), Refusal>
+    ensures { number_in result ≡ first_failing (patch_checks n file.now start) }
 {
     if words::is_short(file.len(), start, 8) {
-        return 21;
+        return Err(Refusal::Short);
     }
     if !words::is_tagged(file, start, 0x50) {
-        return 22;
+        return Err(Refusal::Mark);
     }
     if n <= index_at(file, start) {
-        return 5;
+        return Err(Refusal::Index);
     }
-    0
+    Ok(())
 }
 
-// The number that the patch records from start on are refused with, each before the next, or 0.
-pub fn patches_refusal(n: usize, file: &[u8], start: usize) -> u8
-    ensures { result ≡ first_failing (patches_checks n file.now start) }
+// The checks of the patch records from start on, each before the next, the first that fails.
+pub fn patches_refusal(n: usize, file: &[u8], start: usize) -> Result<(), Refusal>
+    ensures { number_in result ≡ first_failing (patches_checks n file.now start) }
 {
-    let mut at = start;
-    while at < file.len() {
-        let r = patch_refusal(n, file, at);
-        if r != 0 {
-            return r;
-        }
-        at += 8;
+    for at in (start..file.len()).step_by(8) {
+        patch_refusal(n, file, at)?;
     }
-    0
+    Ok(())
 }
 
 // Puts the values of the patch records from start on, which were checked, into the grid's, in file order.
@@ -48,10 +47,8 @@ pub fn apply_patches(file: &[u8], start: usize, values: &mut [i32])
     requires { AllHold (patches_checks (length values.old) file.now start) }
     ensures { values.new ≡ patched file.now start values.old }
 {
-    let mut at = start;
-    while at < file.len() {
+    for at in (start..file.len()).step_by(8) {
         let i = index_at(file, at);
-        values[i] = words::value(file, at + 6, 2);
-        at += 8;
+        values[i] = words::value(file, at + 6, Width::Two);
     }
 }

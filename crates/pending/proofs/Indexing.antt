@@ -3,12 +3,12 @@ use mathlib.Core.Path.{◌≡◌, refl, sym, ap, ◌∙◌, subst}
 use mathlib.Core.Logic.{◌⊎◌, inl, inr}
 use mathlib.Core.Bool.{Bool}
 use mathlib.Core.List.{List}
-use Prim.Native.Nat.{ℕ, ◌+◌, ◌-◌, ◌*◌, ◌/◌, ◌%◌, ◌≤◌, ◌<◌, max}
+use Prim.Native.Nat.{ℕ, ◌+◌, ◌*◌, ◌/◌, ◌%◌, ◌≤◌, ◌<◌, max}
 use native.Mathlib.Omega.{arith}
 use native.Mathlib.Decide.{ℕ_discrete}
 use lib.IntN.{ℤ}
 use lib.ListN.{length, get_or, set, length-set}
-use Rattle.keys.specs.Key.{greatest, width, stretches, stretch_key}
+use Rattle.keys.specs.Key.{width, stretches, stretch_key}
 use Rattle.keys.proofs.Ranks.{Keyed}
 use Rattle.keys.proofs.Greatest.{greatest-same, greatest-le, greatest-of, greatest-raise}
 use Rattle.winners.specs.Tree.{Nodes, Changed}

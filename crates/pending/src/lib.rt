@@ -7,11 +7,8 @@ ghost use Rattle.rules.specs.Marks.{marked};
 ghost use Rattle.offsets.specs.Offsets.{held_group};
 ghost use Rattle.pending.specs.Index.{Leafing, Room, Index, Raising, Raised, Refreshing, Refreshed};
 
-// How many voxels make a stretch.
-const WIDTH: usize = 64;
-
-// How many stretches make a group.
-const GROUP: usize = 8;
+use keys::WIDTH;
+use offsets::GROUP;
 
 // Makes the leaves of a tree with h of them.
 fn fill_leaves(dist: &[i32], marks: &[u8], offsets: &[u8], tree: &mut [u64], h: usize)
@@ -19,10 +16,8 @@ fn fill_leaves(dist: &[i32], marks: &[u8], offsets: &[u8], tree: &mut [u64], h: 
     ensures { (q : ℕ) → q < h → get_or tree.new (h + q) 0
         ≡ held_group (marked marks.now).hurried dist.now offsets.now q }
 {
-    let mut q: usize = 0;
-    while q < h {
-        tree[h + q] = offsets::group_key(dist, marks, offsets, q);
-        q += 1;
+    for (q, leaf) in tree[h..2 * h].iter_mut().enumerate() {
+        *leaf = offsets::group_key(dist, marks, offsets, q);
     }
 }
 
@@ -43,12 +38,11 @@ pub fn raise(dist: &[i32], marks: &[u8], offsets: &mut [u8], tree: &mut [u64], j
     ensures { Raised (marked marks.now).hurried dist.now offsets.old offsets.new tree.old
         tree.new j w }
 {
-    if w <= offsets::held_key(dist, marks, offsets, j / WIDTH) {
-        return;
+    if offsets::held_key(dist, marks, offsets, j / WIDTH) < w {
+        let h = offsets::count_groups(dist.len());
+        offsets[j / WIDTH] = (j % WIDTH) as u8;
+        winners::lift(tree, h, j / WIDTH / GROUP, w);
     }
-    let h = offsets::count_groups(dist.len());
-    offsets[j / WIDTH] = (j % WIDTH) as u8;
-    winners::lift(tree, h, j / WIDTH / GROUP, w);
 }
 
 // The greatest key of stretch k is w from now on.

@@ -2,7 +2,7 @@
 use mathlib.Core.Path.{◌≡◌, refl, sym, ap, ◌∙◌, subst}
 use mathlib.Core.Logic.{◌⊎◌, inl, inr}
 use mathlib.Core.List.{List, [], ◌∷◌, ◌++◌}
-use mathlib.Core.Option.{Option, none, some}
+use Rattle.std.specs.Prelude.{Option, None, Some}
 use Prim.Native.Nat.{ℕ, zero, suc, ◌+◌, ◌-◌, ◌*◌, ◌/◌, ◌%◌, ◌≤◌, ◌<◌}
 use native.Mathlib.Omega.{arith}
 use borrow.Author.Tests.{ltb-false}
@@ -17,7 +17,8 @@ use Rattle.rules.specs.Machine.{State, finished_checks}
 use Rattle.rules.proofs.Checks.{by-checks, hold-append}
 use Rattle.surface.specs.declared.Point.{Point}
 use Rattle.surface.specs.Surface.{crossing}
-use Rattle.points.specs.Listing.{point_in, point_at, Walk, onwards, walk, doubles, Listing, written, listing, points_checks, points}
+use Rattle.points.specs.declared.Listing.{Listing}
+use Rattle.points.specs.Listing.{point_in, point_at, Walk, onwards, walk, doubles, written, listing, points_checks, points}
 use Rattle.points.specs.EachPoint.{double_at, PointOf, FromCrossing, cons_found, gathered, EachPoint, EachPointIsCrossings}
 
 zero_one : {A : Type 0} → ◌≡◌ {A = ℕ} 0 1 → A
@@ -53,7 +54,7 @@ walk-gathers at (suc k) (suc room) p = go (at p) refl (λ left. walk-gathers at 
         → at p ≡ o
         → ((left : ℕ) → Gathers at k left (suc p) (walk at k left (suc p)))
         → Gathers at (suc k) (suc room) p (onwards o room (λ left. walk at k left (suc p)))
-    go none e ih =
+    go None e ih =
         let w = walk at k (suc room) (suc p) in
         let g = ih (suc room) in
         let l = g.low in
@@ -64,7 +65,7 @@ walk-gathers at (suc k) (suc room) p = go (at p) refl (λ left. walk-gathers at 
           all = g.all ∙ sym (gather-next at p w.next l ∙ ap (λ (x : Option Point). cons_found x (gathered at (range (suc p) (w.next - suc p)))) e);
           stopped = elim g.stopped [ inl s ↦ inl (omega arith) | inr s ↦ inr s ];
         }
-    go (some q) e ih =
+    go (Some q) e ih =
         let w = walk at k room (suc p) in
         let g = ih room in
         let l = g.low in
@@ -85,7 +86,7 @@ record FoundAt (at : ℕ → Option Point) (low high k : ℕ) (out : List Float)
   pub point : Point
   pub after : low ≤ position
   pub before : position < high
-  pub is : at position ≡ some point
+  pub is : at position ≡ Some point
   pub written : PointOf out k point
 
 module _ (at : ℕ → Option Point) (p m : ℕ) (rest : List Float) where
@@ -96,12 +97,12 @@ module _ (at : ℕ → Option Point) (p m : ℕ) (rest : List Float) where
       → ((j : ℕ) → j < length qs → FoundAt at (suc p) (suc p + m) j (doubles qs ++ rest))
       → FoundAt at p (p + suc m) k (doubles (cons_found o qs) ++ rest)
   unfolding doubles
-  one_more none qs k e h ih =
+  one_more None qs k e h ih =
       let r = ih k h in
       let a = r.after in
       let b = r.before in
       record { position = r.position; point = r.point; after = omega arith; before = omega arith; is = r.is; written = r.written }
-  one_more (some q) qs zero e h ih =
+  one_more (Some q) qs zero e h ih =
       record {
         position = p;
         point = q;
@@ -110,7 +111,7 @@ module _ (at : ℕ → Option Point) (p m : ℕ) (rest : List Float) where
         is = e;
         written = record { x-is = refl; y-is = refl; z-is = refl };
       }
-  one_more (some q) qs (suc k) e h ih =
+  one_more (Some q) qs (suc k) e h ih =
       let r = ih k (omega arith) in
       let a = r.after in
       let b = r.before in
@@ -143,7 +144,7 @@ gathered-at at (suc m) p k rest h =
 
 -- ---- the call
 
-in-answer : (r : Reply (Option Point)) (q : Point) → point_in r ≡ some q → r ≡ done (some q)
+in-answer : (r : Reply (Option Point)) (q : Point) → point_in r ≡ Some q → r ≡ done (Some q)
 in-answer (refused n) q e = let z : ◌≡◌ {A = ℕ} 0 1 = cc in zero_one z
 in-answer (done o) q e = ap done e
 

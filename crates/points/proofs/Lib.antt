@@ -1,5 +1,4 @@
 pub mod Position
-pub mod Found
 pub mod Walking
 pub mod Listable
 pub mod Worked

@@ -11,16 +11,18 @@ use Rattle.rules.specs.Grid.{size}
 use Rattle.rules.specs.Checks.{◌when◌, first_failing, AllHold}
 use Rattle.rules.specs.Answer.{Outcome}
 use Rattle.rules.specs.Machine.{State, finished_checks}
-use Rattle.rules.proofs.Checks.{all_hold, hold-append}
+use Rattle.rules.proofs.Checks.{hold-append}
+use Rattle.rules.proofs.Refusals.{passed}
 use Rattle.rules.proofs.Fit.{ended}
-use Rattle.points.specs.Listing.{Walk, point_at, Listing, written, listing, points_checks, Listable}
+use Rattle.points.specs.declared.Listing.{Listing}
+use Rattle.points.specs.Listing.{Walk, point_at, written, listing, points_checks, Listable}
 use Rattle.points.specs.Positions.{point_on}
 use Rattle.points.proofs.Position.{point-is}
 use Rattle.points.proofs.Walking.{walk-ext}
 
-module _ (p : ℕ) (g : State) (n : ℕ) (e : n ≡ first_failing (points_checks p g)) (z : n ≡ 0) where
+module _ (p : ℕ) (g : State) (e : 0 ≡ first_failing (points_checks p g)) where
   held : (AllHold (finished_checks g)) × (AllHold (5 when ltb (3 * size g.rec.sides) p ∷ []))
-  held = hold-append (finished_checks g) (5 when ltb (3 * size g.rec.sides) p ∷ []) (all_hold (points_checks p g) refl (sym e ∙ z))
+  held = hold-append (finished_checks g) (5 when ltb (3 * size g.rec.sides) p ∷ []) (passed (points_checks p g) refl e)
 
   pub listable : Listable p g
   listable = record { ended = ended g held.0; within = ltb-false _ _ held.1.0 }

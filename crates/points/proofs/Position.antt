@@ -3,7 +3,7 @@ use mathlib.Core.Path.{◌≡◌, refl, sym, ap, ◌∙◌}
 use mathlib.Core.Logic.{inl, inr}
 use mathlib.Core.Bool.{Bool, true, false, cond, ◌||◌}
 use mathlib.Core.List.{List}
-use mathlib.Core.Option.{Option, none}
+use Rattle.std.specs.Prelude.{Option, None}
 use Prim.Native.Nat.{ℕ, ◌+◌, ◌/◌, ◌%◌, ◌≤◌, ◌<◌}
 use native.Mathlib.Omega.{arith}
 use borrow.Author.Tests.{le-ltb, leb-false}
@@ -34,13 +34,13 @@ module _ (s : Sides) (dist : List ℤ) (p : ℕ) where
   abbrev axis : ℕ
   axis = p % 3
 
-  pub no-next : no_next s i axis ≡ true → none ≡ point_on s dist p
+  pub no-next : no_next s i axis ≡ true → None ≡ point_on s dist p
   unfolding point_on
-  no-next e = sym (ap (λ (t : Bool). cond t none (crossing_at s dist i axis)) e)
+  no-next e = sym (ap (λ (t : Bool). cond t None (crossing_at s dist i axis)) e)
 
   pub with-next : no_next s i axis ≡ false → crossing_at s dist i axis ≡ point_on s dist p
   unfolding point_on
-  with-next e = sym (ap (λ (t : Bool). cond t none (crossing_at s dist i axis)) e)
+  with-next e = sym (ap (λ (t : Bool). cond t None (crossing_at s dist i axis)) e)
 
   -- the test of number 6: the axis of a position is 2 at most
   pub six-is : (t : Bool) → t ≡ (ltb 2 axis || no_next s i axis) → no_next s i axis ≡ t
@@ -52,7 +52,7 @@ module _ (s : Sides) (dist : List ℤ) (p : ℕ) where
     has-next h e = record { fit = f; here = h; there = leb-false _ _ e }
 
     -- past the last voxel there is no next one
-    pub past_end : i < size s → size s ≤ i + stride axis s → none ≡ point_on s dist p
+    pub past_end : i < size s → size s ≤ i + stride axis s → None ≡ point_on s dist p
     past_end h l =
         elim (two (no_next s i axis)) [
           | inl e ↦ no-next e
@@ -60,7 +60,7 @@ module _ (s : Sides) (dist : List ℤ) (p : ℕ) where
         ]
 
     -- distances of one sign have no crossing, whether there is a next voxel or not
-    pub one-sign : is_negative (distance_at dist i) ≡ is_negative (distance_at dist (i + stride axis s)) → none ≡ point_on s dist p
+    pub one-sign : is_negative (distance_at dist i) ≡ is_negative (distance_at dist (i + stride axis s)) → None ≡ point_on s dist p
     unfolding crossing_at
     one-sign h =
         elim (two (no_next s i axis)) [

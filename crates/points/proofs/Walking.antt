@@ -1,8 +1,8 @@
 -- A walk over positions, one more at a time: what is left of it, after the points found so far, gives the whole.
-use mathlib.Core.Path.{◌≡◌, refl, sym, ap, ap₂, ◌∙◌}
+use mathlib.Core.Path.{◌≡◌, refl, sym, ap, ap₂, ◌∙◌, subst}
 use mathlib.Core.Logic.{◌⊎◌, inl, inr}
 use mathlib.Core.List.{List, [], ◌∷◌, ◌++◌, append_assoc}
-use mathlib.Core.Option.{Option, none, some}
+use Rattle.std.specs.Prelude.{Option, None, Some}
 use Prim.Native.Nat.{ℕ, zero, suc, ◌+◌, ◌-◌, ◌*◌, ◌/◌, ◌≤◌, ◌<◌}
 use native.Mathlib.Omega.{arith}
 use lib.Ieee.{Float}
@@ -10,8 +10,9 @@ use lib.ListN.{length, take, drop, take-append-drop}
 use lib.Seq.{sets, length-sets}
 use Rattle.rules.specs.Answer.{Outcome, outcome, done}
 use Rattle.surface.specs.declared.Point.{Point}
-use Rattle.points.specs.Listing.{Walk, found, onwards, walk, doubles, Listing, written, listing}
-use Rattle.points.specs.Positions.{counted, stored, StoredAs}
+use Rattle.points.specs.declared.Listing.{Listing}
+use Rattle.points.specs.Listing.{Walk, found, onwards, walk, doubles, written, listing}
+use Rattle.points.specs.Positions.{counted, stored}
 use Rattle.prelude.proofs.Stores.{take-sets, drop-sets}
 
 abbrev nothing : ℕ → Walk
@@ -33,8 +34,8 @@ walk-ext f g (suc k) (suc room) p h =
   where
     go : (o : Option Point) → ((left : ℕ) → walk f k left (suc p) ≡ walk g k left (suc p))
         → onwards o room (λ left. walk f k left (suc p)) ≡ onwards o room (λ left. walk g k left (suc p))
-    go none ih = ih (suc room)
-    go (some q) ih = ap (found q) (ih room)
+    go None ih = ih (suc room)
+    go (Some q) ih = ap (found q) (ih room)
 
 -- ---- what is left, after `count` points
 
@@ -71,7 +72,7 @@ from_start at k p out =
 taken :
     (q : Point) (w : Walk) (count : ℕ) (out : List Float)
     → 3 * count + 3 ≤ length out
-    → follows (found q w) count out ≡ follows w (suc count) (stored (some q) count out)
+    → follows (found q w) count out ≡ follows w (suc count) (stored (Some q) count out)
 unfolding doubles stored
 taken q w count out h =
     let n = length w.points in
@@ -89,8 +90,8 @@ taken q w count out h =
 
 pub stored-length : (o : Option Point) (count : ℕ) (out : List Float) → length (stored o count out) ≡ length out
 unfolding stored
-stored-length none count out = refl
-stored-length (some q) count out = length-sets out (3 * count) (q.x ∷ q.y ∷ q.z ∷ [])
+stored-length None count out = refl
+stored-length (Some q) count out = length-sets out (3 * count) (q.x ∷ q.y ∷ q.z ∷ [])
 
 -- ---- one position more
 
@@ -116,16 +117,16 @@ module _ (at : ℕ → Option Point) (p end count : ℕ) (out : List Float) wher
       → count < length out / 3
       → resumed at (end - p) p count out ≡ resumed at k (p + 1) (counted o count) (stored o count out)
   unfolding stored
-  resumed-step none e h l =
+  resumed-step None e h l =
       let r : suc left ≡ length out / 3 - count = omega arith in
       ap (λ (w : Walk). follows w count out)
       (walk_step h l ∙ ap (λ (o : Option Point). onwards o left (λ room. walk at k room (p + 1))) e ∙ ap (λ (n : ℕ). walk at k n (p + 1)) r)
-  resumed-step (some q) e h l =
+  resumed-step (Some q) e h l =
       let r : left ≡ length out / 3 - suc count = omega arith in
-      let n = stored-length (some q) count out in
+      let n = stored-length (Some q) count out in
       ap (λ (w : Walk). follows w count out) (walk_step h l ∙ ap (λ (o : Option Point). onwards o left (λ room. walk at k room (p + 1))) e)
       ∙ taken q (walk at k left (p + 1)) count out (omega arith)
-      ∙ ap (λ (m : ℕ). follows (walk at k m (p + 1)) (suc count) (stored (some q) count out))
+      ∙ ap (λ (m : ℕ). follows (walk at k m (p + 1)) (suc count) (stored (Some q) count out))
       (r ∙ ap (λ (m : ℕ). m / 3 - suc count) (sym n))
 
   walk-stop : (m room : ℕ) → (m ≡ 0) ⊎ (room ≡ 0) → walk at m room p ≡ nothing p
@@ -153,6 +154,7 @@ module _ (at : ℕ → Option Point) (p end count : ℕ) (out : List Float) wher
 pub record Going (at : ℕ → Option Point) (position end : ℕ) (out₀ out : List Float) (count p : ℕ) : Type 0 where
   pub within : p ≤ end
   pub same : length out ≡ length out₀
+  pub room : count ≤ length out₀ / 3
   pub rest : resumed at (end - p) p count out ≡ resumed at (end - position) position 0 out₀
 
 module _ {at : ℕ → Option Point} {position end : ℕ} {out₀ out : List Float} {count p : ℕ} (going : Going at position end out₀ out count p) where
@@ -161,19 +163,25 @@ module _ {at : ℕ → Option Point} {position end : ℕ} {out₀ out : List Flo
       → at p ≡ o
       → p < end
       → count < length out₀ / 3
-      → StoredAs o count out n after
+      → n ≡ counted o count
+      → after ≡ stored o count out
       → Going at position end out₀ after n (p + 1)
-  going_on o n after e h l found =
+  going_on o n after e h l m d =
       let s = going.same in
       let c : count < length out / 3 = omega arith in
       record {
         within = omega arith;
-        same = ap length found.buffer-is ∙ stored-length o count out ∙ s;
+        same = ap length d ∙ stored-length o count out ∙ s;
+        room = subst (λ (k : ℕ). k ≤ length out₀ / 3) (sym m) (one_more o);
         rest =
-            ap₂ (λ (m : ℕ) (x : List Float). resumed at (end - (p + 1)) (p + 1) m x) found.count-is found.buffer-is
+            ap₂ (λ (m : ℕ) (x : List Float). resumed at (end - (p + 1)) (p + 1) m x) m d
             ∙ sym (resumed-step at p end count out o e h c)
             ∙ going.rest;
       }
+    where
+      one_more : (o : Option Point) → counted o count ≤ length out₀ / 3
+      one_more None = omega arith
+      one_more (Some q) = omega arith
 
   pub going_done :
       (end ≤ p) ⊎ (length out₀ / 3 ≤ count)

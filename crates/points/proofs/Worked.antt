@@ -8,7 +8,8 @@ use lib.Ieee.{Float, fin}
 use lib.ListN.{replicate}
 use Rattle.rules.specs.Answer.{Reply, refused, done, outcome}
 use Rattle.surface.proofs.Worked.{rule, case_a, grid, one}
-use Rattle.points.specs.Listing.{point_at, walk, doubles, Listing, listing, points}
+use Rattle.points.specs.declared.Listing.{Listing}
+use Rattle.points.specs.Listing.{point_at, walk, doubles, listing, points}
 
 unfoldable pub points-rule : Unit {0}
 unfolding rule point_at walk doubles listing points

@@ -1,6 +1,5 @@
 -- For a reader: each point that `points` writes is the one that crossing answers at its position, and no position in between is left out.
-use Rattle.std.specs.Prelude.{◌≡◌, ◌⊎◌, List, [], ◌∷◌, ◌++◌, ℕ, ◌+◌, ◌-◌, ◌*◌, ◌/◌, ◌%◌, ◌≤◌, ◌<◌, Float, length, get_or, drop}
-use Rattle.std.proofs.Math.Option.{Option, none, some}
+use Rattle.std.specs.Prelude.{◌≡◌, ◌⊎◌, List, [], ◌∷◌, ◌++◌, ℕ, ◌+◌, ◌-◌, ◌*◌, ◌/◌, ◌%◌, ◌≤◌, ◌<◌, Float, length, get_or, drop, Option, None, Some}
 use Rattle.std.specs.Float.{nan}
 use Rattle.prelude.specs.Lists.{range}
 use Rattle.rules.specs.Grid.{size}
@@ -8,7 +7,8 @@ use Rattle.rules.specs.Answer.{done}
 use Rattle.rules.specs.Machine.{State}
 use Rattle.surface.specs.declared.Point.{Point}
 use Rattle.surface.specs.Surface.{crossing}
-use Rattle.points.specs.Listing.{point_at, doubles, Listing, points}
+use Rattle.points.specs.declared.Listing.{Listing}
+use Rattle.points.specs.Listing.{point_at, doubles, points}
 
 -- the double of a buffer at an index
 abbrev pub double_at : List Float → ℕ → Float
@@ -26,13 +26,13 @@ pub record FromCrossing (g : State) (low high k : ℕ) (out : List Float) : Type
   pub point : Point
   pub after : low ≤ position
   pub before : position < high
-  pub answered : (crossing (position / 3) (position % 3) g).answer ≡ done (some point)
+  pub answered : (crossing (position / 3) (position % 3) g).answer ≡ done (Some point)
   pub written : PointOf out k point
 
 -- the points that are found at the positions of a list, in its order
 abbrev pub cons_found : Option Point → List Point → List Point
-cons_found none qs = qs
-cons_found (some q) qs = q ∷ qs
+cons_found None qs = qs
+cons_found (Some q) qs = q ∷ qs
 
 unfoldable pub gathered : (ℕ → Option Point) → List ℕ → List Point
 gathered at [] = []

@@ -1,6 +1,5 @@
 -- The points of a finished grid, many in one call. Document 01 does not have this call: it is ours, made of crossing's own rule.
-use Rattle.std.specs.Prelude.{List, [], ◌∷◌, ◌++◌, ℕ, zero, suc, ◌-◌, ◌*◌, ◌/◌, ◌%◌, ◌≤◌, ltb, Float, length, drop}
-use Rattle.std.proofs.Math.Option.{Option, none, some}
+use Rattle.std.specs.Prelude.{List, [], ◌∷◌, ◌++◌, ℕ, zero, suc, ◌-◌, ◌*◌, ◌/◌, ◌%◌, ◌≤◌, ltb, Float, length, drop, Option, None, Some}
 use Rattle.rules.specs.Grid.{size}
 use Rattle.rules.specs.Checks.{Check, ◌when◌, unless}
 use Rattle.rules.specs.Answer.{Reply, refused, done, Outcome, outcome, untouched}
@@ -8,13 +7,13 @@ use Rattle.rules.specs.Machine.{State, finished_checks}
 use Rattle.rules.specs.Fit.{Ended}
 use Rattle.surface.specs.declared.Point.{Point}
 use Rattle.surface.specs.Surface.{crossing}
-use Rattle.points.specs.declared.Listed.{Listed}
+use Rattle.points.specs.declared.Listing.{Listing}
 
 -- ---- positions: 3 * index + axis
 
 -- what crossing answers is a point, or none: also where it refuses, since the next voxel lies beyond the grid
 abbrev pub point_in : Reply (Option Point) → Option Point
-point_in (refused n) = none
+point_in (refused n) = None
 point_in (done o) = o
 
 unfoldable pub point_at : State → ℕ → Option Point
@@ -32,8 +31,8 @@ found q w = record { points = q ∷ w.points; next = w.next }
 
 -- what is found at a position, with room for one more point than `room`, and then what follows for the room that is left
 abbrev pub onwards : Option Point → ℕ → (ℕ → Walk) → Walk
-onwards none room rest = rest (suc room)
-onwards (some q) room rest = found q (rest room)
+onwards None room rest = rest (suc room)
+onwards (Some q) room rest = found q (rest room)
 
 -- k positions from p on, while there is room for a point
 unfoldable pub walk : (ℕ → Option Point) → ℕ → ℕ → ℕ → Walk
@@ -46,10 +45,6 @@ walk at (suc k) (suc room) p = onwards (at p) room (λ left. walk at k left (suc
 unfoldable pub doubles : List Point → List Float
 doubles [] = []
 doubles (q ∷ qs) = q.x ∷ q.y ∷ q.z ∷ doubles qs
-
-pub record Listing : Type 0 where
-  pub count : ℕ
-  pub next : ℕ
 
 abbrev pub written : Walk → List Float → Outcome (List Float) Listing
 written w out =
@@ -64,10 +59,6 @@ points_checks p g = finished_checks g ++ (5 when ltb (3 * size g.rec.sides) p �
 
 unfoldable pub points : ℕ → State → List Float → Outcome (List Float) Listing
 points p g out = unless (points_checks p g) (untouched out) (listing (point_at g) (3 * size g.rec.sides - p) p out)
-
-abbrev pub listed_answer : Listed → Reply Listing
-listed_answer (Listed.Done c n) = done (record { count = c; next = n })
-listed_answer (Listed.Refused n) = refused n
 
 -- what holds where no check fails
 pub record Listable (p : ℕ) (g : State) : Type 0 where

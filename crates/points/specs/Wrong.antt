@@ -1,6 +1,5 @@
 -- Lists of points by another rule, each told from ours by case A. proofs/Wrong.antt shows it by computation.
-use Rattle.std.specs.Prelude.{◌≡◌, [], ◌∷◌, ◌++◌, ℕ, zero, suc, ◌*◌, leb, ltb}
-use Rattle.std.proofs.Math.Option.{Option, none, some}
+use Rattle.std.specs.Prelude.{◌≡◌, [], ◌∷◌, ◌++◌, ℕ, zero, suc, ◌*◌, leb, ltb, Option, None, Some}
 use Rattle.rules.specs.Grid.{size}
 use Rattle.rules.specs.Checks.{◌when◌, first_failing}
 use Rattle.rules.specs.Answer.{Answers}
@@ -10,8 +9,8 @@ use Rattle.points.specs.Listing.{Walk, walk, point_at, points_checks, points}
 
 -- points in falling order of position
 abbrev pub behind : Option Point → ℕ → (ℕ → Walk) → Walk
-behind none room rest = rest (suc room)
-behind (some q) room rest = record { points = (rest room).points ++ (q ∷ []); next = (rest room).next }
+behind None room rest = rest (suc room)
+behind (Some q) room rest = record { points = (rest room).points ++ (q ∷ []); next = (rest room).next }
 
 unfoldable pub falling : (ℕ → Option Point) → ℕ → ℕ → ℕ → Walk
 falling at zero room p = record { points = []; next = p }

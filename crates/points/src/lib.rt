@@ -1,47 +1,38 @@
 // The points of a finished grid, many in one call.
 #![tactic(auto)]
 
-ghost use Rattle.std.specs.Prelude.{◌≡◌, suc, ◌+◌, ◌-◌, ◌*◌, ◌≤◌, length};
-ghost use Rattle.std.proofs.Math.Option.{Option, some};
+ghost use Rattle.std.specs.Prelude.{◌≡◌, suc, ◌+◌, ◌-◌, ◌*◌, ◌≤◌, length, Some};
 ghost use Rattle.rules.specs.Grid.{size};
 ghost use Rattle.rules.specs.Checks.{first_failing};
 ghost use Rattle.rules.specs.Answer.{done, outcome};
+ghost use Rattle.rules.specs.Refusals.{number_in, replied};
 ghost use Rattle.rules.specs.Machine.{state};
-ghost use Rattle.surface.specs.declared.Point.{Point};
-ghost use Rattle.surface.specs.Surface.{crossed_answer};
-ghost use Rattle.points.specs.Listing.{listing, points_checks, points, listed_answer};
-ghost use Rattle.points.specs.Positions.{point_on, Walkable, stored, StoredAs};
+ghost use Rattle.points.specs.Listing.{listing, points_checks, points};
+ghost use Rattle.points.specs.Positions.{point_on, Walkable, stored};
 
-use rules::{Record, Sides};
-use surface::{Crossed, Point};
+use rules::{Record, Refusal, Sides};
+use surface::Point;
 
-// How many points were written and the position to go on from, or a refusal's number.
+// How many points were written, and the position to go on from.
 #[derive(Clone, Copy)]
-pub enum Listed {
-    Done { count: usize, next: usize },
-    Refused(u8),
+pub struct Listing {
+    pub count: usize,
+    pub next: usize,
 }
 
 // ---- one position
 
 // The point at a position. Most have distances of one sign, and need no coordinates.
-fn point_on(sides: Sides, dist: &[i32], p: usize) -> Crossed
+fn point_on(sides: Sides, dist: &[i32], p: usize) -> Option<Point>
     requires { Walkable sides dist.now (suc p) }
-    ensures { crossed_answer result ≡ done (point_on sides dist.now p) }
+    ensures { result ≡ point_on sides dist.now p }
 {
     let i = p / 3;
     let axis = (p % 3) as u32;
-    let j = i + surface::stride(sides, axis);
-    if dist.len() <= j {
-        return Crossed::Nowhere;
-    }
     let here = dist[i];
-    let there = dist[j];
-    if (here < 0) == (there < 0) {
-        return Crossed::Nowhere;
-    }
-    if surface::beyond(sides, i, axis) {
-        return Crossed::Nowhere;
+    let there = *dist.get(i + surface::stride(sides, axis))?;
+    if (here < 0) == (there < 0) || surface::beyond(sides, i, axis) {
+        return None;
     }
     surface::crossing_at(sides, dist, i, axis)
 }
@@ -49,65 +40,49 @@ fn point_on(sides: Sides, dist: &[i32], p: usize) -> Crossed
 // A point's three doubles, after those of `count` points.
 fn store(out: &mut [f64], count: usize, q: Point)
     requires { 3 * count + 3 ≤ length out.old }
-    ensures { out.new ≡ stored (some q) count out.old }
+    ensures { out.new ≡ stored (Some q) count out.old }
 {
     let at = 3 * count;
-    out[at] = q.x;
-    out[at + 1] = q.y;
-    out[at + 2] = q.z;
-}
-
-// What is found at a position; answers how many points there are then.
-fn store_found(out: &mut [f64], count: usize, r: Crossed) -> usize
-    requires { 3 * count + 3 ≤ length out.old }
-    ensures { (o : Option Point) → crossed_answer r ≡ done o → StoredAs o count out.old result out.new }
-{
-    match r {
-        Crossed::Nowhere => count,
-        Crossed::At(q) => {
-            store(out, count, q);
-            count + 1
-        }
-        Crossed::Refused(_) => count,
-    }
+    out[at..at + 3].copy_from_slice(&[q.x, q.y, q.z]);
 }
 
 // ---- the call
 
 // From a position on, until the buffer has no room for one more point or the positions end.
-fn list(sides: Sides, dist: &[i32], position: usize, out: &mut [f64]) -> Listed
+fn list(sides: Sides, dist: &[i32], position: usize, out: &mut [f64]) -> Listing
     requires { Walkable sides dist.now position }
-    ensures { outcome (listed_answer result) out.new
+    ensures { outcome (done result) out.new
         ≡ listing (point_on sides dist.now) (3 * size sides - position) position out.old }
 {
     let end = 3 * dist.len();
     let room = out.len() / 3;
-    let mut count: usize = 0;
-    let mut p = position;
-    while (p < end) & (count < room) {
-        let r = point_on(sides, dist, p);
-        count = store_found(out, count, r);
-        p += 1;
+    let mut count = 0;
+    for p in position..end {
+        if count == room {
+            return Listing { count, next: p };
+        }
+        if let Some(point) = point_on(sides, dist, p) {
+            store(out, count, point);
+            count += 1;
+        }
     }
-    Listed::Done {
-        count: count,
-        next: p,
-    }
+    Listing { count, next: end }
 }
 
-// The number of the first check that fails, or 0.
-fn points_refusal(given: Record, dist: &[i32], status: &[u8], position: usize) -> u8
-    ensures { result ≡ first_failing (points_checks position (state given dist.now status.now)) }
+// The checks of points, the first that fails.
+fn points_refusal(
+    given: Record,
+    dist: &[i32],
+    status: &[u8],
+    position: usize,
+) -> Result<(), Refusal>
+    ensures { number_in result ≡ first_failing (points_checks position (state given dist.now status.now)) }
 {
-    let n = fitness::finished_refusal(given, dist, status);
-    if n != 0 {
-        return n;
+    fitness::finished_refusal(given, dist, status)?;
+    if 3 * dist.len() < position {
+        return Err(Refusal::Index);
     }
-    let end = 3 * dist.len();
-    if end < position {
-        return 5;
-    }
-    0
+    Ok(())
 }
 
 // The points of all crossings from a position on, 3 * index + axis, in rising order, three doubles a point.
@@ -117,14 +92,10 @@ pub fn points(
     status: &[u8],
     position: usize,
     out: &mut [f64],
-) -> Listed
-    ensures { outcome (listed_answer result) out.new
+) -> Result<Listing, Refusal>
+    ensures { outcome (replied result) out.new
         ≡ points position (state given dist.now status.now) out.old }
 {
-    let n = points_refusal(given, dist, status, position);
-    if n != 0 {
-        return Listed::Refused(n);
-    }
-    let sides = given.sides;
-    list(sides, dist, position, out)
+    points_refusal(given, dist, status, position)?;
+    Ok(list(given.sides, dist, position, out))
 }

@@ -13,7 +13,8 @@ use Rattle.rules.specs.Checks.{◌when◌, unless}
 use Rattle.rules.specs.Answer.{Outcome, untouched, buffers}
 use Rattle.rules.specs.Begin.{begun_on, begun, begin}
 use Rattle.rules.specs.Fill.{filled}
-use Rattle.coarse.specs.Coarse.{FourBuffers, four_buffers, CoarseStart, wrong_lengths, unfit_coarse, coarse_on, begin_coarse}
+use Rattle.coarse.specs.declared.CoarseStart.{CoarseStart}
+use Rattle.coarse.specs.Coarse.{FourBuffers, four_buffers, wrong_lengths, unfit_coarse, coarse_on, begin_coarse}
 use Rattle.practice.specs.Practice.{practice_at, practised, practice}
 use Rattle.practice.specs.Course.{LentForBoth, RecordOr4, BeginsOnPractice, StartOr4Or31, CoarseOnPractice}
 use Rattle.practice.proofs.Course.{at-border, small_at, stands_at}

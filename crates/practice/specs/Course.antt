@@ -9,7 +9,8 @@ use Rattle.rules.specs.Fit.{Lent}
 use Rattle.rules.specs.Answer.{Reply, refused, done, buffers}
 use Rattle.rules.specs.Begin.{new_record, begin}
 use Rattle.rules.specs.Cases.{sides}
-use Rattle.coarse.specs.Coarse.{four_buffers, CoarseStart, begin_coarse}
+use Rattle.coarse.specs.declared.CoarseStart.{CoarseStart}
+use Rattle.coarse.specs.Coarse.{four_buffers, begin_coarse}
 use Rattle.practice.specs.Practice.{s_after, mixed, practised, practice}
 
 -- ---- the values

@@ -3,8 +3,7 @@ use Rattle.std.specs.Prelude.{ℕ, zero, suc, ◌+◌, ◌/◌, ◌%◌, ◌^◌
 use Rattle.rules.specs.declared.Sides.{Sides}
 use Rattle.rules.specs.Grid.{fit_sides, size, voxels, on_border}
 use Rattle.rules.specs.Checks.{Check, ◌when◌, unless}
-use Rattle.rules.specs.Answer.{Reply, refused, done, Outcome, outcome, untouched}
-use Rattle.practice.specs.declared.Practised.{Practised}
+use Rattle.rules.specs.Answer.{done, Outcome, outcome, untouched}
 
 -- ---- a value
 
@@ -44,7 +43,3 @@ practised sides seed = map (practice_at sides seed) (voxels sides)
 -- nothing is answered but that it is done
 unfoldable pub practice : Sides → ℕ → List ℤ → Outcome (List ℤ) (Unit {0})
 practice sides seed values = unless (practice_checks sides values) (untouched values) (outcome (done tt) (practised sides seed))
-
-abbrev pub practised_answer : Practised → Reply (Unit {0})
-practised_answer Practised.Filled = done tt
-practised_answer (Practised.Refused n) = refused n

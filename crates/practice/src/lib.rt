@@ -4,28 +4,23 @@
 
 ghost use Rattle.std.specs.Prelude.{◌≡◌, ◌+◌, ◌*◌, ◌≤◌, map, length, pos};
 ghost use Rattle.rules.specs.Grid.{range, size};
+ghost use Rattle.rules.specs.Refusals.{replied};
 ghost use Rattle.rules.specs.Answer.{outcome};
 ghost use Rattle.rules.specs.Fit.{Sized};
 ghost use Rattle.loops.specs.InPlace.{Each};
 ghost use Rattle.loops.specs.Rows.{Row};
 ghost use Rattle.practice.specs.Practice as spec;
-ghost use Rattle.practice.specs.Practice.{advanced as advanced_of, value_of, practised_answer};
+ghost use Rattle.practice.specs.Practice.{advanced as advanced_of, value_of};
 ghost use Rattle.practice.specs.Work.{drawn_at, framed_at};
 
-use rules::Sides;
-
-#[derive(Clone, Copy)]
-pub enum Practised {
-    Filled,
-    Refused(u8),
-}
+use rules::{Refusal, Sides};
 
 // ---- the generator
 
 fn advanced(s: u32) -> u32
     ensures { result ≡ advanced_of s }
 {
-    std::num::wrapping_add_u32(s, 0x9E3779B9)
+    s.wrapping_add(0x9E3779B9)
 }
 
 fn value_of(s: u32) -> i32
@@ -40,11 +35,9 @@ fn draw(values: &mut [i32], seed: u32)
     ensures { values.new ≡ map (drawn_at seed) (range 0 (length values.old)) }
 {
     let mut s = seed;
-    let mut i = 0;
-    while i < values.len() {
+    for v in values.iter_mut() {
         s = advanced(s);
-        values[i] = value_of(s);
-        i += 1;
+        *v = value_of(s);
     }
 }
 
@@ -55,11 +48,7 @@ fn border(values: &mut [i32], first: usize, end: usize)
     requires { (first ≤ end) × (end ≤ length values.old) }
     ensures { Each (pos 0) (λ k d. pos 1000) first end values.old values.new }
 {
-    let mut i = first;
-    while i < end {
-        values[i] = 1000;
-        i += 1;
-    }
+    values[first..end].fill(1000);
 }
 
 // A row: its first and its last voxel lie on the border, and all of it if the row does.
@@ -73,37 +62,34 @@ fn frame_row(values: &mut [i32], sides: Sides, row: usize)
     let end = first + sides.a;
     if ((y == 0) | (y + 1 == sides.b)) | ((z == 0) | (z + 1 == sides.c)) {
         border(values, first, end);
-        return;
+    } else {
+        border(values, first, first + 1);
+        border(values, end - 1, end);
     }
-    border(values, first, first + 1);
-    border(values, end - 1, end);
 }
 
 fn frame(values: &mut [i32], sides: Sides)
     requires { Sized sides (length values.old) }
     ensures { Each (pos 0) (framed_at sides) 0 (size sides) values.old values.new }
 {
-    let rows = sides.b * sides.c;
-    let mut row = 0;
-    while row < rows {
+    for row in 0..sides.b * sides.c {
         frame_row(values, sides, row);
-        row += 1;
     }
 }
 
 // ---- the call
 
 // Fills the lent values with the practice grid of a seed. A refusal writes nothing.
-pub fn practice(sides: Sides, seed: u32, values: &mut [i32]) -> Practised
-    ensures { outcome (practised_answer result) values.new ≡ spec.practice sides seed values.old }
+pub fn practice(sides: Sides, seed: u32, values: &mut [i32]) -> Result<(), Refusal>
+    ensures { outcome (replied result) values.new ≡ spec.practice sides seed values.old }
 {
     if !sizes::fit_sides(sides) {
-        return Practised::Refused(1);
+        return Err(Refusal::Side);
     }
     if values.len() != sizes::voxel_count(sides) {
-        return Practised::Refused(2);
+        return Err(Refusal::Length);
     }
     draw(values, seed);
     frame(values, sides);
-    Practised::Filled
+    Ok(())
 }

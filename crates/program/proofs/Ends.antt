@@ -13,7 +13,8 @@ use Rattle.rules.specs.declared.Sides.{Sides}
 use Rattle.rules.specs.declared.Record.{Record}
 use Rattle.rules.specs.Grid.{fit_sides, size}
 use Rattle.rules.specs.Checks.{◌when◌, unless, AllHold}
-use Rattle.rules.specs.Answer.{refused, done, Outcome, untouched, Buffers, buffers, Opening}
+use Rattle.rules.specs.declared.Opening.{Opening}
+use Rattle.rules.specs.Answer.{refused, done, Outcome, untouched, Buffers, buffers}
 use Rattle.rules.specs.Marks.{marked, stray_mark}
 use Rattle.rules.specs.Begin.{new_record, begin_checks, begun, begin}
 use Rattle.rules.specs.Status.{any_pending}

@@ -8,7 +8,8 @@ use Rattle.rules.specs.Begin.{begin}
 use Rattle.rules.specs.Meaning.{found}
 use Rattle.rules.specs.Status.{is_kept}
 use Rattle.rules.specs.Machine.{State, state, after, carve, open_next, finish}
-use Rattle.format.specs.File.{sides_in, Header, read_up_to}
+use Rattle.format.specs.declared.Header.{Header}
+use Rattle.format.specs.File.{sides_in, read_up_to}
 use Rattle.text.specs.Line.{Line, refused_line, carved_line}
 
 -- ---- after begin: carve to empty and open in turn until open refuses, then finish; each call is lent the marks that begin was

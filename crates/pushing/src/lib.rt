@@ -21,26 +21,23 @@ pub fn push(label: &mut [u8], work: &mut [i32], end: usize, j: usize) -> usize
 {
     if label[j] == 1 {
         label[j] = 2;
-        let v = j as i32;
-        work[end] = v;
-        return end + 1;
+        work[end] = j as i32;
+        end + 1
+    } else {
+        end
     }
-    end
 }
 
 // The voxels of a run, `wide` of them from first on.
-fn push_all(label: &mut [u8], work: &mut [i32], end: usize, first: usize, wide: usize) -> usize
+fn push_all(label: &mut [u8], work: &mut [i32], mut end: usize, first: usize, wide: usize) -> usize
     requires { (first + wide ≤ length label.old) × Ready (fill_of label.old work.old end) }
     ensures { fill_of label.new work.new result
         ≡ push_all (range first wide) (fill_of label.old work.old end) }
 {
-    let mut e = end;
-    let mut k = 0;
-    while k < wide {
-        e = push(label, work, e, first + k);
-        k += 1;
+    for j in first..first + wide {
+        end = push(label, work, end, j);
     }
-    e
+    end
 }
 
 // The same, by one look at all of them. Most runs have none left to take; the label 1 is odd, and so are labels joined with it.
@@ -50,16 +47,17 @@ fn push_run(label: &mut [u8], work: &mut [i32], end: usize, first: usize, wide: 
         ≡ push_all (range first wide) (fill_of label.old work.old end) }
 {
     if loops::joined(label, first, first + wide) % 2 == 0 {
-        return end;
+        end
+    } else {
+        push_all(label, work, end, first, wide)
     }
-    push_all(label, work, end, first, wide)
 }
 
 // The voxels of a patch, row by row.
 pub fn push_patch(
     label: &mut [u8],
     work: &mut [i32],
-    end: usize,
+    mut end: usize,
     first: usize,
     patch: Patch,
 ) -> usize
@@ -67,14 +65,8 @@ pub fn push_patch(
     ensures { fill_of label.new work.new result
         ≡ push_all (patch_at patch first) (fill_of label.old work.old end) }
 {
-    let wide = patch.wide;
-    let rows = patch.rows;
-    let step = patch.step;
-    let mut e = end;
-    let mut r = 0;
-    while r < rows {
-        e = push_run(label, work, e, first + r * step, wide);
-        r += 1;
+    for row in 0..patch.rows {
+        end = push_run(label, work, end, first + row * patch.step, patch.wide);
     }
-    e
+    end
 }

@@ -20,7 +20,7 @@ use Rattle.rules.proofs.Foremost.{sooner-order, none_first, foremost-first-of}
 use Rattle.keys.specs.Key.{key_at, voxel_of}
 use Rattle.keys.proofs.Ranks.{by-some, by_less, by-least, key-by, key-pending, key-some, Keyed, keyed}
 use Rattle.offsets.proofs.Held.{keyed-named}
-use Rattle.queue.specs.declared.Choice.TheVariants.{Nothing, At}
+use Rattle.std.specs.Prelude.{None, Some}
 use Rattle.queue.specs.Queue.{Queue, Best}
 use Rattle.queue.proofs.Queuing.{front-some, all-low, key-low, first-greatest, root-own}
 use Rattle.queue.proofs.Steps.{some}
@@ -84,19 +84,16 @@ module _ (m : Marked) (dist : List ℤ) (status offsets tree front : List ℕ) (
               by_less m dist j i f (omega (arith, by-some m.hurried (distance_at dist i) i, top i, key-by m.hurried dist status i true e));
         }
 
-  never : {A : Type 0} (j : ℕ) → Nothing ≡ At j → A
-  never j q = let z : ◌≡◌ {A = ℕ} 0 1 = cc in let b : ⊥ = omega arith in absurd b
-
-  pub best-nothing : get_or front head 0 ≡ 0 → get_or tree 1 0 ≡ 0 → Best m dist status front head Nothing
+  pub best-nothing : get_or front head 0 ≡ 0 → get_or tree 1 0 ≡ 0 → Best m dist status front head None
   best-nothing z e =
       record {
         rule = λ s n. sym (none_first s (sooner m dist) (sooner-order m dist) (is_pending status) (λ j u. idle z e j (omega arith)));
-        inside = λ j q. never j q;
-        pending = λ j q. never j q;
-        first = λ j q. never j q;
+        inside = λ j q. (cc);
+        pending = λ j q. (cc);
+        first = λ j q. (cc);
       }
 
-  pub best-at : (j : ℕ) → 0 < get_or front head 0 → j ≡ voxel_of (get_or front head 0) → SFits w32 (distance_at dist j) → Best m dist status front head (At j)
+  pub best-at : (j : ℕ) → 0 < get_or front head 0 → j ≡ voxel_of (get_or front head 0) → SFits w32 (distance_at dist j) → Best m dist status front head (Some j)
   best-at j h e f =
       record {
         rule = λ s n.

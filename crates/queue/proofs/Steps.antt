@@ -15,7 +15,7 @@ use Rattle.keys.proofs.Ranks.{pending-inside, key-by, key-some, Keyed, keyed}
 use Rattle.offsets.proofs.Held.{keyed-named}
 use Rattle.pending.specs.Index.{Index, Raising, Raised, Refreshing, Refreshed}
 use Rattle.front.specs.Front.{Inserted, lead, Parting, Parted}
-use Rattle.queue.specs.Queue.{places, Queue, Emptied, Filled}
+use Rattle.queue.specs.Queue.{places, Queue, Filled}
 use Rattle.queue.proofs.Changes.{key-other, lent-set, key_set}
 use Rattle.queue.proofs.Queuing.{queued-empty, queued-start, all-low, root-low, lowered, entering, queued-left, queued-raised, queued-inserted}
 use Rattle.queue.proofs.Queuing.{last-inside, last-raising, queued-spilled}
@@ -220,10 +220,3 @@ module _ (m : Marked) (dist : List ℤ) (status : List ℕ) where
           queue = record { lent = Q.lent; room = n ∙ Q.room; top = w; keys = r.0 };
           ends = r.1;
         }
-
-  pub spilling-done : (offsets0 tree0 front0 offsets tree front : List ℕ) (head e : ℕ) → Spilling offsets0 tree0 front0 offsets tree front head e → e ≤ head
-      → Emptied m dist status offsets tree front head
-  spilling-done offsets0 tree0 front0 offsets tree front head e S h =
-      let F = S.queue.keys.list in
-      let z : F.end ≡ head = omega (arith, S.ends, F.order) in
-      record { queue = S.queue; empty = ap (λ (x : ℕ). get_or front x 0) (sym z) ∙ F.ended }

@@ -1,6 +1,5 @@
 -- The queue of pending voxels: the front has the greatest keys, the index all others.
-use Rattle.std.specs.Prelude.{◌≡◌, true, false, List, ℕ, ◌≤◌, ◌<◌, ℤ, length, get_or, set}
-use Rattle.std.proofs.Math.Option.{Option, none, some}
+use Rattle.std.specs.Prelude.{◌≡◌, true, false, List, ℕ, ◌≤◌, ◌<◌, ℤ, length, get_or, set, Option, Some}
 use Rattle.rules.specs.declared.Sides.{Sides}
 use Rattle.rules.specs.Grid.{size}
 use Rattle.rules.specs.Status.{status_of, pending_byte, woken, is_pending, first_of}
@@ -9,8 +8,6 @@ use Rattle.rules.specs.Machine.{sooner}
 use Rattle.keys.specs.Key.{Lent, key_at}
 use Rattle.pending.specs.Index.{Room, Indexed}
 use Rattle.front.specs.Front.{Falling, up_to}
-use Rattle.queue.specs.declared.Choice.{Choice}
-use Rattle.queue.specs.declared.Choice.TheVariants.{Nothing, At}
 
 -- how many places the front has
 abbrev pub places : ℕ
@@ -65,13 +62,9 @@ pub record Leaving (m : Marked) (dist : List ℤ) (status offsets tree front : L
 
 -- ---- the answer
 
-abbrev pub chosen : Choice → Option ℕ
-chosen Nothing = none
-chosen (At j) = some j
-
 -- document 01's choice among the pending voxels of a grid with these buffers
-pub record Best (m : Marked) (dist : List ℤ) (status front : List ℕ) (head : ℕ) (c : Choice) : Type 0 where
-  pub rule : (s : Sides) → size s ≡ length status → chosen c ≡ first_of s (sooner m dist) (is_pending status)
-  pub inside : (j : ℕ) → c ≡ At j → j < length status
-  pub pending : (j : ℕ) → c ≡ At j → is_pending status j ≡ true
-  pub first : (j : ℕ) → c ≡ At j → get_or front head 0 ≡ key_at m.hurried dist status j
+pub record Best (m : Marked) (dist : List ℤ) (status front : List ℕ) (head : ℕ) (c : Option ℕ) : Type 0 where
+  pub rule : (s : Sides) → size s ≡ length status → c ≡ first_of s (sooner m dist) (is_pending status)
+  pub inside : (j : ℕ) → c ≡ Some j → j < length status
+  pub pending : (j : ℕ) → c ≡ Some j → is_pending status j ≡ true
+  pub first : (j : ℕ) → c ≡ Some j → get_or front head 0 ≡ key_at m.hurried dist status j

@@ -12,18 +12,7 @@ ghost use Rattle.rules.specs.Marks.{marked};
 ghost use Rattle.keys.specs.Key.{voxel_of};
 ghost use Rattle.queue.specs.Queue.{Queue, Lending, Filled, Written, Leaving, Best};
 
-// How many places are free before the first key of a new front.
-const LEAD: usize = 48;
-
-// The greatest number of voxels, 2^18.
-const MOST: u64 = 262144;
-
-// The voxel to examine next, if one is pending.
-#[derive(Clone, Copy)]
-pub enum Choice {
-    Nothing,
-    At(usize),
-}
+use front::LEAD;
 
 // The queue of the lent buffers: all in the index, and the front empty.
 pub fn build(
@@ -48,12 +37,12 @@ pub fn voxel(dist: &[i32], w: u64) -> usize
     requires { (0 < w) × (voxel_of w < length dist.now) }
     ensures { (result ≡ voxel_of w) × SFits w32 (distance_at dist.now result) }
 {
-    let j = (MOST - 1 - (w - 1) % MOST) as usize;
+    let j = keys::voxel_of(w);
     let _d = dist[j];
     j
 }
 
-// The pending voxel that comes first.
+// The pending voxel that comes first, if any is pending.
 pub fn first(
     dist: &[i32],
     marks: &[u8],
@@ -62,15 +51,12 @@ pub fn first(
     tree: &[u64],
     front: &[u64],
     head: usize,
-) -> Choice
+) -> Option<usize>
     requires { Filled (marked marks.now) dist.now status.now offsets.now tree.now front.now head }
     ensures { Best (marked marks.now) dist.now status.now front.now head result }
 {
     let w = front[head];
-    if w == 0 {
-        return Choice::Nothing;
-    }
-    Choice::At(voxel(dist, w))
+    if w == 0 { None } else { Some(voxel(dist, w)) }
 }
 
 // Voxel i, the first of the front, has the status byte s from now on, which is not pending.
@@ -106,8 +92,5 @@ pub fn any_pending(
     requires { Queue (marked marks.now) dist.now status.now offsets.now tree.now front.now head }
     ensures { result ≡ any (is_pending status.now) (range 0 (length status.now)) }
 {
-    if front[head] != 0 {
-        return true;
-    }
-    tree[1] != 0
+    front[head] != 0 || tree[1] != 0
 }

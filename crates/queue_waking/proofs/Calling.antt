@@ -1,50 +1,20 @@
--- Waking by bits over the queue: the loop, and one voxel of it.
-use mathlib.Core.Path.{◌≡◌, refl, sym, ◌∙◌, subst, subst₂}
-use mathlib.Core.Bool.{true, false}
+-- Waking by bits over the queue.
+use mathlib.Core.Path.{◌≡◌, ◌∙◌, subst}
+use mathlib.Core.Bool.{false}
 use mathlib.Core.List.{List}
-use Prim.Native.Nat.{ℕ, ◌-◌, ◌/◌, ◌≤◌, ◌<◌}
+use Prim.Native.Nat.{ℕ, ◌-◌, ◌/◌, ◌≤◌}
 use native.Mathlib.Omega.{arith}
 use lib.Bits.{bit_and, and_le_l}
 use lib.IntN.{ℤ}
 use lib.ListN.{length}
-use Rattle.rules.specs.Status.{status_of, woken}
 use Rattle.rules.specs.Machine.{may_go}
 use Rattle.rules.specs.Marks.{Marked}
 use Rattle.bits.specs.Bits.{has}
 use Rattle.bits.specs.Lowest.{Lowest}
-use Rattle.waking.specs.Waking.{Woken, Only, AtBits, from_voxel}
-use Rattle.waking.proofs.Waking.{woken-one, woken-bound, Rousing, rousing-start, rousing-next, rousing-done}
-use Rattle.queue.specs.Queue.{Queue, Written}
+use Rattle.waking.specs.Waking.{Woken, Only, AtBits}
+use Rattle.waking.proofs.Waking.{Rousing, rousing-next, rousing-done}
+use Rattle.queue.specs.Queue.{Queue}
 use Rattle.queue_waking.specs.QueueWaking.{WokenQueued}
-
--- ---- one voxel
-
-module _ (mk : Marked) (dist : List ℤ) (before offsets tree front : List ℕ) (head j : ℕ) where
-  pub stays : may_go mk dist j ≡ false → Queue mk dist before offsets tree front head
-      → WokenQueued (Only (may_go mk dist) j) mk dist before before offsets tree front head
-  stays e i = record { woken = woken-bound (may_go mk dist) before j e; queue = i }
-
-  pub wakes :
-      (after : List ℕ)
-      → j < length before
-      → may_go mk dist j ≡ true
-      → Written mk dist before after offsets tree front head j (woken (status_of before j))
-      → WokenQueued (Only (may_go mk dist) j) mk dist before after offsets tree front head
-  wakes after h e w =
-      record {
-        woken = subst (Woken (Only (may_go mk dist) j) before) (sym w.status) (woken-one (may_go mk dist) before j _ h e refl);
-        queue = w.queue;
-      }
-
--- the bits and the first voxel, as code has them
-pub woken-at :
-    {mk : Marked} {dist : List ℤ} {before after offsets tree front : List ℕ} {head : ℕ} (a l : ℕ) {x y at from : ℕ} → x ≡ y → at ≡ from
-    → WokenQueued (AtBits (may_go mk dist) x (from_voxel a l at)) mk dist before after offsets tree front head
-    → WokenQueued (AtBits (may_go mk dist) y (from_voxel a l from)) mk dist before after offsets tree front head
-woken-at {mk} {dist} {before} {after} {offsets} {tree} {front} {head} a l e f w =
-    subst₂ (λ (x at : ℕ). WokenQueued (AtBits (may_go mk dist) x (from_voxel a l at)) mk dist before after offsets tree front head) e f w
-
--- ---- the loop
 
 pub record Calling (mk : Marked) (dist : List ℤ) (x : ℕ) (voxel_at : ℕ → ℕ) (before offsets0 tree0 front0 status offsets tree front : List ℕ)
     (head m : ℕ) : Type 0 where
@@ -57,19 +27,6 @@ pub record Calling (mk : Marked) (dist : List ℤ) (x : ℕ) (voxel_at : ℕ →
   pub placed : length front ≡ length front0
 
 module _ (mk : Marked) (dist : List ℤ) (x : ℕ) (voxel_at : ℕ → ℕ) (before offsets0 tree0 front0 : List ℕ) where
-  pub calling-start : (head : ℕ) → Queue mk dist before offsets0 tree0 front0 head
-      → Calling mk dist x voxel_at before offsets0 tree0 front0 before offsets0 tree0 front0 head x
-  calling-start head i =
-      record {
-        few = omega arith;
-        rousing = rousing-start (may_go mk dist) x voxel_at before;
-        queue = i;
-        statuses = refl;
-        stretched = refl;
-        noded = refl;
-        placed = refl;
-      }
-
   pub calling-next :
       (status offsets tree front after offsets1 tree1 front1 : List ℕ) (head head1 m t j : ℕ)
       → Calling mk dist x voxel_at before offsets0 tree0 front0 status offsets tree front head m

@@ -12,19 +12,14 @@ ghost use Rattle.queue.specs.Queue.{Queue};
 ghost use Rattle.queue_waking.specs.QueueWaking.{Near, CallableQueued, WokenQueued, Leaving};
 
 use rules::Sides;
+use std::array;
 
 // How far each of the 27 positions lies from the first one: reckoned once for all examinations.
 pub fn offsets_near(a: usize, l: usize) -> [usize; 27]
     requires { (a ≤ 64) × (l ≤ 4096) }
     ensures { Near a l result }
 {
-    let mut near = [0usize; 27];
-    let mut p: usize = 0;
-    while p < 27 {
-        near[p] = waking::offset(a, l, p);
-        p += 1;
-    }
-    near
+    array::from_fn(|p| waking::offset(a, l, p))
 }
 
 fn wake_one(
@@ -41,10 +36,11 @@ fn wake_one(
     ensures { WokenQueued (Only (may_go (marked marks.now) dist.now) j) (marked marks.now) dist.now status.old
         status.new offsets.new tree.new front.new result }
 {
-    if !waking::may_go(dist, marks, j) {
-        return head;
+    if waking::may_go(dist, marks, j) {
+        entering::enter(dist, marks, status, offsets, tree, front, head, j)
+    } else {
+        head
     }
-    entering::enter(dist, marks, status, offsets, tree, front, head, j)
 }
 
 // Wakes the voxels at the positions of the set bits, from voxel at on. Rows are a long, layers l, which the contract alone asks.
@@ -68,6 +64,7 @@ fn wake(
 {
     let mut first = head;
     let mut m = idle;
+    // each turn takes the lowest bit
     while 0 < m {
         let p = bits::lowest(m) / 2;
         first = wake_one(
@@ -80,7 +77,7 @@ fn wake(
             first,
             at + near[p],
         );
-        m = m & (m - 1);
+        m &= m - 1;
     }
     first
 }

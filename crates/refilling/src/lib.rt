@@ -5,11 +5,8 @@ ghost use Rattle.std.specs.Prelude.{◌<◌, get_or};
 ghost use Rattle.rules.specs.Marks.{marked};
 ghost use Rattle.queue.specs.Queue.{Queue, Emptied, Filled};
 
-// How many voxels make a stretch.
-const WIDTH: usize = 64;
-
-// How many places are free before the first key of a new front.
-const LEAD: usize = 48;
+use front::LEAD;
+use keys::WIDTH;
 
 // The keys of the root's rank and stretch leave the index for the front, which is empty.
 fn refill(
@@ -27,7 +24,9 @@ fn refill(
 {
     let root = tree[1];
     let k = queue::voxel(dist, root) / WIDTH;
-    let w = front::part(dist, marks, status, front, k, (root - 1) / 64 * 64);
+    let width = WIDTH as u64;
+    let floor = (root - 1) / width * width;
+    let w = front::part(dist, marks, status, front, k, floor);
     pending::refresh(dist, marks, offsets, tree, k, w);
     LEAD
 }
@@ -46,11 +45,9 @@ pub fn filled(
     ensures { Filled (marked marks.now) dist.now status.now offsets.new tree.new
         front.new result }
 {
-    if front[head] != 0 {
-        return head;
+    if front[head] != 0 || tree[1] == 0 {
+        head
+    } else {
+        refill(dist, marks, status, offsets, tree, front, head)
     }
-    if tree[1] == 0 {
-        return head;
-    }
-    refill(dist, marks, status, offsets, tree, front, head)
 }

@@ -10,13 +10,16 @@ use Rattle.cells.specs.Cells.{bit}
 use Rattle.rules.specs.declared.Sides.{Sides}
 use Rattle.rules.specs.declared.Record.{Record}
 use Rattle.rules.specs.Fill.{filled}
-use Rattle.rules.specs.Answer.{Reply, refused, done, Buffers, Carving, Removal, Opening}
+use Rattle.rules.specs.declared.Carving.{Carving}
+use Rattle.rules.specs.declared.Opening.{Opening}
+use Rattle.rules.specs.Answer.{Reply, refused, done, Buffers, Removal}
 use Rattle.rules.specs.Begin.{inside, in_box, begin}
 use Rattle.rules.specs.Machine.{State, state, record_after, carve, take, open_next, finish}
 use Rattle.rules.specs.Demand.{Call, carve_up_to, take_at, open_one, finish_it, call, run, Demand}
 use Rattle.rules.proofs.Demand.{demand-is-met}
 use Rattle.coarse.specs.Blocks.{split_body}
-use Rattle.coarse.specs.Coarse.{CoarseStart, begin_coarse}
+use Rattle.coarse.specs.declared.CoarseStart.{CoarseStart}
+use Rattle.coarse.specs.Coarse.{begin_coarse}
 use Rattle.coarse.specs.Promises.{coarse_state}
 use Rattle.coarse.proofs.Promises.{coarse-demand-is-met}
 use Rattle.replies.specs.declared.CRecord.{CRecord}

@@ -9,7 +9,8 @@ use Rattle.rules.specs.Begin.{inside, in_box, begin}
 use Rattle.rules.specs.Machine.{State, state, carve, take, open_next, finish}
 use Rattle.rules.specs.Demand.{Call, carve_up_to, take_at, open_one, finish_it, run, Demand}
 use Rattle.coarse.specs.Blocks.{split_body}
-use Rattle.coarse.specs.Coarse.{FourBuffers, CoarseStart, begin_coarse}
+use Rattle.coarse.specs.declared.CoarseStart.{CoarseStart}
+use Rattle.coarse.specs.Coarse.{FourBuffers, begin_coarse}
 use Rattle.replies.specs.declared.CRecord.{CRecord}
 use Rattle.replies.specs.Structs.{record_in, record_out, begin_struct, begin_coarse_struct, carve_struct, take_struct, open_struct, finish_struct}
 

@@ -2,8 +2,10 @@
 use Rattle.std.specs.Prelude.{false, not, eqb, pos}
 use Rattle.cells.specs.Cells.{bit}
 use Rattle.rules.specs.declared.Record.{Record}
-use Rattle.rules.specs.Answer.{Reply, refused, done, Carving, Removal, Opening}
-use Rattle.coarse.specs.Coarse.{CoarseStart}
+use Rattle.rules.specs.declared.Carving.{Carving}
+use Rattle.rules.specs.declared.Opening.{Opening}
+use Rattle.rules.specs.Answer.{Reply, refused, done, Removal}
+use Rattle.coarse.specs.declared.CoarseStart.{CoarseStart}
 use Rattle.replies.specs.declared.CRecord.{CRecord}
 use Rattle.replies.specs.declared.BeginAnswer.{BeginAnswer}
 use Rattle.replies.specs.declared.BeginCoarseAnswer.{BeginCoarseAnswer}

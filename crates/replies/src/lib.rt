@@ -2,13 +2,12 @@
 #![tactic(auto)]
 
 ghost use Rattle.std.specs.Prelude.{◌≡◌};
-ghost use Rattle.cells.specs.Cells.{bit};
-ghost use Rattle.coarse.specs.Coarse.{coarse_answer};
-ghost use Rattle.rules.specs.Answer.{begun_answer, carved_answer, taken_answer, opened_answer, finished_answer};
+ghost use Rattle.rules.specs.Answer.{taken_answer};
+ghost use Rattle.rules.specs.Refusals.{replied};
 ghost use Rattle.replies.specs.Structs.{record_in, record_out, no_record, begin_struct, begin_coarse_struct, carve_struct, take_struct, open_struct, finish_struct};
 
-use coarse::CoarseBegun;
-use rules::{Begun, Carved, Finished, Opened, Record, Sides, Taken};
+use coarse::CoarseStart;
+use rules::{Carving, Opening, Record, Refusal, Sides, Taken};
 
 // The record as C holds it: a bool of C's is a byte that may hold anything, so any byte but 0 is finished.
 #[repr(C)]
@@ -23,39 +22,35 @@ pub struct CRecord {
     pub finished: u8,
 }
 
-pub fn record_in(c: CRecord) -> Record
-    ensures { result ≡ record_in c }
-{
-    let s = c.sides;
-    Record {
-        sides: s,
-        allowed: c.allowed,
-        openings: c.openings,
-        removals: c.removals,
-        examinations: c.examinations,
-        euler: c.euler,
-        finished: !(c.finished == 0),
+impl From<CRecord> for Record {
+    ghost from_gives = { λ c r. r ≡ record_in c };
+
+    fn from(c: CRecord) -> Record {
+        Record {
+            sides: c.sides,
+            allowed: c.allowed,
+            openings: c.openings,
+            removals: c.removals,
+            examinations: c.examinations,
+            euler: c.euler,
+            finished: c.finished != 0,
+        }
     }
 }
 
-fn byte(t: bool) -> u8
-    ensures { result ≡ bit t }
-{
-    if t { 1 } else { 0 }
-}
+impl From<Record> for CRecord {
+    ghost from_gives = { λ r c. c ≡ record_out r };
 
-pub fn record_out(r: Record) -> CRecord
-    ensures { result ≡ record_out r }
-{
-    let s = r.sides;
-    CRecord {
-        sides: s,
-        allowed: r.allowed,
-        openings: r.openings,
-        removals: r.removals,
-        examinations: r.examinations,
-        euler: r.euler,
-        finished: byte(r.finished),
+    fn from(r: Record) -> CRecord {
+        CRecord {
+            sides: r.sides,
+            allowed: r.allowed,
+            openings: r.openings,
+            removals: r.removals,
+            examinations: r.examinations,
+            euler: r.euler,
+            finished: u8::from(r.finished),
+        }
     }
 }
 
@@ -83,18 +78,20 @@ pub struct BeginAnswer {
     pub next: CRecord,
 }
 
-pub fn begin_answer(b: Begun) -> BeginAnswer
-    ensures { result ≡ begin_struct (begun_answer b) }
-{
-    match b {
-        Begun::Ready(next) => BeginAnswer {
-            refusal: 0,
-            next: record_out(next),
-        },
-        Begun::Refused(refusal) => BeginAnswer {
-            refusal,
-            next: no_record(),
-        },
+impl From<Result<Record, Refusal>> for BeginAnswer {
+    ghost from_gives = { λ b answer. answer ≡ begin_struct (replied b) };
+
+    fn from(b: Result<Record, Refusal>) -> BeginAnswer {
+        match b {
+            Ok(next) => BeginAnswer {
+                refusal: 0,
+                next: CRecord::from(next),
+            },
+            Err(refusal) => BeginAnswer {
+                refusal: u8::from(refusal),
+                next: no_record(),
+            },
+        }
     }
 }
 
@@ -108,24 +105,26 @@ pub struct BeginCoarseAnswer {
     pub next: CRecord,
 }
 
-pub fn begin_coarse_answer(b: CoarseBegun) -> BeginCoarseAnswer
-    ensures { result ≡ begin_coarse_struct (coarse_answer b) }
-{
-    match b {
-        CoarseBegun::Ready { next, examined } => BeginCoarseAnswer {
-            refusal: 0,
-            examined,
-            next: record_out(next),
-        },
-        CoarseBegun::Refused(refusal) => BeginCoarseAnswer {
-            refusal,
-            examined: 0,
-            next: no_record(),
-        },
+impl From<Result<CoarseStart, Refusal>> for BeginCoarseAnswer {
+    ghost from_gives = { λ b answer. answer ≡ begin_coarse_struct (replied b) };
+
+    fn from(b: Result<CoarseStart, Refusal>) -> BeginCoarseAnswer {
+        match b {
+            Ok(start) => BeginCoarseAnswer {
+                refusal: 0,
+                examined: start.examined,
+                next: CRecord::from(start.next),
+            },
+            Err(refusal) => BeginCoarseAnswer {
+                refusal: u8::from(refusal),
+                examined: 0,
+                next: no_record(),
+            },
+        }
     }
 }
 
-// ---- carve, take, open, finish: after a refusal `next` is the record given
+// ---- carve, take, open, finish: after a refusal `next` is the record given, so that each is made of two values, and by no `From`
 
 #[repr(C)]
 #[derive(Clone, Copy)]
@@ -166,26 +165,20 @@ pub struct FinishAnswer {
     pub next: CRecord,
 }
 
-pub fn carve_answer(given: CRecord, a: Carved) -> CarveAnswer
-    ensures { result ≡ carve_struct given (carved_answer a) }
+pub fn carve_answer(given: CRecord, carved: Result<Carving, Refusal>) -> CarveAnswer
+    ensures { result ≡ carve_struct given (replied carved) }
 {
-    match a {
-        Carved::Done {
-            examined,
-            removed,
-            pending,
-            face,
-            next,
-        } => CarveAnswer {
+    match carved {
+        Ok(carving) => CarveAnswer {
             refusal: 0,
-            examined,
-            removed,
-            pending,
-            face,
-            next: record_out(next),
+            examined: carving.examined,
+            removed: carving.removed,
+            pending: carving.pending,
+            face: carving.face,
+            next: CRecord::from(carving.next),
         },
-        Carved::Refused(refusal) => CarveAnswer {
-            refusal,
+        Err(refusal) => CarveAnswer {
+            refusal: u8::from(refusal),
             examined: 0,
             removed: 0,
             pending: false,
@@ -204,7 +197,7 @@ pub fn take_answer(given: CRecord, t: Taken) -> TakeAnswer
             k,
             m,
             face,
-            next: record_out(next),
+            next: CRecord::from(next),
         },
         Taken::Refused(refusal) => TakeAnswer {
             refusal,
@@ -216,26 +209,20 @@ pub fn take_answer(given: CRecord, t: Taken) -> TakeAnswer
     }
 }
 
-pub fn open_answer(given: CRecord, o: Opened) -> OpenAnswer
-    ensures { result ≡ open_struct given (opened_answer o) }
+pub fn open_answer(given: CRecord, opened: Result<Opening, Refusal>) -> OpenAnswer
+    ensures { result ≡ open_struct given (replied opened) }
 {
-    match o {
-        Opened::Through {
-            index,
-            k,
-            m,
-            face,
-            next,
-        } => OpenAnswer {
+    match opened {
+        Ok(opening) => OpenAnswer {
             refusal: 0,
-            index,
-            k,
-            m,
-            face,
-            next: record_out(next),
+            index: opening.index,
+            k: opening.k,
+            m: opening.m,
+            face: opening.face,
+            next: CRecord::from(opening.next),
         },
-        Opened::Refused(refusal) => OpenAnswer {
-            refusal,
+        Err(refusal) => OpenAnswer {
+            refusal: u8::from(refusal),
             index: 0,
             k: 0,
             m: 0,
@@ -245,16 +232,16 @@ pub fn open_answer(given: CRecord, o: Opened) -> OpenAnswer
     }
 }
 
-pub fn finish_answer(given: CRecord, f: Finished) -> FinishAnswer
-    ensures { result ≡ finish_struct given (finished_answer f) }
+pub fn finish_answer(given: CRecord, finished: Result<Record, Refusal>) -> FinishAnswer
+    ensures { result ≡ finish_struct given (replied finished) }
 {
-    match f {
-        Finished::Closed(next) => FinishAnswer {
+    match finished {
+        Ok(next) => FinishAnswer {
             refusal: 0,
-            next: record_out(next),
+            next: CRecord::from(next),
         },
-        Finished::Refused(refusal) => FinishAnswer {
-            refusal,
+        Err(refusal) => FinishAnswer {
+            refusal: u8::from(refusal),
             next: given,
         },
     }

@@ -1,6 +1,6 @@
--- The loop of rounds: what is still to be done gives the final state.
-use mathlib.Core.Path.{◌≡◌, refl, ap, sym, ◌∙◌, subst}
-use mathlib.Core.Bool.{Bool, true, false, cond, true≢false}
+-- The loop of rounds: from a state just carved, what is still to be done gives the final state.
+use mathlib.Core.Path.{◌≡◌, refl, ap, sym, ◌∙◌}
+use mathlib.Core.Bool.{Bool, true, false}
 use mathlib.Core.List.{List}
 use Prim.Native.Nat.{ℕ, suc, ◌-◌, ◌<◌}
 use native.Mathlib.Omega.{arith}
@@ -8,54 +8,73 @@ use lib.IntN.{ℤ}
 use Rattle.rules.specs.declared.Record.{Record}
 use Rattle.rules.specs.Machine.{State, state}
 use Rattle.program.specs.Program.{after_carve, after_open, opens, carve_and_open, rounds_left}
-use Rattle.program.proofs.Rounds.{open-refused, round, round-used}
+use Rattle.program.proofs.Rounds.{carve-same, open-refused, open_done, after_round, round}
 
-abbrev go_on : List ℕ → Bool → State → State
-go_on marks true g = carve_and_open marks (rounds_left g.rec) g
-go_on marks false g = g
+-- the openings that are left
+abbrev pub left : Record → ℕ
+left r = r.allowed - r.openings
 
--- the rounds that are left
-abbrev pub left : Bool → Record → ℕ
-left t r = cond t (rounds_left r) 0
+-- open, and the rounds that follow it
+abbrev onwards : List ℕ → State → State
+onwards marks h = after_round marks (opens marks h) (left h.rec) h
 
-going_on :
-    (marks : List ℕ) (final g : State) (t : Bool)
-    → carve_and_open marks (rounds_left g.rec) g ≡ final
-    → opens marks (after_carve marks g) ≡ t
-    → let k = after_open marks (after_carve marks g) in (go_on marks t k ≡ final) × (left t k.rec < rounds_left g.rec)
-going_on marks final g true r e =
-    let k = after_open marks (after_carve marks g) in
-    let q = round-used marks g e in
-    (sym (ap (λ (n : ℕ). carve_and_open marks n g) q ∙ round marks (rounds_left k.rec) g true e) ∙ r, omega (arith, q))
-going_on marks final g false r e =
-    let q : rounds_left g.rec ≡ suc (g.rec.allowed - g.rec.openings) = omega arith in
-    (open-refused marks (after_carve marks g) e ∙ sym (ap (λ (n : ℕ). carve_and_open marks n g) q ∙ round marks _ g false e) ∙ r, omega arith)
+from-carve : (marks : List ℕ) (g : State) → onwards marks (after_carve marks g) ≡ carve_and_open marks (rounds_left g.rec) g
+from-carve marks g =
+    let h = after_carve marks g in
+    let s = carve-same marks g in
+    let q : rounds_left g.rec ≡ suc (left h.rec) = omega (arith, s.allowed, s.openings) in
+    sym (ap (λ (n : ℕ). carve_and_open marks n g) q ∙ round marks (left h.rec) g (opens marks h) refl)
 
-pub record Going (marks : List ℕ) (final : State) (opening : Bool) (now : Record) (dist : List ℤ) (status : List ℕ) : Type 0 where
-  pub rest : go_on marks opening (state now dist status) ≡ final
+pub record Going (marks : List ℕ) (final : State) (carved : Record) (dist : List ℤ) (status : List ℕ) : Type 0 where
+  pub rest : onwards marks (state carved dist status) ≡ final
 
-pub going_start :
-    (marks : List ℕ) (given : Record) (dist : List ℤ) (status : List ℕ)
-    → Going marks (carve_and_open marks (rounds_left given) (state given dist status)) true given dist status
-going_start marks given dist status = record { rest = refl }
+module _ (marks : List ℕ) (dist : List ℤ) where
+  pub going_start :
+      (given carved : Record) (status new : List ℕ)
+      → state carved dist new ≡ after_carve marks (state given dist status)
+      → Going marks (carve_and_open marks (rounds_left given) (state given dist status)) carved dist new
+  going_start given carved status new e = record { rest = ap (onwards marks) e ∙ from-carve marks (state given dist status) }
 
-module _ (marks : List ℕ) (final : State) (given : Record) (dist : List ℤ) (status : List ℕ) where
-  pub going_next :
-      (carved next : Record) (between new : List ℕ) (opening t : Bool)
-      → opening ≡ true
-      → Going marks final opening given dist status
-      → state carved dist between ≡ after_carve marks (state given dist status)
-      → state next dist new ≡ after_open marks (state carved dist between)
-      → t ≡ opens marks (state carved dist between)
-      → (Going marks final t next dist new) × (left t next < left opening given)
-  going_next carved next between new true t h g e f o =
-      let x =
-      subst (λ (h : State). (go_on marks t h ≡ final) × (left t h.rec < rounds_left given)) (sym (f ∙ ap (after_open marks) e))
-      (going_on marks final (state given dist status) t g.rest (sym (o ∙ ap (opens marks) e)))
-      in
-      (record { rest = x.0 }, x.1)
-  going_next carved next between new false t h g e f o = absurd (true≢false (sym h))
+  module _ (final : State) (carved : Record) (status : List ℕ) (g : Going marks final carved dist status) where
+    abbrev now : State
+    now = state carved dist status
 
-  pub going_done : (opening : Bool) → opening ≡ false → Going marks final opening given dist status → state given dist status ≡ final
-  going_done true h g = absurd (true≢false h)
-  going_done false h g = g.rest
+    pub going_next :
+        (next again : Record) (between new : List ℕ)
+        → true ≡ opens marks now
+        → state next dist between ≡ after_open marks now
+        → state again dist new ≡ after_carve marks (state next dist between)
+        → (Going marks final again dist new) × (left again < left carved)
+    going_next next again between new o e f =
+        let opened = open_done marks now (sym o) in
+        let same = carve-same marks (state next dist between) in
+        let q : rounds_left (after_open marks now).rec ≡ left carved = omega (arith, opened.openings, opened.allowed, opened.left) in (
+          record {
+            rest =
+                ap (onwards marks) f ∙ from-carve marks (state next dist between)
+                ∙ ap (λ (h : State). carve_and_open marks (rounds_left h.rec) h) e
+                ∙ ap (λ (n : ℕ). carve_and_open marks n (after_open marks now)) q
+                ∙ ap (λ (t : Bool). after_round marks t (left carved) now) o
+                ∙ g.rest;
+          },
+          omega (
+            arith,
+            ap (λ (h : State). h.rec.openings) f,
+            ap (λ (h : State). h.rec.allowed) f,
+            same.openings,
+            same.allowed,
+            ap (λ (h : State). h.rec.openings) e,
+            ap (λ (h : State). h.rec.allowed) e,
+            opened.openings,
+            opened.allowed,
+            opened.left,
+          ),
+        )
+
+    pub going_done :
+        (new : List ℕ)
+        → false ≡ opens marks now
+        → state carved dist new ≡ after_open marks now
+        → state carved dist new ≡ final
+    going_done new o e =
+        e ∙ open-refused marks now (sym o) ∙ ap (λ (t : Bool). after_round marks t (left carved) now) o ∙ g.rest

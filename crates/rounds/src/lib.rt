@@ -7,19 +7,17 @@ ghost use Rattle.rules.specs.Grid.{size};
 ghost use Rattle.rules.specs.Status.{is_kept};
 ghost use Rattle.rules.specs.Machine.{state};
 ghost use Rattle.text.specs.Written.{printed};
-ghost use Rattle.program.specs.Program.{after_carve, after_open, after_finish, opens, all_rounds, carved_to_end};
+ghost use Rattle.program.specs.Program.{after_carve, after_finish, all_rounds, carved_to_end};
 
-use rules::{Carved, Finished, Opened, Record};
+use rules::Record;
 use text::{Summary, Text};
 
 fn kept_voxels(status: &[u8]) -> u64
     ensures { result ≡ length (filter (is_kept status.now) (range 0 (length status.now))) }
 {
     let mut kept = 0;
-    let mut i = 0;
-    while i < status.len() {
-        kept += status::kept_bit(status[i]);
-        i += 1;
+    for s in status {
+        kept += status::kept_bit(*s);
     }
     kept
 }
@@ -30,65 +28,29 @@ fn carve_on(given: Record, dist: &[i32], marks: &[u8], status: &mut [u8]) -> Rec
         ≡ after_carve marks.now (state given dist.now status.old) }
 {
     match carving::carve(given, dist, marks, status, 4294967295) {
-        Carved::Done {
-            examined: _,
-            removed: _,
-            pending: _,
-            face: _,
-            next,
-        } => next,
-        Carved::Refused(_) => given,
+        Ok(carving) => carving.next,
+        Err(_) => given,
     }
 }
 
-#[derive(Clone, Copy)]
-struct Opening {
-    opened: bool,
-    next: Record,
-}
-
-fn open_on(given: Record, dist: &[i32], marks: &[u8], status: &mut [u8]) -> Opening
-    ensures state { state result.next dist.now status.new
-        ≡ after_open marks.now (state given dist.now status.old) }
-    ensures opened { result.opened ≡ opens marks.now (state given dist.now status.old) }
-{
-    match opening::open_next(given, dist, marks, status) {
-        Opened::Through {
-            index: _,
-            k: _,
-            m: _,
-            face: _,
-            next,
-        } => Opening { opened: true, next },
-        Opened::Refused(_) => Opening {
-            opened: false,
-            next: given,
-        },
-    }
-}
-
-// Carves and opens in turn until open refuses.
+// Carves, and opens and carves in turn until open refuses.
 fn carve_and_open(given: Record, dist: &[i32], marks: &[u8], status: &mut [u8]) -> Record
     ensures { state result dist.now status.new
         ≡ all_rounds marks.now (state given dist.now status.old) }
 {
-    let mut current = given;
-    let mut opened = true;
-    while opened {
-        let carved = carve_on(current, dist, marks, status);
-        let o = open_on(carved, dist, marks, status);
-        opened = o.opened;
-        current = o.next;
+    let mut carved = carve_on(given, dist, marks, status);
+    while let Ok(opening) = opening::open_next(carved, dist, marks, status) {
+        carved = carve_on(opening.next, dist, marks, status);
     }
-    current
+    carved
 }
 
 fn finish_on(given: Record, dist: &mut [i32], status: &[u8]) -> Record
     ensures { state result dist.new status.now ≡ after_finish (state given dist.old status.now) }
 {
     match closing::finish(given, dist, status) {
-        Finished::Closed(next) => next,
-        Finished::Refused(_) => given,
+        Ok(next) => next,
+        Err(_) => given,
     }
 }
 

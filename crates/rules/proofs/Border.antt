@@ -4,7 +4,7 @@ use mathlib.Core.Path.{◌≡◌, ap, ap₂, sym, ◌∙◌, subst}
 use mathlib.Core.Logic.{inl, inr}
 use mathlib.Core.Bool.{Bool, true, false, not, ◌&&◌, ◌||◌}
 use mathlib.Core.List.{List}
-use mathlib.Core.Option.{none}
+use Rattle.std.specs.Prelude.{None}
 use Prim.Native.Nat.{ℕ, zero, suc, ◌<◌}
 use native.Mathlib.Omega.{arith}
 use lib.Dec.{ltb}
@@ -65,7 +65,7 @@ module _ (S held : ℕ → Bool) (total : ℕ) (g : State) (good : Good S held t
 
   -- ---- with no voxel to open, where each kept voxel that is not solid may go
 
-  module _ (free solid : ℕ → Bool) (none_left : to_open free g ≡ none) (may : (v : ℕ) → kept v ≡ true → solid v ≡ false → free v ≡ true) where
+  module _ (free solid : ℕ → Bool) (none_left : to_open free g ≡ None) (may : (v : ℕ) → kept v ≡ true → solid v ≡ false → free v ≡ true) where
     -- a voxel that is not solid, beside one that is not kept, is not kept: it could be opened
     spreads : (u v : ℕ) → u < size s → kept u ≡ false → share_face s v u ≡ true → solid v ≡ false → kept v ≡ false
     unfolding to_open openable removable
@@ -135,7 +135,7 @@ first-fails p q e f = sym (and_one p) ∙ ap (λ (t : Bool). p && t) (sym e) ∙
 -- ---- no later call takes a voxel: past S and the kept pinned ones none that is kept is open to the border, and a voxel gone later would be
 
 module _ (S : ℕ → Bool) (total : ℕ) (g : State) (good : Good S all_held total g) (fits : fit_sides g.rec.sides ≡ true) (working : g.rec.finished ≡ false)
-    (lent : List ℕ) (none_left : to_open (may_go (marked lent) g.dist) g ≡ none) (more : List Call) (pins : Pins lent g more) where
+    (lent : List ℕ) (none_left : to_open (may_go (marked lent) g.dist) g ≡ None) (more : List Call) (pins : Pins lent g more) where
   abbrev later : State
   later = (run more g).end
 

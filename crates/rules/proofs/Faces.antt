@@ -2,7 +2,7 @@
 use mathlib.Core.Path.{◌≡◌, refl, sym, ap, ◌∙◌, subst}
 use mathlib.Core.Bool.{Bool, true, false, ◌||◌}
 use mathlib.Core.List.{List, [], ◌∷◌}
-use mathlib.Core.Option.{Option, none, some}
+use Rattle.std.specs.Prelude.{Option, None, Some}
 use Prim.Native.Nat.{ℕ, zero, suc, ◌≤◌, ◌<◌}
 use native.Mathlib.Omega.{arith}
 use lib.Dec.{leb}
@@ -17,7 +17,8 @@ use Rattle.rules.specs.declared.Sides.{Sides}
 use Rattle.rules.specs.Grid.{neighbourhood}
 use Rattle.rules.specs.Begin.{exposed}
 use Rattle.rules.specs.Checks.{Check, unless, AllHold}
-use Rattle.rules.specs.Answer.{Reply, refused, done, Outcome, untouched, Buffers, Removal, Opening}
+use Rattle.rules.specs.declared.Opening.{Opening}
+use Rattle.rules.specs.Answer.{Reply, refused, done, Outcome, untouched, Buffers, Removal}
 use Rattle.rules.specs.Status.{Progress, is_kept, is_pending, test_at, first_of, goes, examine, latest, counted, examining, carving, removable}
 use Rattle.rules.specs.Status.{openable as may-open}
 use Rattle.rules.specs.Marks.{marked}
@@ -82,8 +83,8 @@ open-has-face marks g a e =
   where
     chosen : (free : ℕ → Bool) (o : Option ℕ) → to_open free g ≡ o → is_none o ≡ false
         → let s = g.rec.sides in ComesOut s g.status (the_voxel o) (test_at s g.status (the_voxel o)).face
-    chosen free none q n = not-both true refl n
-    chosen free (some i) q n =
+    chosen free None q n = not-both true refl n
+    chosen free (Some i) q n =
         unfold to_open may-open in
         let s = g.rec.sides in
         let f = first-foremost s (farther g.dist) (farther-order g.dist) (may-open s free g.status) i q in
@@ -111,8 +112,8 @@ module _ (s : Sides) (free : ℕ → Bool) (ahead : ℕ → ℕ → Bool) where
 
       faces : Option ℕ → List ℕ
       faces o = elim o [
-        | none ↦ []
-        | some i ↦ cons_if (goes s free status i) (test_at s status i).face (faces_of s free ahead limit (examine s free status i))
+        | None ↦ []
+        | Some i ↦ cons_if (goes s free status i) (test_at s status i).face (faces_of s free ahead limit (examine s free status i))
       ]
 
       out : (i : ℕ) → goes s free status i ≡ true → ComesOut s status i (test_at s status i).face
@@ -130,8 +131,8 @@ module _ (s : Sides) (free : ℕ → Bool) (ahead : ℕ → ℕ → Bool) where
           record { number = f.number; last = carving-face s free ahead limit (examine s free status i) ∙ f.last; each = f.each }
 
       go : (o : Option ℕ) → ((i : ℕ) → Faced (faces_of s free ahead limit (examine s free status i)) (rest i)) → Faced (faces o) (examining s free status rest o)
-      go none f = record { number = refl; last = refl; each = refl }
-      go (some i) f = one i (goes s free status i) refl (faces_of s free ahead limit (examine s free status i)) (f i)
+      go None f = record { number = refl; last = refl; each = refl }
+      go (Some i) f = one i (goes s free status i) refl (faces_of s free ahead limit (examine s free status i)) (f i)
 
 lastly : (n : ℕ) (faces : List ℕ) → any (leb 6) faces ≡ false → 1 ≤ length faces → last_or n faces < 6
 unfolding any

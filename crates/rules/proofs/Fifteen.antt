@@ -3,7 +3,7 @@ use mathlib.Core.Path.{◌≡◌, refl, ap, sym, ◌∙◌, subst}
 use mathlib.Core.Logic.{inl, inr}
 use mathlib.Core.Bool.{Bool, true, false, not, cond, ◌&&◌, ◌||◌}
 use mathlib.Core.List.{List, [], ◌∷◌, ◌++◌}
-use mathlib.Core.Option.{Option, none, some}
+use Rattle.std.specs.Prelude.{Option, None, Some}
 use Prim.Native.Nat.{ℕ, ◌<◌}
 use native.Mathlib.Omega.{arith}
 use lib.Dec.{ltb, eqb}
@@ -16,7 +16,8 @@ use Rattle.prelude.proofs.Bools.{and-true, or-true, or-zero, or-false, not-both,
 use Rattle.rules.specs.declared.Sides.{Sides}
 use Rattle.rules.specs.Grid.{fit_sides, size, touch}
 use Rattle.rules.specs.Checks.{Check, ◌when◌, unless, AllHold}
-use Rattle.rules.specs.Answer.{refused, done, Outcome, outcome, untouched, Buffers, Opening}
+use Rattle.rules.specs.declared.Opening.{Opening}
+use Rattle.rules.specs.Answer.{refused, done, Outcome, outcome, untouched, Buffers}
 use Rattle.rules.specs.Begin.{is_in, inside}
 use Rattle.rules.specs.Status.{is_kept, any_pending}
 use Rattle.rules.specs.Marks.{marked}
@@ -82,7 +83,7 @@ module _ (s : Sides) (T : ℕ) (values : List ℤ) (marks : List ℕ) (start : �
       ]
 
   module _ (lent : List ℕ) (pins : Pins lent begun calls) (working : reached.rec.finished ≡ false)
-      (none_left : to_open (may_go (marked lent) reached.dist) reached ≡ none) where
+      (none_left : to_open (may_go (marked lent) reached.dist) reached ≡ None) where
     abbrev pinned : ℕ → Bool
     pinned = (marked lent).pinned
 
@@ -168,7 +169,7 @@ module _ (lent : List ℕ) (g : State) where
     marking : Marking lent g
     quiet : any_pending g.rec.sides g.status ≡ false
     left : used-up ≡ false
-    none_left : choice ≡ none
+    none_left : choice ≡ None
 
   fifteen-none : (open_next lent g).answer ≡ refused 15 → Fifteen
   unfolding open_next opened any
@@ -183,9 +184,9 @@ module _ (lent : List ℕ) (g : State) where
         none_left = is-none choice r.1;
       }
     where
-      is-none : (o : Option ℕ) → is_none o ≡ true → o ≡ none
-      is-none none e = refl
-      is-none (some i) e = not-both false e refl
+      is-none : (o : Option ℕ) → is_none o ≡ true → o ≡ None
+      is-none None e = refl
+      is-none (Some i) e = not-both false e refl
 
   none-fifteen : Fifteen → (open_next lent g).answer ≡ refused 15
   unfolding open_next unless

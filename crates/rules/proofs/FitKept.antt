@@ -3,7 +3,7 @@ use mathlib.Core.Path.{◌≡◌, refl, ap, sym, ◌∙◌, subst}
 use mathlib.Core.Logic.{inl, inr}
 use mathlib.Core.Bool.{Bool, true, false, not, cond, ◌&&◌}
 use mathlib.Core.List.{List}
-use mathlib.Core.Option.{Option, none, some}
+use Rattle.std.specs.Prelude.{Option, None, Some}
 use Prim.Native.Nat.{ℕ, zero, suc, ◌≤◌, ◌<◌}
 use native.Mathlib.Omega.{arith}
 use native.Mathlib.Decide.{dec_lt, ℕ_discrete}
@@ -208,7 +208,7 @@ module _ (s : Sides) (dist : List ℤ) (free : ℕ → Bool) (inside-stays : (j 
           → ((i : ℕ) → let after = examine s free status i in
           FitVoxels s dist after → FitVoxels s dist (carving s free ahead limit after).status)
           → FitVoxels s dist (next o).status
-      go none e rest = fit
-      go (some i) e rest =
+      go None e rest = fit
+      go (Some i) e rest =
           let first = first-foremost s ahead order (is_pending status) i e in
           rest i (fit-examined s dist status fit i first.below first.chosen free inside-stays)

@@ -3,7 +3,7 @@ use mathlib.Core.Path.{◌≡◌, refl, ap, sym, ◌∙◌, subst}
 use mathlib.Core.Logic.{inl, inr}
 use mathlib.Core.Bool.{Bool, true, false, not, cond, ◌&&◌, ◌||◌, true≢false}
 use mathlib.Core.List.{List, [], ◌∷◌}
-use mathlib.Core.Option.{Option, none, some}
+use Rattle.std.specs.Prelude.{Option, None, Some}
 use Prim.Native.Nat.{ℕ, zero, suc, ◌<◌}
 use native.Mathlib.Omega.{arith}
 use native.Mathlib.Decide.{dec_lt}
@@ -122,28 +122,28 @@ record First (ahead : ℕ → ℕ → Bool) (xs : List ℕ) (i : ℕ) : Type 0 w
   farthest : (j : ℕ) → Mem j xs → ahead j i ≡ false
   earliest : (j : ℕ) → Mem j xs → j < i → ahead i j ≡ true
 
-some_inj : (i j : ℕ) → some i ≡ some j → i ≡ j
+some_inj : (i j : ℕ) → Some i ≡ Some j → i ≡ j
 some_inj i j e = cc
 
-some-none : (i : ℕ) → some i ≡ none → ⊥
+some-none : (i : ℕ) → Some i ≡ None → ⊥
 some-none i e = let z : ◌≡◌ {A = ℕ} 0 1 = cc in omega arith
 
 module _ (ahead : ℕ → ℕ → Bool) where
-  foremost-none : (xs : List ℕ) → foremost ahead xs ≡ none → (i : ℕ) → Mem i xs → ⊥
+  foremost-none : (xs : List ℕ) → foremost ahead xs ≡ None → (i : ℕ) → Mem i xs → ⊥
   unfolding foremost prefer
   foremost-none [] e i m = mem-none m
   foremost-none (x ∷ xs) e i m = go (foremost ahead xs) e
     where
-      pick : (j : ℕ) (t : Bool) → cond t (some j) (some x) ≡ none → ⊥
+      pick : (j : ℕ) (t : Bool) → cond t (Some j) (Some x) ≡ None → ⊥
       pick j true e = some-none j e
       pick j false e = some-none x e
 
-      go : (o : Option ℕ) → prefer ahead x o ≡ none → ⊥
-      go none e = some-none x e
-      go (some j) e = pick j (ahead j x) e
+      go : (o : Option ℕ) → prefer ahead x o ≡ None → ⊥
+      go None e = some-none x e
+      go (Some j) e = pick j (ahead j x) e
 
 module _ (ahead : ℕ → ℕ → Bool) (order : Order ahead) where
-  foremost-first : (xs : List ℕ) → Rising xs → (i : ℕ) → foremost ahead xs ≡ some i → First ahead xs i
+  foremost-first : (xs : List ℕ) → Rising xs → (i : ℕ) → foremost ahead xs ≡ Some i → First ahead xs i
   unfolding foremost prefer
   foremost-first [] r i e = absurd (some-none i (sym e))
   foremost-first (x ∷ xs) r i e = go (foremost ahead xs) refl (λ j q. foremost-first xs r.1 j q) e
@@ -156,7 +156,7 @@ module _ (ahead : ℕ → ℕ → Bool) (order : Order ahead) where
             earliest = λ y m l. (let z : ⊥ = elim (mem-cons m) [ inl q ↦ omega arith | inr n ↦ (let k = r.0 y n in omega arith) ] in absurd z);
           }
 
-      pick : (j : ℕ) (t : Bool) → ahead j x ≡ t → First ahead xs j → cond t (some j) (some x) ≡ some i → First ahead (x ∷ xs) i
+      pick : (j : ℕ) (t : Bool) → ahead j x ≡ t → First ahead xs j → cond t (Some j) (Some x) ≡ Some i → First ahead (x ∷ xs) i
       pick j true f q e =
           subst (λ (k : ℕ). First ahead (x ∷ xs) k) (some_inj j i e)
           (record {
@@ -167,10 +167,10 @@ module _ (ahead : ℕ → ℕ → Bool) (order : Order ahead) where
       pick j false f q e =
           subst (λ (k : ℕ). First ahead (x ∷ xs) k) (some_inj x i e) (alone (λ y m. order.behind y j x (q.farthest y m) f))
 
-      go : (o : Option ℕ) → foremost ahead xs ≡ o → ((j : ℕ) → foremost ahead xs ≡ some j → First ahead xs j)
-          → prefer ahead x o ≡ some i → First ahead (x ∷ xs) i
-      go none f ih e = subst (λ (k : ℕ). First ahead (x ∷ xs) k) (some_inj x i e) (alone (λ y m. absurd (foremost-none ahead xs f y m)))
-      go (some j) f ih e = pick j (ahead j x) refl (ih j f) e
+      go : (o : Option ℕ) → foremost ahead xs ≡ o → ((j : ℕ) → foremost ahead xs ≡ Some j → First ahead xs j)
+          → prefer ahead x o ≡ Some i → First ahead (x ∷ xs) i
+      go None f ih e = subst (λ (k : ℕ). First ahead (x ∷ xs) k) (some_inj x i e) (alone (λ y m. absurd (foremost-none ahead xs f y m)))
+      go (Some j) f ih e = pick j (ahead j x) refl (ih j f) e
 
 -- ---- the first of the voxels
 
@@ -186,12 +186,12 @@ module _ (s : Sides) (ahead : ℕ → ℕ → Bool) (p : ℕ → Bool) where
       let h = range-mem 0 (size s) i r.0 in
       (omega arith, r.1)
 
-  pub first-none : first_of s ahead p ≡ none → (i : ℕ) → i < size s → p i ≡ false
+  pub first-none : first_of s ahead p ≡ None → (i : ℕ) → i < size s → p i ≡ false
   unfolding first_of
   first-none e i h = elim (two (p i)) [ inl t ↦ absurd (foremost-none ahead (filter p (voxels s)) e i (listed i h t)) | inr f ↦ f ]
 
 module _ (s : Sides) (ahead : ℕ → ℕ → Bool) (order : Order ahead) (p : ℕ → Bool) where
-  pub first-foremost : (i : ℕ) → first_of s ahead p ≡ some i → Foremost s ahead p i
+  pub first-foremost : (i : ℕ) → first_of s ahead p ≡ Some i → Foremost s ahead p i
   unfolding first_of voxels
   first-foremost i e =
       let n : ℕ = size s in
@@ -216,24 +216,24 @@ module _ (s : Sides) (ahead : ℕ → ℕ → Bool) (order : Order ahead) (p : �
       go (no h) (yes l) = absurd (never j i k f l)
       go (no h) (no l) = omega arith
 
-  pub none_first : ((i : ℕ) → i < size s → p i ≡ false) → first_of s ahead p ≡ none
+  pub none_first : ((i : ℕ) → i < size s → p i ≡ false) → first_of s ahead p ≡ None
   none_first h = go (first_of s ahead p) refl
     where
-      go : (o : Option ℕ) → first_of s ahead p ≡ o → o ≡ none
-      go none e = refl
-      go (some i) e = let f = first-foremost i e in not-both (p i) f.chosen (h i f.below)
+      go : (o : Option ℕ) → first_of s ahead p ≡ o → o ≡ None
+      go None e = refl
+      go (Some i) e = let f = first-foremost i e in not-both (p i) f.chosen (h i f.below)
 
-  pub foremost-first-of : (i : ℕ) → Foremost s ahead p i → first_of s ahead p ≡ some i
+  pub foremost-first-of : (i : ℕ) → Foremost s ahead p i → first_of s ahead p ≡ Some i
   foremost-first-of i f = go (first_of s ahead p) refl
     where
-      go : (o : Option ℕ) → first_of s ahead p ≡ o → o ≡ some i
-      go none e = not-both (p i) f.chosen (first-none s ahead p e i f.below)
-      go (some j) e = ap some (foremost-unique j i (first-foremost j e) f)
+      go : (o : Option ℕ) → first_of s ahead p ≡ o → o ≡ Some i
+      go None e = not-both (p i) f.chosen (first-none s ahead p e i f.below)
+      go (Some j) e = ap Some (foremost-unique j i (first-foremost j e) f)
 
 pub first-is-foremost : FirstIsForemost
 first-is-foremost s ahead order p i = (first-foremost s ahead order p i, foremost-first-of s ahead order p i)
 
-none-first-any : (s : Sides) (ahead : ℕ → ℕ → Bool) (p : ℕ → Bool) → ((i : ℕ) → i < size s → p i ≡ false) → first_of s ahead p ≡ none
+none-first-any : (s : Sides) (ahead : ℕ → ℕ → Bool) (p : ℕ → Bool) → ((i : ℕ) → i < size s → p i ≡ false) → first_of s ahead p ≡ None
 unfolding first_of
 none-first-any s ahead p h = ap (foremost ahead) (nothing (filter p (voxels s)) unlisted) ∙ unfold foremost in refl
   where

@@ -2,7 +2,7 @@
 use mathlib.Core.Path.{◌≡◌, refl, ap}
 use mathlib.Core.Bool.{Bool, true, false}
 use mathlib.Core.List.{List}
-use mathlib.Core.Option.{Option, none, some}
+use Rattle.std.specs.Prelude.{Option, None, Some}
 use Prim.Native.Nat.{ℕ, zero, suc, ◌+◌}
 use native.Mathlib.Omega.{arith}
 use Rattle.rules.specs.declared.Sides.{Sides}
@@ -41,5 +41,5 @@ module _ (s : Sides) (free : ℕ → Bool) (ahead : ℕ → ℕ → Bool) where
       next o = examining s free status (λ i. carving s free ahead limit (examine s free status i)) o
 
       go : (o : Option ℕ) → latest 6 (next o).removed (next o).face ≡ (next o).face
-      go none = refl
-      go (some i) = counted-face (goes s free status i) (test_at s status i).face (carving s free ahead limit (examine s free status i))
+      go None = refl
+      go (Some i) = counted-face (goes s free status i) (test_at s status i).face (carving s free ahead limit (examine s free status i))

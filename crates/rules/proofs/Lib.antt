@@ -1,5 +1,6 @@
 pub mod Checks
 pub mod Answers
+pub mod Refusals
 pub mod Places
 pub mod Rows
 pub mod Foremost

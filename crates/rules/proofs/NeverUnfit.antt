@@ -3,7 +3,7 @@ use mathlib.Core.Path.{◌≡◌, refl, ap, ap₂, sym, ◌∙◌, subst}
 use mathlib.Core.Logic.{inl, inr}
 use mathlib.Core.Bool.{Bool, true, false, not, cond, ◌&&◌, ◌||◌, true≢false}
 use mathlib.Core.List.{List, [], ◌∷◌, map}
-use mathlib.Core.Option.{Option, none, some}
+use Rattle.std.specs.Prelude.{Option, None, Some}
 use Prim.Native.Nat.{ℕ, suc, ◌+◌, ◌*◌, ◌≤◌, ◌<◌}
 use native.Mathlib.Omega.{arith}
 use lib.IntN.{ℤ, pos, nat_abs, ◌+ℤ◌, ◌-ℤ◌, +ℤ_idr}
@@ -18,7 +18,8 @@ use Rattle.prelude.proofs.Ranges.{get_d-map-range, length-map-range, none_below}
 use Rattle.prelude.proofs.Integers.{difference-size, sum-size}
 use Rattle.rules.specs.declared.Sides.{Sides}
 use Rattle.rules.specs.Grid.{size, range, voxel, voxels, on_border, neighbourhood, is_negative, distance_at}
-use Rattle.rules.specs.Answer.{Outcome, Buffers, untouched, Carving}
+use Rattle.rules.specs.declared.Carving.{Carving}
+use Rattle.rules.specs.Answer.{Outcome, Buffers, untouched}
 use Rattle.rules.specs.Begin.{exposed, is_in, inside, greatest_facing, worked_at, worked, waits_first, status_at, start_status, new_record}
 use Rattle.rules.specs.Meaning.{found}
 use Rattle.rules.specs.Status.{status_of, kept_byte, pending_byte, is_kept, is_pending, any_pending, test_at, removable, openable, carving}
@@ -104,8 +105,8 @@ module _ (g : State) (fair : Fair g) where
       free = may_go (marked marks) g.dist
 
       through : Openable marks g → (o : Option ℕ) → to_open free g ≡ o → Fair (after (λ r. r.next) g (opened free (the_voxel o) g))
-      through w none e = absurd (true≢false (ap is_none (sym e) ∙ w.found))
-      through w (some i) e =
+      through w None e = absurd (true≢false (ap is_none (sym e) ∙ w.found))
+      through w (Some i) e =
           unfold opened in
           let first = first-foremost s (farther g.dist) (farther-order g.dist) (openable s free g.status) i (unfold to_open in e) in
           let o = and-true (removable free g.status i) (exposed s (is_kept g.status) i) (unfold openable in first.chosen) in

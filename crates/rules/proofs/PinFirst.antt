@@ -4,7 +4,7 @@ use mathlib.Core.Path.{◌≡◌, refl, ap, ap₂, sym, ◌∙◌, subst, fun_ex
 use mathlib.Core.Logic.{◌⊎◌, inl, inr}
 use mathlib.Core.Bool.{Bool, true, false, not, cond, ◌&&◌, ◌||◌}
 use mathlib.Core.List.{List, [], ◌∷◌, map}
-use mathlib.Core.Option.{Option, none, some}
+use Rattle.std.specs.Prelude.{Option, None, Some}
 use Prim.Native.Nat.{ℕ, zero, suc, ◌+◌, ◌*◌, ◌≤◌, ◌<◌}
 use native.Mathlib.Omega.{arith}
 use lib.Dec.{eqb}
@@ -19,7 +19,8 @@ use Rattle.rules.specs.declared.Sides.{Sides}
 use Rattle.rules.specs.declared.Record.{Record}
 use Rattle.rules.specs.Grid.{size, voxels, touch, neighbourhood, is_in}
 use Rattle.rules.specs.Checks.{AllHold}
-use Rattle.rules.specs.Answer.{done, Outcome, untouched, Buffers, buffers, Carving}
+use Rattle.rules.specs.declared.Carving.{Carving}
+use Rattle.rules.specs.Answer.{done, Outcome, untouched, Buffers, buffers}
 use Rattle.rules.specs.Marks.{Marked, mark_of, pinned_mark, hurried_mark, marked, stray_mark}
 use Rattle.rules.specs.Fill.{filled}
 use Rattle.rules.specs.Begin.{inside, in_box, exposed, waits_first, worked, start_status, new_record, begin_checks, begun_on, begun, begin}
@@ -152,7 +153,7 @@ module _ (s : Sides) (dist : List ℤ) (m : Marked) where
 
     -- the voxel that comes first is first in both, unless it is pinned
     same-choice : (i : ℕ) → Foremost s (sooner m dist) (is_pending status) i → m.pinned i ≡ false
-        → first_of s (sooner (pin_first m) dist) (is_pending status') ≡ some i
+        → first_of s (sooner (pin_first m) dist) (is_pending status') ≡ Some i
     same-choice i f q =
         (first-is-foremost s (sooner (pin_first m) dist) (sooner-order (pin_first m) dist) (is_pending status') i).1 (
         record {
@@ -259,8 +260,8 @@ module _ (s : Sides) (dist : List ℤ) (m : Marked) where
           → any_pending s (next s free (sooner m dist) limit status o).status ≡ false
           → ((x x' : List ℕ) → Like x x' → any_pending s (ran m limit x) ≡ false → Ended (is_kept (ran m limit x)) x')
           → Ended (is_kept (next s free (sooner m dist) limit status o).status) status'
-      go none c e rest = record { limit = 0; quiet = quiet-too status status' like e; same = like.kept }
-      go (some i) c e rest = pick (two (m.pinned i))
+      go None c e rest = record { limit = 0; quiet = quiet-too status status' like e; same = like.kept }
+      go (Some i) c e rest = pick (two (m.pinned i))
         where
           f : Foremost s (sooner m dist) (is_pending status) i
           f = first-foremost s (sooner m dist) (sooner-order m dist) (is_pending status) i c

@@ -2,7 +2,7 @@
 use mathlib.Core.Path.{◌≡◌, refl, ap, ap₂, sym, ◌∙◌}
 use mathlib.Core.Bool.{Bool, true, false, not, ◌&&◌, true≢false}
 use mathlib.Core.List.{List, [], ◌∷◌}
-use mathlib.Core.Option.{Option, none, some}
+use Rattle.std.specs.Prelude.{Option, None, Some}
 use Prim.Native.Nat.{ℕ, zero, suc, ◌<◌}
 use lib.Dec.{eqb}
 use lib.ListN.{length, set}
@@ -75,8 +75,8 @@ module _ (s : Sides) (free : ℕ → Bool) (j : ℕ) (before : Bool) (stays : be
       go : (o : Option ℕ) → first_of s ahead (is_pending status) ≡ o
           → ((i : ℕ) → let after = examine s free status i in Still s j before after → Still s j before (carving s free ahead limit after).status)
           → Still s j before (next o).status
-      go none e rest = k
-      go (some i) e rest =
+      go None e rest = k
+      go (Some i) e rest =
           let first = first-foremost s ahead order (is_pending status) i e in
           rest i (still-examined status i first.below first.chosen k)
 
@@ -124,8 +124,8 @@ module _ (j : ℕ) (before : Bool) (g : State) (k : is_kept g.status j ≡ befor
       free = may_go (marked marks) g.dist
 
       through : Pins marks → Openable marks g → (o : Option ℕ) → to_open free g ≡ o → is_kept (opened free (the_voxel o) g).lent.status j ≡ before
-      through p w none e = absurd (true≢false (ap is_none (sym e) ∙ w.found))
-      through p w (some i) e =
+      through p w None e = absurd (true≢false (ap is_none (sym e) ∙ w.found))
+      through p w (Some i) e =
           unfold opened in
           let first = first-foremost s (farther g.dist) (farther-order g.dist) (openable s free g.status) i (unfold to_open in e) in
           let o = and-true (removable free g.status i) (exposed s (is_kept g.status) i) (unfold openable in first.chosen) in

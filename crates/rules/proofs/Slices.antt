@@ -2,7 +2,7 @@
 use mathlib.Core.Path.{◌≡◌, refl, ap, ap₂, sym, ◌∙◌, subst}
 use mathlib.Core.Bool.{Bool, true, false, cond}
 use mathlib.Core.List.{List, [], ◌∷◌, ◌++◌}
-use mathlib.Core.Option.{Option, none, some}
+use Rattle.std.specs.Prelude.{Option, None, Some}
 use Prim.Native.Nat.{ℕ, zero, suc, ◌+◌}
 use native.Mathlib.Omega.{arith}
 use native.Mathlib.Decide.{ℕ_discrete}
@@ -11,7 +11,8 @@ use Rattle.rules.specs.declared.Sides.{Sides}
 use Rattle.rules.specs.declared.Record.{Record}
 use Rattle.rules.specs.Grid.{size}
 use Rattle.rules.specs.Checks.{first_failing, AllHold}
-use Rattle.rules.specs.Answer.{Reply, done, Outcome, outcome, untouched, Buffers, buffers, Carving}
+use Rattle.rules.specs.declared.Carving.{Carving}
+use Rattle.rules.specs.Answer.{Reply, done, Outcome, outcome, untouched, Buffers, buffers}
 use Rattle.rules.specs.Status.{Progress, progress, latest, counted, is_pending, any_pending, test_at, first_of, goes, examine, examining, carving}
 use Rattle.rules.specs.Marks.{marked}
 use Rattle.rules.specs.Machine.{State, state, after, lent_to, may_go, sooner, count, state_checks, marked_checks, carved, carve}
@@ -47,7 +48,7 @@ module _ (s : Sides) (free : ℕ → Bool) (ahead : ℕ → ℕ → Bool) where
       removed true = omega arith
       removed false = refl
 
-  pub quiet : (n : ℕ) (status : List ℕ) → first_of s ahead (is_pending status) ≡ none → carving s free ahead n status ≡ progress 0 0 6 status
+  pub quiet : (n : ℕ) (status : List ℕ) → first_of s ahead (is_pending status) ≡ None → carving s free ahead n status ≡ progress 0 0 6 status
   unfolding carving
   quiet zero status e = refl
   quiet (suc n) status e = ap (next n status) e
@@ -66,8 +67,8 @@ module _ (s : Sides) (free : ℕ → Bool) (ahead : ℕ → ℕ → Bool) where
           → ((i : ℕ) → let first = carving s free ahead m (examine s free status i) in
           carving s free ahead (m + n) (examine s free status i) ≡ in_two first (carving s free ahead n first.status))
           → next (m + n) status o ≡ in_two (next m status o) (carving s free ahead n (next m status o).status)
-      go none e ih = after_none (progress 0 0 6 status) status refl ∙ ap (in_two (progress 0 0 6 status)) (sym (quiet n status e))
-      go (some i) e ih =
+      go None e ih = after_none (progress 0 0 6 status) status refl ∙ ap (in_two (progress 0 0 6 status)) (sym (quiet n status e))
+      go (Some i) e ih =
           let u = goes s free status i in
           let face = (test_at s status i).face in
           let first = carving s free ahead m (examine s free status i) in

@@ -2,7 +2,7 @@
 use mathlib.Core.Path.{◌≡◌, refl, ap, ap₂, ◌∙◌, fun_ext}
 use mathlib.Core.Bool.{Bool, true, false, not, cond, ◌&&◌, ◌||◌}
 use mathlib.Core.List.{List, [], ◌∷◌, ◌++◌}
-use mathlib.Core.Option.{Option, none, some}
+use Rattle.std.specs.Prelude.{Option, None, Some}
 use Prim.Native.Nat.{ℕ, zero, suc}
 use lib.Dec.{ltb, eqb}
 use lib.ListN.{length, replicate, length-replicate}
@@ -16,7 +16,8 @@ use Rattle.rules.specs.declared.Record.{Record}
 use Rattle.rules.specs.Value.{stray}
 use Rattle.rules.specs.Grid.{fit_sides, size, voxels, on_border, measured_negative, value_at}
 use Rattle.rules.specs.Checks.{Check, ◌when◌, unless, AllHold}
-use Rattle.rules.specs.Answer.{done, Outcome, outcome, untouched, Buffers, buffers, Carving}
+use Rattle.rules.specs.declared.Carving.{Carving}
+use Rattle.rules.specs.Answer.{done, Outcome, outcome, untouched, Buffers, buffers}
 use Rattle.rules.specs.Marks.{Marked, mark_of, pinned_mark, hurried_mark, marked, stray_mark, wrong_marks, unmarked, no_marks}
 use Rattle.rules.specs.Begin.{waits_first, status_at, start_status, begun_on, begun, begin}
 use Rattle.rules.specs.Status.{is_pending, any_pending, test_at, first_of, goes, examined_as, examine, Progress, progress, counted, examining, carving}
@@ -114,13 +115,13 @@ module _ (s : Sides) (dist : List ℤ) where
       now o = examining s free status (λ i. carving s free (farther dist) limit (examine s free status i)) o
 
       before : Option ℕ → Progress
-      before o = elim o [ none ↦ progress 0 0 6 status | some i ↦ by i (passed i) ]
+      before o = elim o [ None ↦ progress 0 0 6 status | Some i ↦ by i (passed i) ]
 
       go : (o : Option ℕ) → first_of s (farther dist) (is_pending status) ≡ o
           → ((i : ℕ) → let next = examine s free status i in FitVoxels s dist next → carving s free (farther dist) limit next ≡ carving_before s dist limit next)
           → now o ≡ before o
-      go none e rest = refl
-      go (some i) e rest =
+      go None e rest = refl
+      go (Some i) e rest =
           let first = first-foremost s (farther dist) (farther-order dist) (is_pending status) i e in
           let goes_on : goes s free status i ≡ passed i =
           ap (λ (u : Bool). passed i && u) (pending-outside s dist status fit i first.chosen) ∙ and_one (passed i) in

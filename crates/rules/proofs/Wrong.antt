@@ -2,14 +2,15 @@
 use mathlib.Core.Path.{◌≡◌, refl, ap, sym}
 use mathlib.Core.Bool.{Bool, true, true≢false}
 use mathlib.Core.List.{List, []}
-use mathlib.Core.Option.{some}
+use Rattle.std.specs.Prelude.{Some}
 use Prim.Native.Nat.{ℕ}
 use native.Mathlib.Omega.{arith}
 use lib.Dec.{eqb}
 use lib.ListN.{replicate}
 use lib.IntN.{ℤ, pos, negsuc, nat_abs}
 use Rattle.rules.specs.declared.Record.{Record}
-use Rattle.rules.specs.Answer.{Outcome, Buffers, Carving}
+use Rattle.rules.specs.declared.Carving.{Carving}
+use Rattle.rules.specs.Answer.{Outcome, Buffers}
 use Rattle.rules.specs.Status.{status_of}
 use Rattle.rules.specs.Marks.{marked, unmarked, no_marks}
 use Rattle.rules.specs.PinFirst.{marked_before, begin_by, carve_by}
@@ -101,7 +102,7 @@ wrong-fills =
 -- ---- marks read by another rule
 
 -- another voxel is opened
-opens-another : (i j : ℕ) → (i ≡ j → ⊥) → some i ≡ some j → ⊥
+opens-another : (i j : ℕ) → (i ≡ j → ⊥) → Some i ≡ Some j → ⊥
 opens-another i j f e = f (ap the_voxel e)
 
 -- the bar at rest

@@ -2,7 +2,7 @@
 use mathlib.Core.Path.{◌≡◌, refl, ap, sym}
 use mathlib.Core.Bool.{Bool, true, false, true≢false}
 use mathlib.Core.List.{List, [], ◌∷◌, ◌++◌}
-use mathlib.Core.Option.{some}
+use Rattle.std.specs.Prelude.{Some}
 use Prim.Native.Nat.{ℕ}
 use native.Mathlib.Omega.{arith}
 use lib.Dec.{eqb}
@@ -65,7 +65,7 @@ status-differs : (i : ℕ) (x y : List ℕ) → (status_of x i ≡ status_of y i
 status-differs i x y f e = f (ap (λ (status : List ℕ). status_of status i) e)
 
 -- another voxel comes first
-another : (i j : ℕ) → (i ≡ j → ⊥) → some i ≡ some j → ⊥
+another : (i j : ℕ) → (i ≡ j → ⊥) → Some i ≡ Some j → ⊥
 another i j f e = f (ap the_voxel e)
 
 pub wrong-steps : WrongSteps

@@ -1,11 +1,7 @@
--- What a call answers, in document 01's numbers and values, and what each case of an answer's enum stands for.
+-- What a call answers, in document 01's numbers and values: begin and finish the record, carve a Carving, take a Removal, open an Opening.
 use Rattle.std.specs.Prelude.{◌≡◌, Bool, true, false, List, ℕ, ℤ}
 use Rattle.rules.specs.declared.Record.{Record}
-use Rattle.rules.specs.declared.Begun.{Begun}
-use Rattle.rules.specs.declared.Carved.{Carved}
 use Rattle.rules.specs.declared.Taken.{Taken}
-use Rattle.rules.specs.declared.Opened.{Opened}
-use Rattle.rules.specs.declared.Finished.{Finished}
 
 -- a refusal number, or what was asked for
 pub data Reply (A : Type 0) : Type 0 where
@@ -36,49 +32,16 @@ pub record Buffers : Type 0 where
 abbrev pub buffers : List ℤ → List ℕ → Buffers
 buffers d s = record { dist = d; status = s }
 
--- carve answers examinations and removals made, whether any voxel is pending, and the face of its last removal, or 6; take k, m and the face; open
--- index, k, m and the face; each with the record
-pub record Carving : Type 0 where
-  pub examined : ℕ
-  pub removed : ℕ
-  pub pending : Bool
-  pub face : ℕ
-  pub next : Record
-
+-- take answers k, m and the face, with the record
 pub record Removal : Type 0 where
   pub k : ℕ
   pub m : ℕ
   pub face : ℕ
   pub next : Record
 
-pub record Opening : Type 0 where
-  pub index : ℕ
-  pub k : ℕ
-  pub m : ℕ
-  pub face : ℕ
-  pub next : Record
-
--- ---- the cases of each enum
-
-abbrev pub begun_answer : Begun → Reply Record
-begun_answer (Begun.Ready next) = done next
-begun_answer (Begun.Refused n) = refused n
-
-abbrev pub carved_answer : Carved → Reply Carving
-carved_answer (Carved.Done e r p face next) = done (record { examined = e; removed = r; pending = p; face = face; next = next })
-carved_answer (Carved.Refused n) = refused n
-
 abbrev pub taken_answer : Taken → Reply Removal
 taken_answer (Taken.Gone k m face next) = done (record { k = k; m = m; face = face; next = next })
 taken_answer (Taken.Refused n) = refused n
-
-abbrev pub opened_answer : Opened → Reply Opening
-opened_answer (Opened.Through i k m face next) = done (record { index = i; k = k; m = m; face = face; next = next })
-opened_answer (Opened.Refused n) = refused n
-
-abbrev pub finished_answer : Finished → Reply Record
-finished_answer (Finished.Closed next) = done next
-finished_answer (Finished.Refused n) = refused n
 
 -- ---- a call that is forever refusing, or gives a constant, is none of ours
 

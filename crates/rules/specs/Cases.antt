@@ -6,7 +6,9 @@ use Rattle.rules.specs.declared.Record.{Record}
 use Rattle.rules.specs.Grid.{range, missing, voxel, on_border, gap, distance_at}
 use Rattle.rules.specs.Fill.{filled}
 use Rattle.rules.specs.Marks.{no_marks}
-use Rattle.rules.specs.Answer.{Reply, refused, done, Outcome, Buffers, Carving, Removal, Opening}
+use Rattle.rules.specs.declared.Carving.{Carving}
+use Rattle.rules.specs.declared.Opening.{Opening}
+use Rattle.rules.specs.Answer.{Reply, refused, done, Outcome, Buffers, Removal}
 use Rattle.rules.specs.Begin.{is_in, inside, begin, new_record}
 use Rattle.rules.specs.Status.{status_of, any_pending}
 use Rattle.rules.specs.Machine.{State, state, after, count, as_finished, carve, take, open_next, finish}

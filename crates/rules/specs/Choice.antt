@@ -1,7 +1,6 @@
 -- Document 01, "The carving machine": what it is to come first, for any order; the greatest worked distance is one, and so is the hurried voxels
 -- before all others (document 02, CR 7).
-use Rattle.std.specs.Prelude.{◌≡◌, ◌↔◌, Bool, true, false, List, ℕ, ◌<◌, ℤ}
-use Rattle.std.proofs.Math.Option.{none, some}
+use Rattle.std.specs.Prelude.{◌≡◌, ◌↔◌, Bool, true, false, List, ℕ, ◌<◌, ℤ, None, Some}
 use Rattle.rules.specs.declared.Sides.{Sides}
 use Rattle.rules.specs.Grid.{size}
 use Rattle.rules.specs.Status.{is_pending, first_of}
@@ -30,13 +29,13 @@ abbrev pub SoonerIsOrder : Type 0
 SoonerIsOrder = (m : Marked) (dist : List ℤ) → Order (sooner m dist)
 
 abbrev pub FirstIsForemost : Type 0
-FirstIsForemost = (s : Sides) (ahead : ℕ → ℕ → Bool) → Order ahead → (p : ℕ → Bool) (i : ℕ) → (first_of s ahead p ≡ some i) ↔ (Foremost s ahead p i)
+FirstIsForemost = (s : Sides) (ahead : ℕ → ℕ → Bool) → Order ahead → (p : ℕ → Bool) (i : ℕ) → (first_of s ahead p ≡ Some i) ↔ (Foremost s ahead p i)
 
 abbrev pub NoneIsFirst : Type 0
-NoneIsFirst = (s : Sides) (ahead : ℕ → ℕ → Bool) (p : ℕ → Bool) → (first_of s ahead p ≡ none) ↔ ((i : ℕ) → i < size s → p i ≡ false)
+NoneIsFirst = (s : Sides) (ahead : ℕ → ℕ → Bool) (p : ℕ → Bool) → (first_of s ahead p ≡ None) ↔ ((i : ℕ) → i < size s → p i ≡ false)
 
 -- while a hurried voxel is pending, carve examines none but hurried ones
 abbrev pub HurriedFirst : Type 0
 HurriedFirst =
-    (s : Sides) (m : Marked) (dist : List ℤ) (status : List ℕ) (i : ℕ) → first_of s (sooner m dist) (is_pending status) ≡ some i
+    (s : Sides) (m : Marked) (dist : List ℤ) (status : List ℕ) (i : ℕ) → first_of s (sooner m dist) (is_pending status) ≡ Some i
     → (j : ℕ) → j < size s → is_pending status j ≡ true → m.hurried j ≡ true → m.hurried i ≡ true

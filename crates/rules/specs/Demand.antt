@@ -6,7 +6,9 @@ use Rattle.cells.specs.Cells.{passes}
 use Rattle.rules.specs.declared.Sides.{Sides}
 use Rattle.rules.specs.declared.Record.{Record}
 use Rattle.rules.specs.Grid.{size, touch, share_face}
-use Rattle.rules.specs.Answer.{Reply, refused, done, Carving, Removal, Opening}
+use Rattle.rules.specs.declared.Carving.{Carving}
+use Rattle.rules.specs.declared.Opening.{Opening}
+use Rattle.rules.specs.Answer.{Reply, refused, done, Removal}
 use Rattle.rules.specs.Fill.{filled}
 use Rattle.rules.specs.Begin.{is_in, inside, in_box, begin}
 use Rattle.rules.specs.Meaning.{found}

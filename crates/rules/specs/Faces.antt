@@ -1,11 +1,12 @@
 -- Document 02's CR 8, "Which side it came out by": what the faces say that take, open and carve answer. proofs/Faces.antt proves it.
-use Rattle.std.specs.Prelude.{◌≡◌, Bool, true, false, List, [], ◌∷◌, ℕ, zero, suc, ◌≤◌, ◌<◌, leb, length}
-use Rattle.std.proofs.Math.Option.{none, some}
+use Rattle.std.specs.Prelude.{◌≡◌, Bool, true, false, List, [], ◌∷◌, ℕ, zero, suc, ◌≤◌, ◌<◌, leb, length, None, Some}
 use Rattle.cells.specs.Groups.{any, cons_if}
 use Rattle.cells.specs.Faces.{face_at}
 use Rattle.rules.specs.declared.Sides.{Sides}
 use Rattle.rules.specs.Grid.{neighbourhood}
-use Rattle.rules.specs.Answer.{done, Carving, Removal, Opening}
+use Rattle.rules.specs.declared.Carving.{Carving}
+use Rattle.rules.specs.declared.Opening.{Opening}
+use Rattle.rules.specs.Answer.{done, Removal}
 use Rattle.rules.specs.Status.{is_kept, is_pending, test_at, first_of, goes, examine}
 use Rattle.rules.specs.Marks.{marked}
 use Rattle.rules.specs.Machine.{State, may_go, sooner, carve, take, open_next}
@@ -31,8 +32,8 @@ unfoldable pub faces_of : Sides → (ℕ → Bool) → (ℕ → ℕ → Bool) �
 faces_of s free ahead zero status = []
 faces_of s free ahead (suc limit) status =
     elim (first_of s ahead (is_pending status)) [
-      | none ↦ []
-      | some i ↦ cons_if (goes s free status i) (test_at s status i).face (faces_of s free ahead limit (examine s free status i))
+      | None ↦ []
+      | Some i ↦ cons_if (goes s free status i) (test_at s status i).face (faces_of s free ahead limit (examine s free status i))
     ]
 
 abbrev pub last_or : ℕ → List ℕ → ℕ

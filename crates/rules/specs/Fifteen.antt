@@ -1,7 +1,6 @@
 -- Document 01, number 15, "open: no voxel to open", with document 02's CR 7: what is kept then is determined by the sides, S and the pinned voxels of
 -- the body at the start. proofs/Border.antt and proofs/Fifteen.antt prove it.
-use Rattle.std.specs.Prelude.{◌≡◌, ◌↔◌, Bool, true, false, not, ◌&&◌, ◌||◌, List, ℕ, ◌<◌, ltb, length, ℤ}
-use Rattle.std.proofs.Math.Option.{none}
+use Rattle.std.specs.Prelude.{◌≡◌, ◌↔◌, Bool, true, false, not, ◌&&◌, ◌||◌, List, ℕ, ◌<◌, ltb, length, ℤ, None}
 use Rattle.cells.specs.Linked.{Linked, OnePiece}
 use Rattle.rules.specs.declared.Sides.{Sides}
 use Rattle.rules.specs.Grid.{size, on_border, touch, share_face}
@@ -62,7 +61,7 @@ abbrev pub NoneToOpenAfter : Promise
 NoneToOpenAfter s T values marks start begun =
     (calls : List Call) (lent : List ℕ)
     → let g = (run calls begun).end in
-    Pins lent begun calls → g.rec.finished ≡ false → to_open (may_go (marked lent) g.dist) g ≡ none
+    Pins lent begun calls → g.rec.finished ≡ false → to_open (may_go (marked lent) g.dist) g ≡ None
     → OnlyClosedIn s (inside s values) lent start g.status
 
 abbrev pub NoneToOpen : Type 0
@@ -90,7 +89,7 @@ FifteenWhenAfter s T values marks start begun =
     × (g.rec.finished ≡ false)
     × (any_pending s g.status ≡ false)
     × (g.rec.openings < T)
-    × (to_open (may_go (marked lent) g.dist) g ≡ none))
+    × (to_open (may_go (marked lent) g.dist) g ≡ None))
 
 abbrev pub FifteenWhen : Type 0
 FifteenWhen = FromBegin FifteenWhenAfter

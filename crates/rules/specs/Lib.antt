@@ -2,6 +2,7 @@ pub mod Value
 pub mod Grid
 pub mod Checks
 pub mod Answer
+pub mod Refusals
 pub mod Fill
 pub mod Marks
 pub mod Begin

@@ -1,7 +1,6 @@
 -- Document 01, "The carving machine" and "Numbers that come from the state": carve, take, open and finish, each as a function of the record,
 -- both buffers and the arguments to the answer and both buffers after.
-use Rattle.std.specs.Prelude.{Bool, true, false, not, cond, ◌&&◌, ◌||◌, List, [], ◌∷◌, ◌++◌, map, ℕ, ◌+◌, ◌-◌, ◌*◌, leb, ltb, eqb, length, ℤ, pos, negsuc, nat_abs, ◌+ℤ◌, ◌-ℤ◌}
-use Rattle.std.proofs.Math.Option.{Option, none, some}
+use Rattle.std.specs.Prelude.{Bool, true, false, not, cond, ◌&&◌, ◌||◌, List, [], ◌∷◌, ◌++◌, map, ℕ, ◌+◌, ◌-◌, ◌*◌, leb, ltb, eqb, length, ℤ, pos, negsuc, nat_abs, ◌+ℤ◌, ◌-ℤ◌, Option, None, Some}
 use Rattle.std.specs.Int.Signed.{lt_z}
 use Rattle.cells.specs.Groups.{any}
 use Rattle.cells.specs.Cells.{passes}
@@ -9,7 +8,9 @@ use Rattle.rules.specs.declared.Sides.{Sides}
 use Rattle.rules.specs.declared.Record.{Record}
 use Rattle.rules.specs.Grid.{fit_sides, size, voxels, on_border, is_negative, distance_at}
 use Rattle.rules.specs.Checks.{Check, ◌when◌, unless}
-use Rattle.rules.specs.Answer.{Reply, refused, done, Outcome, outcome, untouched, Buffers, buffers, Carving, Removal, Opening}
+use Rattle.rules.specs.declared.Carving.{Carving}
+use Rattle.rules.specs.declared.Opening.{Opening}
+use Rattle.rules.specs.Answer.{Reply, refused, done, Outcome, outcome, untouched, Buffers, buffers, Removal}
 use Rattle.rules.specs.Status.{status_of, is_kept, any_pending, test_at, first_of, without, carving, openable}
 use Rattle.rules.specs.Marks.{Marked, marked, stray_mark, wrong_marks}
 
@@ -158,8 +159,8 @@ unfoldable pub to_open : (ℕ → Bool) → State → Option ℕ
 to_open free g = first_of g.rec.sides (farther g.dist) (openable g.rec.sides free g.status)
 
 abbrev pub is_none : Option ℕ → Bool
-is_none none = true
-is_none (some i) = false
+is_none None = true
+is_none (Some i) = false
 
 abbrev pub quiet_checks : State → List Check
 quiet_checks g = 13 when any_pending g.rec.sides g.status ∷ []
@@ -183,8 +184,8 @@ opened free i g =
 
 -- none stands for no voxel to open, which number 15 has refused
 abbrev pub the_voxel : Option ℕ → ℕ
-the_voxel none = 0
-the_voxel (some i) = i
+the_voxel None = 0
+the_voxel (Some i) = i
 
 unfoldable pub open_next : List ℕ → State → Outcome Buffers Opening
 open_next marks g =

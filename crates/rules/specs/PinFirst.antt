@@ -5,7 +5,9 @@ use Rattle.rules.specs.declared.Sides.{Sides}
 use Rattle.rules.specs.declared.Record.{Record}
 use Rattle.rules.specs.Grid.{size}
 use Rattle.rules.specs.Checks.{unless}
-use Rattle.rules.specs.Answer.{done, Outcome, untouched, Buffers, buffers, Carving, Removal, Opening}
+use Rattle.rules.specs.declared.Carving.{Carving}
+use Rattle.rules.specs.declared.Opening.{Opening}
+use Rattle.rules.specs.Answer.{done, Outcome, untouched, Buffers, buffers, Removal}
 use Rattle.rules.specs.Marks.{Marked, mark_of, marked}
 use Rattle.rules.specs.Begin.{begin_checks, begun, begin}
 use Rattle.rules.specs.Status.{is_kept, is_pending, any_pending}

@@ -2,7 +2,8 @@
 use Rattle.std.specs.Prelude.{◌≡◌, Bool, false, List, ◌∷◌, ℕ, ◌+◌, length}
 use Rattle.rules.specs.declared.Sides.{Sides}
 use Rattle.rules.specs.Grid.{size}
-use Rattle.rules.specs.Answer.{done, outcome, Carving}
+use Rattle.rules.specs.declared.Carving.{Carving}
+use Rattle.rules.specs.Answer.{done, outcome}
 use Rattle.rules.specs.Status.{Progress, progress, latest, carving}
 use Rattle.rules.specs.Marks.{stray_mark}
 use Rattle.rules.specs.Machine.{State, carve}

@@ -1,7 +1,6 @@
 -- Document 01, "The carving machine": what the status bytes say, which voxel comes first, and what a removal and an examination do to them.
 -- Two things are given from outside, since they are for the call to say: which voxels may go (`free`), and which of two goes ahead (`ahead`).
-use Rattle.std.specs.Prelude.{Bool, true, false, cond, ◌&&◌, List, [], ◌∷◌, map, ℕ, zero, suc, ◌+◌, ◌-◌, ◌/◌, ◌%◌, eqb, get_or, set}
-use Rattle.std.proofs.Math.Option.{Option, none, some}
+use Rattle.std.specs.Prelude.{Bool, true, false, cond, ◌&&◌, List, [], ◌∷◌, map, ℕ, zero, suc, ◌+◌, ◌-◌, ◌/◌, ◌%◌, eqb, get_or, set, Option, None, Some}
 use Rattle.cells.specs.Groups.{any, filter}
 use Rattle.cells.specs.Cells.{Test, test, passes}
 use Rattle.rules.specs.declared.Sides.{Sides}
@@ -42,11 +41,11 @@ test_at s status i = test (neighbourhood s (is_kept status) i)
 
 -- i, whose index is smaller, against the choice among the voxels after it
 unfoldable pub prefer : (ℕ → ℕ → Bool) → ℕ → Option ℕ → Option ℕ
-prefer ahead i none = some i
-prefer ahead i (some j) = cond (ahead j i) (some j) (some i)
+prefer ahead i None = Some i
+prefer ahead i (Some j) = cond (ahead j i) (Some j) (Some i)
 
 unfoldable pub foremost : (ℕ → ℕ → Bool) → List ℕ → Option ℕ
-foremost ahead [] = none
+foremost ahead [] = None
 foremost ahead (i ∷ is) = prefer ahead i (foremost ahead is)
 
 unfoldable pub first_of : Sides → (ℕ → ℕ → Bool) → (ℕ → Bool) → Option ℕ
@@ -101,8 +100,8 @@ counted gone face rest =
 
 -- the voxel that comes first, if one is pending, is examined, and the rest follows
 abbrev pub examining : Sides → (ℕ → Bool) → List ℕ → (ℕ → Progress) → Option ℕ → Progress
-examining s free status rest none = progress 0 0 6 status
-examining s free status rest (some i) = counted (goes s free status i) (test_at s status i).face (rest i)
+examining s free status rest None = progress 0 0 6 status
+examining s free status rest (Some i) = counted (goes s free status i) (test_at s status i).face (rest i)
 
 unfoldable pub carving : Sides → (ℕ → Bool) → (ℕ → ℕ → Bool) → ℕ → List ℕ → Progress
 carving s free ahead zero status = progress 0 0 6 status

@@ -1,6 +1,5 @@
 -- Document 02's CR 7: with marks all 0 every call is as before. The rules before it, and that they stand; proofs/Unmarked.antt proves it.
-use Rattle.std.specs.Prelude.{◌≡◌, not, cond, ◌&&◌, List, [], ◌∷◌, ◌++◌, map, ℕ, zero, suc, leb, eqb, length, ℤ, pos}
-use Rattle.std.proofs.Math.Option.{none, some}
+use Rattle.std.specs.Prelude.{◌≡◌, not, cond, ◌&&◌, List, [], ◌∷◌, ◌++◌, map, ℕ, zero, suc, leb, eqb, length, ℤ, pos, None, Some}
 use Rattle.cells.specs.Groups.{any}
 use Rattle.cells.specs.Cells.{passes}
 use Rattle.rules.specs.declared.Sides.{Sides}
@@ -8,7 +7,9 @@ use Rattle.rules.specs.declared.Record.{Record}
 use Rattle.rules.specs.Value.{stray}
 use Rattle.rules.specs.Grid.{fit_sides, size, voxels, on_border, measured_negative, value_at, is_in}
 use Rattle.rules.specs.Checks.{◌when◌, unless}
-use Rattle.rules.specs.Answer.{done, Outcome, outcome, untouched, Buffers, buffers, Carving, Removal, Opening}
+use Rattle.rules.specs.declared.Carving.{Carving}
+use Rattle.rules.specs.declared.Opening.{Opening}
+use Rattle.rules.specs.Answer.{done, Outcome, outcome, untouched, Buffers, buffers, Removal}
 use Rattle.rules.specs.Fill.{filled}
 use Rattle.rules.specs.Marks.{no_marks}
 use Rattle.rules.specs.Begin.{inside, worked, in_box, exposed, new_record, begin}
@@ -41,8 +42,8 @@ unfoldable pub carving_before : Sides → List ℤ → ℕ → List ℕ → Prog
 carving_before s dist zero status = progress 0 0 6 status
 carving_before s dist (suc limit) status =
     elim (first_of s (farther dist) (is_pending status)) [
-      | none ↦ progress 0 0 6 status
-      | some i ↦
+      | None ↦ progress 0 0 6 status
+      | Some i ↦
           counted (passes (test_at s status i)) (test_at s status i).face
           (carving_before s dist limit (examined_as (passes (test_at s status i)) s (outside dist) status i))
     ]

@@ -1,8 +1,7 @@
 -- Document 01, "What the second supplier may hold us to" and "Shortcuts that break it": machines that must be rejected, as definitions, and
 -- which clause of demand 3 rejects each on a small grid; wrong fills of gaps; marks read by another rule, a mark of 3 among them; another face of
 -- carve. proofs/Wrong.antt shows it by computation.
-use Rattle.std.specs.Prelude.{◌≡◌, ◌↔◌, Bool, true, false, not, cond, ◌&&◌, ◌||◌, List, [], ◌∷◌, ℕ, zero, suc, eqb, ℤ, pos, length, set, replicate}
-use Rattle.std.proofs.Math.Option.{none, some}
+use Rattle.std.specs.Prelude.{◌≡◌, ◌↔◌, Bool, true, false, not, cond, ◌&&◌, ◌||◌, List, [], ◌∷◌, ℕ, zero, suc, eqb, ℤ, pos, length, set, replicate, None, Some}
 use Rattle.cells.specs.Groups.{any, filter, groups}
 use Rattle.cells.specs.Cells.{positions, passes}
 use Rattle.rules.specs.declared.Sides.{Sides}
@@ -12,7 +11,8 @@ use Rattle.rules.specs.Grid.{apart, Voxel, voxel, voxels, on_border, touch, shar
 use Rattle.rules.specs.Fill.{around, enclosed, in_some}
 use Rattle.rules.specs.Gaps.{Enclosed}
 use Rattle.rules.specs.Checks.{unless}
-use Rattle.rules.specs.Answer.{refused, Outcome, untouched, Buffers, buffers, Carving, Removal, is_done, NoConstant, Answers}
+use Rattle.rules.specs.declared.Carving.{Carving}
+use Rattle.rules.specs.Answer.{refused, Outcome, untouched, Buffers, buffers, is_done, NoConstant, Answers, Removal}
 use Rattle.rules.specs.Status.{is_kept, is_pending, first_of, test_at, without, status_of, rested, openable}
 use Rattle.rules.specs.Marks.{Marked, mark_of, marked, no_marks}
 use Rattle.rules.specs.PinFirst.{marked_before, begin_by, carve_by}
@@ -30,8 +30,8 @@ unfoldable pub carving_by : (List ℕ → ℕ → Bool) → (List ℕ → ℕ �
 carving_by goes gone zero g = g
 carving_by goes gone (suc limit) g =
     elim (first_of g.rec.sides (farther g.dist) (is_pending g.status)) [
-      | none ↦ g
-      | some i ↦ carving_by goes gone limit (examined_by (goes g.status i) i)
+      | None ↦ g
+      | Some i ↦ carving_by goes gone limit (examined_by (goes g.status i) i)
     ]
   where
     examined_by : Bool → ℕ → State

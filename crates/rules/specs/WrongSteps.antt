@@ -1,12 +1,13 @@
 -- Steps of begin and of the machine by another rule: on some input each does something else. proofs/WrongSteps.antt shows it by computation.
-use Rattle.std.specs.Prelude.{◌≡◌, Bool, true, false, not, cond, ◌&&◌, ◌||◌, List, [], ◌∷◌, map, ℕ, zero, suc, ltb, eqb, length, ℤ}
-use Rattle.std.proofs.Math.Option.{Option, none, some}
+use Rattle.std.specs.Prelude.{◌≡◌, Bool, true, false, not, cond, ◌&&◌, ◌||◌, List, [], ◌∷◌, map, ℕ, zero, suc, ltb, eqb, length, ℤ, Option, None, Some}
 use Rattle.cells.specs.Groups.{filter, groups}
 use Rattle.cells.specs.Cells.{passes}
 use Rattle.rules.specs.declared.Sides.{Sides}
 use Rattle.rules.specs.Value.{missing}
 use Rattle.rules.specs.Grid.{size, voxels, touch, share_face, measured_non_negative, amount, value_at}
-use Rattle.rules.specs.Answer.{done, Carving, Opening}
+use Rattle.rules.specs.declared.Carving.{Carving}
+use Rattle.rules.specs.declared.Opening.{Opening}
+use Rattle.rules.specs.Answer.{done}
 use Rattle.rules.specs.Fill.{enclosed_gaps, in_some, filled}
 use Rattle.rules.specs.Marks.{marked}
 use Rattle.rules.specs.Begin.{least, greatest, negatives, inside, facing, greatest_facing, distance, exposed}
@@ -81,16 +82,16 @@ OtherOpenable other = ((s : Sides) (free : ℕ → Bool) (status : List ℕ) (i 
 
 -- of equals the greater index
 unfoldable pub last_foremost : (ℕ → ℕ → Bool) → List ℕ → Option ℕ
-last_foremost ahead [] = none
-last_foremost ahead (i ∷ is) = elim (last_foremost ahead is) [ none ↦ some i | some j ↦ cond (ahead i j) (some i) (some j) ]
+last_foremost ahead [] = None
+last_foremost ahead (i ∷ is) = elim (last_foremost ahead is) [ None ↦ Some i | Some j ↦ cond (ahead i j) (Some i) (Some j) ]
 
 -- the first voxel that a carve of so many examinations finds failing
 unfoldable pub first_failed : Sides → (ℕ → Bool) → (ℕ → ℕ → Bool) → ℕ → List ℕ → Option ℕ
-first_failed s free ahead zero status = none
+first_failed s free ahead zero status = None
 first_failed s free ahead (suc limit) status =
     elim (first_of s ahead (is_pending status)) [
-      | none ↦ none
-      | some i ↦ cond (goes s free status i) (first_failed s free ahead limit (examine s free status i)) (some i)
+      | None ↦ None
+      | Some i ↦ cond (goes s free status i) (first_failed s free ahead limit (examine s free status i)) (Some i)
     ]
 
 -- open takes the voxel that failed first in the carve before it

@@ -1,5 +1,8 @@
-// The types that the calls on a grid share: sides, record, answers. What they mean stands in specs/, document 01 section by section.
+// The types that the calls on a grid share: sides, record, answers, refusals. What they mean stands in specs/, document 01 section by section.
 #![tactic(auto)]
+
+ghost use Rattle.std.specs.Prelude.{◌≡◌};
+ghost use Rattle.rules.specs.Refusals.{number_of};
 
 // The grid's sides, in voxels along x, y and z.
 #[repr(C)]
@@ -25,25 +28,18 @@ pub struct Record {
     pub finished: bool,
 }
 
+// What carve answers.
 #[derive(Clone, Copy)]
-pub enum Begun {
-    Ready(Record),
-    Refused(u8),
+pub struct Carving {
+    pub examined: u32,
+    pub removed: u32,
+    pub pending: bool,
+    // the face of its last removal, 6 where it made none
+    pub face: u32,
+    pub next: Record,
 }
 
-#[derive(Clone, Copy)]
-pub enum Carved {
-    Done {
-        examined: u32,
-        removed: u32,
-        pending: bool,
-        // the face of its last removal, 6 where it made none
-        face: u32,
-        next: Record,
-    },
-    Refused(u8),
-}
-
+// What take answers: document 01 names this form, an enum of which one case carries k and m and the other the number.
 #[derive(Clone, Copy)]
 pub enum Taken {
     Gone {
@@ -55,20 +51,61 @@ pub enum Taken {
     Refused(u8),
 }
 
+// What open answers.
 #[derive(Clone, Copy)]
-pub enum Opened {
-    Through {
-        index: usize,
-        k: u32,
-        m: u32,
-        face: u32,
-        next: Record,
-    },
-    Refused(u8),
+pub struct Opening {
+    pub index: usize,
+    pub k: u32,
+    pub m: u32,
+    pub face: u32,
+    pub next: Record,
 }
 
-#[derive(Clone, Copy)]
-pub enum Finished {
-    Closed(Record),
-    Refused(u8),
+// Why a call is refused, by the number that the papers give to the condition.
+#[derive(Clone, Copy, Debug, PartialEq, Eq)]
+pub enum Refusal {
+    // what is given
+    Side = 1,
+    Length = 2,
+    BorderNegative = 3,
+    NoNegative = 4,
+    Index = 5,
+    Axis = 6,
+    // the state
+    Unfit = 7,
+    Finished = 8,
+    NotFinished = 9,
+    GoneAlready = 10,
+    Inside = 11,
+    NotPassed = 12,
+    StillPending = 13,
+    NoOpeningLeft = 14,
+    NothingToOpen = 15,
+    // a grid file, and a removal list
+    Short = 21,
+    Mark = 22,
+    Layer = 23,
+    LayerTwice = 24,
+    Room = 26,
+    LayerOrder = 27,
+    // values and marks
+    Value = 28,
+    MarkByte = 29,
+    PinnedVoxel = 30,
+    // a coarse start
+    Coarse = 31,
+    // a removal list
+    BreaksRules = 32,
+    StillPasses = 33,
+    // many scans at once
+    Office = 34,
+    NothingPending = 35,
+}
+
+impl From<Refusal> for u8 {
+    ghost from_gives = { λ refusal n. n ≡ number_of refusal };
+
+    fn from(refusal: Refusal) -> u8 {
+        refusal as u8
+    }
 }

@@ -14,24 +14,16 @@ use rules::Sides;
 fn unknown(status: &[u8]) -> bool
     ensures { result ≡ any (unknown_at status.now) (range 0 (length status.now)) }
 {
-    let mut bad = false;
-    let mut i: usize = 0;
-    while i < status.len() {
-        let s = status[i];
-        bad = bad | !((s == 0) | ((s == 1) | (s == 3)));
-        i += 1;
-    }
-    bad
+    status
+        .iter()
+        .fold(false, |bad, &s| bad | !((s == 0) | ((s == 1) | (s == 3))))
 }
 
 // The distance of a voxel whose distance may not be negative, 0 where it may.
 fn held_up(d: i32, s: u8) -> i32
     ensures { result ≡ held_up d s }
 {
-    if s == 1 {
-        return 0;
-    }
-    d
+    if s == 1 { 0 } else { d }
 }
 
 // Some voxel has a negative distance and a status that is not 1: the bits of such numbers, joined, make a negative one.
@@ -39,14 +31,10 @@ fn unheld(dist: &[i32], status: &[u8]) -> bool
     requires { length dist.now ≡ length status.now }
     ensures { result ≡ any (unheld_at dist.now status.now) (range 0 (length status.now)) }
 {
-    let mut all: i32 = 0;
-    let mut i: usize = 0;
-    while i < status.len() {
-        let d = dist[i];
-        all = all | held_up(d, status[i]);
-        i += 1;
-    }
-    all < 0
+    dist.iter()
+        .zip(status)
+        .fold(0, |all, (&d, &s)| all | held_up(d, s))
+        < 0
 }
 
 // Some voxel from first up to end has a status other than 0.
@@ -65,21 +53,19 @@ fn used_row(s: Sides, status: &[u8], y: usize, z: usize) -> bool
     let first = s.a * (y + s.b * z);
     let end = first + s.a;
     if ((y == 0) | (y + 1 == s.b)) | ((z == 0) | (z + 1 == s.c)) {
-        return used_span(status, first, end);
+        used_span(status, first, end)
+    } else {
+        (status[first] != 0) | (status[end - 1] != 0)
     }
-    !(status[first] == 0) | !(status[end - 1] == 0)
 }
 
 fn used_layer(s: Sides, status: &[u8], z: usize) -> bool
     requires { Sized s (length status.now) × (z < s.c) }
     ensures { result ≡ any (used_border_at s status.now) (range (s.a * (s.b * z)) (s.a * s.b)) }
 {
-    let b = s.b;
     let mut found = false;
-    let mut y: usize = 0;
-    while y < b {
-        found = found | used_row(s, status, y, z);
-        y += 1;
+    for y in 0..s.b {
+        found |= used_row(s, status, y, z);
     }
     found
 }
@@ -89,12 +75,9 @@ fn used_border(s: Sides, status: &[u8]) -> bool
     requires { Sized s (length status.now) }
     ensures { result ≡ any (used_border_at s status.now) (range 0 (size s)) }
 {
-    let c = s.c;
     let mut found = false;
-    let mut z: usize = 0;
-    while z < c {
-        found = found | used_layer(s, status, z);
-        z += 1;
+    for z in 0..s.c {
+        found |= used_layer(s, status, z);
     }
     found
 }

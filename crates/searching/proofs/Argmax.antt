@@ -14,7 +14,6 @@ use mir.Syntax.{w32}
 use mir.Val.{SFits, to_z, of_z}
 use mir.Facts.{to_z-of_z}
 use Rattle.prelude.proofs.Bools.{two}
-use Rattle.numbers.specs.Signed.{greater}
 use Rattle.rules.specs.Grid.{is_negative}
 use Rattle.rules.specs.Marks.{Marked}
 use Rattle.searching.specs.declared.Held.{Held}
@@ -24,6 +23,10 @@ use Rattle.searching.specs.Argmax.{Span}
 -- one voxel of a stretch
 pub span-at : {a l first end n i : ℕ} → Span a l first end n → first ≤ i → i < end → Span a l i (i + 1) n
 span-at s low high = record { one = s.one; row = s.row; low = omega (arith, s.low); order = omega arith; high = omega (arith, s.high) }
+
+-- the greater of two
+abbrev greater : ℤ → ℤ → ℤ
+greater x y = cond (lt_z x y) y x
 
 -- ---- ranks
 
@@ -106,23 +109,8 @@ module _ (f : ℕ → ℕ) (first : ℕ) where
             (greatest-left i (rank x) l (let h = rank-rest x y t in omega arith) g)
       ]
 
-  -- the same as the machine holds it: h is the height of voxel i, and r the greater of the two
-  pub greatest-held :
-      (i : ℕ) (x h y r : ℤ)
-      → first ≤ i
-      → SFits w32 x
-      → SFits w32 h
-      → SFits w32 r
-      → h ≡ y
-      → r ≡ greater x (to_z w32 (of_z w32 h))
-      → Greatest f first i (rank x)
-      → f i ≡ rank y
-      → SFits w32 (to_z w32 (of_z w32 r)) × Greatest f first (i + 1) (rank (to_z w32 (of_z w32 r)))
-  greatest-held i x h y r l fx fh fr e q g k =
-      let w : r ≡ greater x y = q ∙ ap (greater x) (to_z-of_z fh ∙ e) in (
-        subst (SFits w32) (sym (to_z-of_z fr)) fr,
-        subst (λ (z : ℤ). Greatest f first (i + 1) (rank z)) (sym (to_z-of_z fr ∙ w)) (greatest-step i x y l g k),
-      )
+  pub greatest-more : (i : ℕ) (x y r : ℤ) → first ≤ i → Greatest f first i (rank x) → f i ≡ rank y → r ≡ greater x y → Greatest f first (i + 1) (rank r)
+  greatest-more i x y r l g e q = subst (λ (z : ℤ). Greatest f first (i + 1) (rank z)) (sym q) (greatest-step i x y l g e)
 
   -- ---- the first stretch that has the greatest, one stretch more at a time
 

@@ -3,7 +3,7 @@ use mathlib.Core.Path.{◌≡◌, refl, sym, ap, ◌∙◌}
 use mathlib.Core.Logic.{inl, inr}
 use mathlib.Core.Bool.{Bool, true, false, not, cond, ◌&&◌}
 use mathlib.Core.List.{List}
-use mathlib.Core.Option.{none, some}
+use Rattle.std.specs.Prelude.{None, Some}
 use Prim.Native.Nat.{ℕ, ◌+◌, ◌-◌, ◌*◌, ◌≤◌, ◌<◌}
 use native.Mathlib.Omega.{arith}
 use native.Mathlib.Nat.{mul-le-mul, mul-le-mul_left}
@@ -117,7 +117,7 @@ module _ (s : Sides) (dist : List ℤ) (marks status : List ℕ) (g : Searchable
   -- ---- the search
 
   module _ (most : ℕ) (top : (j : ℕ) → first ≤ j → j < size s - first → key j ≤ most) where
-    pub nothing : most ≡ 0 → first_of s (farther dist) may ≡ none
+    pub nothing : most ≡ 0 → first_of s (farther dist) may ≡ None
     nothing z =
         none_first s (farther dist) (farther-order dist) may
         (λ j h.
@@ -159,5 +159,5 @@ module _ (s : Sides) (dist : List ℤ) (marks status : List ℕ) (g : Searchable
                 less (distance_at dist j) (distance_at dist i) k.1 (omega (arith, own-rank.0, k.0, w.earliest j r.0 u)));
           }
 
-      pub at_first : first_of s (farther dist) may ≡ some i
+      pub at_first : first_of s (farther dist) may ≡ Some i
       at_first = foremost-first-of s (farther dist) (farther-order dist) may i first-open

@@ -1,20 +1,12 @@
 -- The voxel to open: a key for each voxel, the greatest key by stretches of voxels, and the first voxel that has it.
 use Rattle.std.specs.Prelude.{◌≡◌, Bool, not, cond, ◌&&◌, List, ℕ, ◌+◌, ◌-◌, ◌*◌, ◌≤◌, ◌<◌, ℤ, pos, negsuc, length}
-use Rattle.std.proofs.Math.Option.{Option, none, some}
 use Rattle.std.specs.Int.Signed.{lt_z}
 use Rattle.rules.specs.declared.Sides.{Sides}
 use Rattle.rules.specs.Grid.{size, distance_at}
 use Rattle.rules.specs.Status.{is_kept}
 use Rattle.rules.specs.Marks.{Marked}
 use Rattle.neighbourhood.specs.Neighbourhood.{Body}
-use Rattle.searching.specs.declared.Found.{Found}
-use Rattle.searching.specs.declared.Found.TheVariants.{Nothing, At}
 use Rattle.searching.specs.declared.Held.{Held}
-
--- what a search finds, in the rule's words
-abbrev pub found : Found → Option ℕ
-found Nothing = none
-found (At i) = some i
 
 -- ---- the key of a voxel
 

@@ -1,21 +1,14 @@
 // The search for the voxel to open, over all voxels and by stretches of them.
 #![tactic(auto)]
 
-ghost use Rattle.std.specs.Prelude.{◌≡◌, ◌+◌, ◌-◌, ◌≤◌, ◌<◌, length};
+ghost use Rattle.std.specs.Prelude.{◌≡◌, ℕ, ℤ, ◌+◌, ◌-◌, ◌≤◌, ◌<◌, length};
 ghost use Rattle.rules.specs.Status.{first_of, openable};
 ghost use Rattle.rules.specs.Marks.{marked};
 ghost use Rattle.rules.specs.Machine.{may_go, farther};
-ghost use Rattle.searching.specs.Argmax.{found, surface_at, height_of, surface_height, surface_key, height_at, key_at, rank};
+ghost use Rattle.searching.specs.Argmax.{surface_at, height_of, surface_height, height_at, key_at, rank};
 ghost use Rattle.searching.specs.Argmax.{held_of, Greatest, Holding, Leading, Lent, Span, Peak, Layers, Searchable};
 
 use rules::Sides;
-
-// The voxel that comes first, if there is one.
-#[derive(Clone, Copy)]
-pub enum Found {
-    Nothing,
-    At(usize),
-}
 
 // The greatest height so far, and the first stretch of voxels that has it.
 #[derive(Clone, Copy)]
@@ -39,61 +32,36 @@ pub fn on_surface(status: &[u8], a: usize, l: usize, i: usize) -> bool
 fn height(d: i32, surface: bool) -> i32
     ensures { result ≡ height_of d surface }
 {
-    if surface {
-        return d;
-    }
-    -1
+    if surface { d } else { -1 }
 }
 
 fn surface_height(dist: &[i32], status: &[u8], a: usize, l: usize, i: usize) -> i32
     requires { Span a l i (i + 1) (length status.now) × (length dist.now ≡ length status.now) }
     ensures { result ≡ surface_height dist.now status.now a l i }
 {
-    let d = dist[i];
-    height(d, on_surface(status, a, l, i))
+    height(dist[i], on_surface(status, a, l, i))
 }
 
 fn height_at(dist: &[i32], marks: &[u8], status: &[u8], a: usize, l: usize, i: usize) -> i32
     requires { Span a l i (i + 1) (length status.now) × Lent dist.now marks.now (length status.now) }
     ensures { result ≡ height_at (marked marks.now) dist.now status.now a l i }
 {
-    let d = dist[i];
-    let p = marks::pins(marks[i]);
-    height(d, on_surface(status, a, l, i) & !p)
+    height(
+        dist[i],
+        on_surface(status, a, l, i) & !marks::pins(marks[i]),
+    )
 }
 
-// The greatest height of a stretch of voxels, without its place: so that a compiler does many voxels at a time.
-fn plain_greatest(dist: &[i32], status: &[u8], a: usize, l: usize, first: usize, end: usize) -> i32
-    requires { Span a l first end (length status.now) × (length dist.now ≡ length status.now) }
-    ensures { Greatest (surface_key dist.now status.now a l) first end (rank result) }
+// The greatest height of a stretch of voxels, or -1, without its place and without a branch: so that a compiler does many voxels at a time.
+fn greatest_of<F: Fn(usize) -> i32>(first: usize, end: usize, height: F) -> i32
+    requires order { first ≤ end }
+    requires callable { (i : ℕ) → first ≤ i → i < end → F.pre height i }
+    ensures { (f : ℕ → ℕ) → ((i : ℕ) (h : ℤ) → first ≤ i → i < end → F.post height i h → f i ≡ rank h)
+        → Greatest f first end (rank result) }
 {
     let mut best: i32 = -1;
-    let mut i = first;
-    while i < end {
-        best = numbers::greater_i32(best, surface_height(dist, status, a, l, i));
-        i += 1;
-    }
-    best
-}
-
-// The greatest height of a stretch's voxels that are not pinned.
-fn pinned_greatest(
-    dist: &[i32],
-    marks: &[u8],
-    status: &[u8],
-    a: usize,
-    l: usize,
-    first: usize,
-    end: usize,
-) -> i32
-    requires { Span a l first end (length status.now) × Lent dist.now marks.now (length status.now) }
-    ensures { Greatest (key_at (marked marks.now) dist.now status.now a l) first end (rank result) }
-{
-    let mut best: i32 = -1;
-    let mut i = first;
-    while i < end {
-        best = numbers::greater_i32(best, height_at(dist, marks, status, a, l, i));
-        i += 1;
+    for i in first..end {
+        best = best.max(height(i));
     }
     best
 }
@@ -112,33 +80,24 @@ fn greatest(
     ensures { Greatest (key_at (marked marks.now) dist.now status.now a l) first end (rank result) }
 {
     if loops::joined(marks, first, end) == 0 {
-        return plain_greatest(dist, status, a, l, first, end);
+        greatest_of(first, end, |i: usize| surface_height(dist, status, a, l, i))
+    } else {
+        greatest_of(
+            first,
+            end,
+            |i: usize| height_at(dist, marks, status, a, l, i),
+        )
     }
-    pinned_greatest(dist, marks, status, a, l, first, end)
 }
 
 fn keep(best: Held, height: i32, first: usize, end: usize) -> Held
     ensures { result ≡ held_of best height first end }
 {
     if best.height < height {
-        return Held {
-            height: height,
-            first: first,
-            end: end,
-        };
+        Held { height, first, end }
+    } else {
+        best
     }
-    best
-}
-
-// How many voxels the next stretch has.
-fn stretch(left: usize) -> usize
-    requires { 1 ≤ left }
-    ensures { (1 ≤ result) × (result ≤ left) }
-{
-    if left < 64 {
-        return left;
-    }
-    64
 }
 
 // The first stretch of the greatest height; voxels before the first and after the last of these lie on the border.
@@ -151,12 +110,13 @@ fn highest(dist: &[i32], marks: &[u8], status: &[u8], a: usize, l: usize) -> Hel
     let end = status.len() - first;
     let mut best = Held {
         height: -1,
-        first: first,
+        first,
         end: first,
     };
     let mut i = first;
+    // 64 voxels at a time, and what is left at the end.
     while i < end {
-        let e = i + stretch(end - i);
+        let e = end.min(i + 64);
         best = keep(best, greatest(dist, marks, status, a, l, i, e), i, e);
         i = e;
     }
@@ -170,31 +130,26 @@ fn first_of(dist: &[i32], marks: &[u8], status: &[u8], a: usize, l: usize, held:
     ensures { Leading (key_at (marked marks.now) dist.now status.now a l) held.first held.end
         (rank held.height) result }
 {
-    let best = held.height;
-    let end = held.end;
-    let mut i = held.first;
-    while i < end {
-        let h = height_at(dist, marks, status, a, l, i);
-        if h == best {
+    for i in held.first..held.end {
+        if height_at(dist, marks, status, a, l, i) == held.height {
             return i;
         }
-        i += 1;
     }
-    i
+    held.end
 }
 
 // The voxel to open: kept, outside S, not pinned, with a face neighbour not kept, the farthest, the first among equals.
-pub fn to_open(s: Sides, dist: &[i32], marks: &[u8], status: &[u8]) -> Found
+pub fn to_open(s: Sides, dist: &[i32], marks: &[u8], status: &[u8]) -> Option<usize>
     requires { Searchable s dist.now marks.now status.now }
-    ensures { found result ≡ first_of s (farther dist.now)
+    ensures { result ≡ first_of s (farther dist.now)
         (openable s (may_go (marked marks.now) dist.now) status.now) }
 {
     let a = s.a;
     let l = s.a * s.b;
     let held = highest(dist, marks, status, a, l);
-    let height = held.height;
-    if height < 0 {
-        return Found::Nothing;
+    if held.height < 0 {
+        None
+    } else {
+        Some(first_of(dist, marks, status, a, l, held))
     }
-    Found::At(first_of(dist, marks, status, a, l, held))
 }

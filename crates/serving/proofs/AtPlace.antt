@@ -1,14 +1,15 @@
 -- The place that is served: what the checks give of it, and that what the code leaves in the part of the grid is what the rule puts there.
 use mathlib.Core.Path.{◌≡◌, ap, ap₂, sym, ◌∙◌, subst₂}
 use mathlib.Core.List.{List}
-use mathlib.Core.Option.{some}
+use Rattle.std.specs.Prelude.{Some}
 use Prim.Native.Nat.{ℕ, ◌+◌, ◌≤◌, ◌<◌}
 use native.Mathlib.Omega.{arith}
 use lib.IntN.{ℤ}
 use lib.ListN.{length, get_or, take}
 use Rattle.rules.specs.declared.Record.{Record}
 use Rattle.rules.specs.Checks.{AllHold}
-use Rattle.rules.specs.Answer.{Reply, Outcome, outcome, untouched, Buffers, Carving}
+use Rattle.rules.specs.declared.Carving.{Carving}
+use Rattle.rules.specs.Answer.{Reply, Outcome, outcome, untouched, Buffers}
 use Rattle.rules.specs.Fit.{Marking}
 use Rattle.rules.specs.Marks.{marked}
 use Rattle.rules.specs.Machine.{State, state, may_go, sooner, carved, carve, the_voxel}
@@ -19,7 +20,8 @@ use Rattle.office.specs.declared.Grids.{Grids}
 use Rattle.office.specs.declared.Order.{Order}
 use Rattle.office.specs.Parts.{total, part_at, put}
 use Rattle.office.specs.Order.{queue, others, served_last}
-use Rattle.office.specs.Serve.{Office, Serving, left, grids, no_record, grid_at, waits, to_serve, serve_checks, placed, served_at, serve}
+use Rattle.office.specs.declared.Serving.{Serving}
+use Rattle.office.specs.Serve.{Office, left, grids, no_record, grid_at, waits, to_serve, serve_checks, placed, served_at, serve}
 use Rattle.office.proofs.Parts.{put_same}
 use Rattle.office.proofs.Queue.{few-below, room_for, queue-fit, first-mem}
 use Rattle.office.proofs.Step.{order-fits, grid-holds}
@@ -41,7 +43,7 @@ module _ (marks : List ℕ) (limit : ℕ) (g : Grids) (o : Order) (dist : List �
 
   pub record Ready (p : ℕ) : Type 0 where
     pub holds : AllHold (serve_checks marks limit O)
-    pub chosen : to_serve O ≡ some p
+    pub chosen : to_serve O ≡ Some p
     pub laid : LaidOut g dist status
     pub marks-len : length marks ≡ total ns
     pub below : p < g.count
@@ -49,7 +51,7 @@ module _ (marks : List ℕ) (limit : ℕ) (g : Grids) (o : Order) (dist : List �
     pub room : length (others p (places_of o)) < 16
     pub own : Marking (part_at ns marks p) (grid_at O p)
 
-  pub ready : (p : ℕ) → AllHold (serve_checks marks limit O) → to_serve O ≡ some p → Ready p
+  pub ready : (p : ℕ) → AllHold (serve_checks marks limit O) → to_serve O ≡ Some p → Ready p
   unfolding to_serve
   ready p h e =
       let laid = all_laid marks limit g o dist status h in

@@ -2,44 +2,21 @@
 #![tactic(auto)]
 
 ghost use Rattle.std.specs.Prelude.{◌≡◌};
-ghost use Rattle.std.proofs.Math.Option.{some};
 ghost use Rattle.rules.specs.Checks.{AllHold};
-ghost use Rattle.rules.specs.Answer.{outcome, carved_answer};
+ghost use Rattle.rules.specs.Answer.{outcome};
+ghost use Rattle.rules.specs.Refusals.{replied};
 ghost use Rattle.office.specs.Serve as rule;
-ghost use Rattle.office.specs.Serve.{to_serve, serve_checks, served_answer};
+ghost use Rattle.office.specs.Serve.{to_serve, serve_checks};
 ghost use Rattle.office.specs.Structs.{office_given, kept, as_struct};
 
-use office::{Grids, Order, Served};
-use rules::Carved;
+use office::{Grids, Order, Serving};
+use rules::Refusal;
 
 // What serve hands back: its answer, and the order record after it.
 #[derive(Clone, Copy)]
 pub struct Turn {
-    pub answer: Served,
+    pub answer: Result<Serving, Refusal>,
     pub order: Order,
-}
-
-// Carve's answer, with the place.
-fn placed(place: u8, c: Carved) -> Served
-    ensures { served_answer result ≡ rule.placed place (carved_answer c) }
-{
-    match c {
-        Carved::Done {
-            examined,
-            removed,
-            pending,
-            face,
-            next,
-        } => Served::Done {
-            place,
-            examined,
-            removed,
-            pending,
-            face,
-            next,
-        },
-        Carved::Refused(n) => Served::Refused(n),
-    }
 }
 
 // Serves the grid at p, that is chosen: it goes to the end of the order record.
@@ -52,8 +29,8 @@ fn serve_at(
     limit: u32,
     p: usize,
 ) -> Turn
-    requires { AllHold (serve_checks marks.now limit (office_given g o dist.now status.old)) × (to_serve (office_given g o dist.now status.old) ≡ some p) }
-    ensures { outcome (served_answer result.answer) (kept result.order dist.now status.new)
+    requires { AllHold (serve_checks marks.now limit (office_given g o dist.now status.old)) × (to_serve (office_given g o dist.now status.old) ≡ Some p) }
+    ensures { outcome (replied result.answer) (kept result.order dist.now status.new)
         ≡ as_struct o (rule.serve marks.now limit (office_given g o dist.now status.old)) }
 {
     let from = serving_checks::start_of(g, p);
@@ -61,23 +38,23 @@ fn serve_at(
     let given = serving_checks::record_at(g, p);
     let place = p as u8;
     let order = order_record::served_last(o, place);
-    let answer = placed(
-        place,
-        part_carving::carve(given, dist, marks, status, from, to, limit),
-    );
-    Turn { answer, order }
+    let carving = part_carving::carve(given, dist, marks, status, from, to, limit);
+    Turn {
+        answer: Ok(Serving { place, carving }),
+        order,
+    }
 }
 
 // Serves one grid with something pending: the lowest place never served, or else the one served longest ago. A refusal writes nothing.
 pub fn serve(g: Grids, o: Order, dist: &[i32], marks: &[u8], status: &mut [u8], limit: u32) -> Turn
-    ensures { outcome (served_answer result.answer) (kept result.order dist.now status.new)
+    ensures { outcome (replied result.answer) (kept result.order dist.now status.new)
         ≡ as_struct o (rule.serve marks.now limit (office_given g o dist.now status.old)) }
 {
-    let found = choosing::look(g, o, dist, marks, status, limit);
-    let number = found.number;
-    if number != 0 {
-        let answer = Served::Refused(number);
-        return Turn { answer, order: o };
+    match choosing::look(g, o, dist, marks, status, limit) {
+        Ok(p) => serve_at(g, o, dist, marks, status, limit, p),
+        Err(refusal) => Turn {
+            answer: Err(refusal),
+            order: o,
+        },
     }
-    serve_at(g, o, dist, marks, status, limit, found.place)
 }

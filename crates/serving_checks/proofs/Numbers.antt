@@ -1,6 +1,6 @@
 -- The numbers of serve's checks, by what each check found, and what holds where none of them fails.
-use mathlib.Core.Path.{◌≡◌, ap, sym, ◌∙◌}
-use mathlib.Core.Bool.{false, not, ◌&&◌}
+use mathlib.Core.Path.{◌≡◌, ap, ap₂, sym, ◌∙◌}
+use mathlib.Core.Bool.{Bool, true, false, not, ◌&&◌}
 use mathlib.Core.List.{List}
 use Prim.Native.Nat.{ℕ, ◌≤◌}
 use lib.Dec.{leb, eqb}
@@ -8,9 +8,10 @@ use lib.IntN.{ℤ}
 use lib.ListN.{length, get_or, take}
 use lib.Seq.{take_all}
 use native.Mathlib.Omega.{arith}
-use borrow.Author.Tests.{leb-true, eqb-true}
+use native.Mathlib.Decide.{ℕ_discrete}
+use borrow.Author.Tests.{leb-true, eqb-true, eq-eqb, ne_eqb}
 use Rattle.cells.specs.Groups.{any}
-use Rattle.prelude.proofs.Bools.{and-true, not-false}
+use Rattle.prelude.proofs.Bools.{and-true, true-and, not-false}
 use Rattle.prelude.proofs.Ranges.{none_below}
 use Rattle.rules.specs.declared.Record.{Record}
 use Rattle.rules.specs.Grid.{fit_sides}
@@ -41,6 +42,20 @@ sized g few e =
 -- all parts end where the last does
 pub all-sizes : (g : Grids) → total (take g.count (sizes_of g)) ≡ total (sizes_of g)
 all-sizes g = ap total (take_all g.count (sizes_of g) (omega (arith, length-sizes g)))
+
+-- the lengths, each compared
+pub same-lengths : (d s m n : ℕ) → d ≡ n → s ≡ n → m ≡ n → not (eqb d n && (eqb s n && eqb m n)) ≡ false
+same-lengths d s m n e f g =
+    ap not (true-and (eqb d n) _ (eq-eqb d n e) (true-and (eqb s n) (eqb m n) (eq-eqb s n f) (eq-eqb m n g)))
+
+pub other-lengths : (d s m n : ℕ) → (d ≡ n → s ≡ n → m ≡ n → ⊥) → not (eqb d n && (eqb s n && eqb m n)) ≡ true
+other-lengths d s m n h = go (ℕ_discrete d n) (ℕ_discrete s n) (ℕ_discrete m n)
+  where
+    go : Dec (d ≡ n) → Dec (s ≡ n) → Dec (m ≡ n) → not (eqb d n && (eqb s n && eqb m n)) ≡ true
+    go (no f) y z = ap (λ (t : Bool). not (t && (eqb s n && eqb m n))) (ne_eqb d n f)
+    go (yes e) (no f) z = ap₂ (λ (t u : Bool). not (t && (u && eqb m n))) (eq-eqb d n e) (ne_eqb s n f)
+    go (yes e) (yes f) (no g) = ap not (ap₂ ◌&&◌ (eq-eqb d n e) (ap₂ ◌&&◌ (eq-eqb s n f) (ne_eqb m n g)))
+    go (yes e) (yes f) (yes g) = absurd (h e f g)
 
 -- and 2
 module _ (limit : ℕ) (g : Grids) (dist : List ℤ) (status marks : List ℕ)

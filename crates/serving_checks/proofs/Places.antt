@@ -1,6 +1,6 @@
 -- The grids by their places: a scan over all of them, and where the part of each lies in a buffer.
 use mathlib.Core.Path.{◌≡◌, refl, ap, ap₂, sym, ◌∙◌}
-use mathlib.Core.Bool.{Bool, false, ◌||◌}
+use mathlib.Core.Bool.{Bool}
 use mathlib.Core.List.{List, [], ◌∷◌, ◌++◌}
 use Prim.Native.Nat.{ℕ, zero, suc, ◌+◌, ◌-◌, ◌*◌, ◌≤◌, ◌<◌}
 use native.Mathlib.Omega.{arith}
@@ -10,7 +10,6 @@ use lib.ListN.{length, get_or, take, drop, length-map, get_or-map}
 use lib.Seq.{take-nil}
 use Rattle.cells.specs.Groups.{any}
 use Rattle.prelude.proofs.Lists.{any-map}
-use Rattle.prelude.proofs.Ranges.{any-run-none, scan-next}
 use Rattle.rules.specs.declared.Record.{Record}
 use Rattle.rules.specs.Grid.{range, fit_sides, size}
 use Rattle.rules.specs.Fit.{Lent}
@@ -23,22 +22,7 @@ use Rattle.office.specs.Structs.{listed, records_of}
 use Rattle.order_record.proofs.Places.{length-listed, listed_at}
 use Rattle.serving_checks.specs.Given.{sizes_of, grids_of, LaidOut}
 
--- ---- a scan
-
-module _ (at : ℕ → Bool) (n : ℕ) where
-  -- the places before p are looked at
-  pub record Scanning (p : ℕ) (found : Bool) : Type 0 where
-    pub within : p ≤ n
-    pub seen : found ≡ any at (range 0 p)
-
-  pub scanning-start : Scanning 0 false
-  scanning-start = record { within = omega arith; seen = sym (any-run-none at 0 0 refl) }
-
-  pub scanning-next : (p : ℕ) (found t : Bool) → Scanning p found → p < n → t ≡ at p → Scanning (p + 1) (found || t)
-  scanning-next p found t s h e = record { within = omega arith; seen = scan-next at p found t s.seen e }
-
-  pub scanning-done : (p : ℕ) (found : Bool) → Scanning p found → n ≤ p → found ≡ any at (range 0 n)
-  scanning-done p found s h = let e : p ≡ n = omega (arith, s.within) in s.seen ∙ ap (λ (k : ℕ). any at (range 0 k)) e
+-- ---- a test
 
 -- a test of the records is one of the places
 pub at_places : (g : Grids) (t : Record → Bool) → any t (records_of g) ≡ any (λ p. t (get_or g.records p no_record)) (range 0 g.count)
@@ -93,22 +77,20 @@ module _ (g : Grids) (p : ℕ) (below : p < g.count) where
       ∙ ap (λ (r : Record). size r.sides) (listed_at no_record g.count g.records p below)
 
 -- the sum of the sizes before k, and how large it gets
-pub record Summing (g : Grids) (p k from : ℕ) : Type 0 where
-  pub within : k ≤ p
+pub record Summing (g : Grids) (k from : ℕ) : Type 0 where
   pub sum : from ≡ total (take k (sizes_of g))
   pub bound : from ≤ 262144 * k
 
-pub summing_start : (g : Grids) (p : ℕ) → Summing g p 0 0
+pub summing_start : (g : Grids) → Summing g 0 0
 unfolding total
-summing_start g p = record { within = omega arith; sum = refl; bound = omega arith }
+summing_start g = record { sum = refl; bound = omega arith }
 
-pub summing-next : (g : Grids) (p k from n : ℕ) → Summing g p k from → k < p → p ≤ g.count → n ≡ size (get_or g.records k no_record).sides → n ≤ 262144
-    → Summing g p (k + 1) (from + n)
-summing-next g p k from n s h q is few =
+pub summing-next : (g : Grids) (k from n : ℕ) → Summing g k from → k < g.count → n ≡ size (get_or g.records k no_record).sides → n ≤ 262144
+    → Summing g (k + 1) (from + n)
+summing-next g k from n s h is few =
     record {
-      within = omega arith;
       sum =
-          ap₂ ◌+◌ s.sum (is ∙ sym (size-at g k (omega arith))) ∙ sym (total-more (sizes_of g) k)
+          ap₂ ◌+◌ s.sum (is ∙ sym (size-at g k h)) ∙ sym (total-more (sizes_of g) k)
           ∙ ap (λ (m : ℕ). total (take m (sizes_of g))) (sym (add-one k));
       bound = omega (arith, s.bound);
     }

@@ -1,19 +1,20 @@
 // The checks of serve, document 02's CR 14: 34, then carve's checks, each made on all grids before the next, with the order record's 7.
 #![tactic(auto)]
 
-ghost use Rattle.std.specs.Prelude.{◌≡◌, not, ◌≤◌, ◌<◌, get_or, take};
+ghost use Rattle.std.specs.Prelude.{◌≡◌, not, ◌&&◌, ◌≤◌, ◌<◌, get_or, take};
 ghost use Rattle.cells.specs.Groups.{any};
 ghost use Rattle.rules.specs.declared.Record.{Record};
 ghost use Rattle.rules.specs.Grid.{range, fit_sides};
 ghost use Rattle.rules.specs.Checks.{first_failing};
+ghost use Rattle.rules.specs.Refusals.{number_in};
 ghost use Rattle.rules.specs.Machine.{unfit};
 ghost use Rattle.office.specs.Parts.{total};
-ghost use Rattle.office.specs.Serve.{no_record, grid_at};
+ghost use Rattle.office.specs.Serve.{no_record, within, grid_at};
 ghost use Rattle.office.specs.Structs.{records_of};
 ghost use Rattle.serving_checks.specs.Given.{sizes_of, grids_of, Sized, LaidOut, layout_checks, grid_checks};
 
 use office::{Grids, Order};
-use rules::Record;
+use rules::{Record, Refusal};
 
 // The record of the grid at p.
 pub fn record_at(g: Grids, p: usize) -> Record
@@ -28,14 +29,9 @@ fn unfit_sides(g: Grids) -> bool
     requires { g.count ≤ 16 }
     ensures { result ≡ any (λ (given : Record). not (fit_sides given.sides)) (records_of g) }
 {
-    let mut found = false;
-    let mut p: usize = 0;
-    while p < g.count {
-        let r = record_at(g, p);
-        found = found | !sizes::fit_sides(r.sides);
-        p += 1;
-    }
-    found
+    g.records[..g.count]
+        .iter()
+        .any(|given| !sizes::fit_sides(given.sides))
 }
 
 // Whether some grid is finished.
@@ -43,14 +39,7 @@ fn any_finished(g: Grids) -> bool
     requires { g.count ≤ 16 }
     ensures { result ≡ any (λ (given : Record). given.finished) (records_of g) }
 {
-    let mut found = false;
-    let mut p: usize = 0;
-    while p < g.count {
-        let r = record_at(g, p);
-        found = found | r.finished;
-        p += 1;
-    }
-    found
+    g.records[..g.count].iter().any(|given| given.finished)
 }
 
 // Where the part of the grid at p starts, in a buffer of all grids laid end to end: at the sum of the sizes before it.
@@ -58,31 +47,41 @@ pub fn start_of(g: Grids, p: usize) -> usize
     requires { Sized g × (p ≤ g.count) }
     ensures { result ≡ total (take p (sizes_of g)) }
 {
-    let mut from: usize = 0;
-    let mut k: usize = 0;
-    while k < p {
-        let r = record_at(g, k);
-        from = from + sizes::voxel_count(r.sides);
-        k += 1;
+    let mut from = 0;
+    for given in &g.records[..p] {
+        from += sizes::voxel_count(given.sides);
     }
     from
 }
 
-// Numbers 34, 1 and 2, of a limit and of buffers of these lengths: the number of the first that fails, or 0.
-fn layout_refusal(g: Grids, limit: u32, dist: usize, status: usize, marks: usize) -> u8
-    ensures { result ≡ first_failing (layout_checks limit g dist status marks) }
+// Whether a limit and a number of grids are in range.
+fn in_range(limit: u32, count: usize) -> bool
+    ensures { result ≡ within 1 1000 limit && within 1 16 count }
 {
-    if !(((1 <= limit) & (limit <= 1000)) & ((1 <= g.count) & (g.count <= 16))) {
-        return 34;
+    (1..=1000).contains(&limit) && (1..=16).contains(&count)
+}
+
+// Numbers 34, 1 and 2, of a limit and of buffers of these lengths: the first that fails.
+fn layout_refusal(
+    g: Grids,
+    limit: u32,
+    dist: usize,
+    status: usize,
+    marks: usize,
+) -> Result<(), Refusal>
+    ensures { number_in result ≡ first_failing (layout_checks limit g dist status marks) }
+{
+    if !in_range(limit, g.count) {
+        return Err(Refusal::Office);
     }
     if unfit_sides(g) {
-        return 1;
+        return Err(Refusal::Side);
     }
     let n = start_of(g, g.count);
-    if !((dist == n) & ((status == n) & (marks == n))) {
-        return 2;
+    if dist != n || status != n || marks != n {
+        return Err(Refusal::Length);
     }
-    0
+    Ok(())
 }
 
 // Whether the grid at p is unfit, in its own part of the buffers.
@@ -101,31 +100,34 @@ fn unfit_grids(g: Grids, dist: &[i32], status: &[u8]) -> bool
     requires { LaidOut g dist.now status.now }
     ensures { result ≡ any (λ p. unfit (grid_at (grids_of g dist.now status.now) p)) (range 0 g.count) }
 {
-    let mut found = false;
-    let mut p: usize = 0;
-    while p < g.count {
-        found = found | unfit_at(g, dist, status, p);
-        p += 1;
+    for p in 0..g.count {
+        if unfit_at(g, dist, status, p) {
+            return true;
+        }
     }
-    found
+    false
 }
 
-// The number of the first check that fails, of all but 35, or 0.
-pub fn refusal(g: Grids, o: Order, dist: &[i32], marks: &[u8], status: &[u8], limit: u32) -> u8
-    ensures { result ≡ first_failing (grid_checks marks.now limit g o dist.now status.now) }
+// The first check that fails, of all but 35.
+pub fn refusal(
+    g: Grids,
+    o: Order,
+    dist: &[i32],
+    marks: &[u8],
+    status: &[u8],
+    limit: u32,
+) -> Result<(), Refusal>
+    ensures { number_in result ≡ first_failing (grid_checks marks.now limit g o dist.now status.now) }
 {
-    let number = layout_refusal(g, limit, dist.len(), status.len(), marks.len());
-    if number != 0 {
-        return number;
-    }
-    if unfit_grids(g, dist, status) | order_record::unfit(o, g.count) {
-        return 7;
+    layout_refusal(g, limit, dist.len(), status.len(), marks.len())?;
+    if unfit_grids(g, dist, status) || order_record::unfit(o, g.count) {
+        return Err(Refusal::Unfit);
     }
     if marks::stray(marks) {
-        return 29;
+        return Err(Refusal::MarkByte);
     }
     if any_finished(g) {
-        return 8;
+        return Err(Refusal::Finished);
     }
-    0
+    Ok(())
 }

@@ -9,13 +9,13 @@ use rules::Sides;
 fn fit_side(n: usize) -> bool
     ensures { result ≡ fit_side n }
 {
-    (3 <= n) & (n <= 64)
+    (3..=64).contains(&n)
 }
 
 pub fn fit_sides(s: Sides) -> bool
     ensures { result ≡ fit_sides s }
 {
-    fit_side(s.a) & (fit_side(s.b) & fit_side(s.c))
+    fit_side(s.a) && fit_side(s.b) && fit_side(s.c)
 }
 
 // n

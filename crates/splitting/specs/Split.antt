@@ -54,17 +54,16 @@ pub record Near (n m i own x y z : ℕ) : Type 0 where
   pub z-in : z < m
 
 -- so many blocks of a row, with one before and one after, and the two voxels of each
-pub record Paired (n distances m first own beside above count : ℕ) : Type 0 where
-  pub room : first + 2 * count ≤ n
+pub record Paired (n distances m own beside above count : ℕ) : Type 0 where
+  pub room : 2 * count ≤ n
   pub measured : distances ≡ n
   pub own-low : 1 ≤ own
   pub own_in : own + count < m
   pub beside-in : beside + count ≤ m
   pub above_in : above + count ≤ m
 
--- voxel k of the row that begins at first
-unfoldable pub pair_byte : List ℤ → List ℕ → ℕ → ℕ → ℕ → ℕ → ℕ → ℕ
-pair_byte dist blocks first own beside above k =
-    let x : ℕ = k - first in
+-- voxel x of a row
+unfoldable pub pair_byte : List ℤ → List ℕ → ℕ → ℕ → ℕ → ℕ → ℕ
+pair_byte dist blocks own beside above x =
     byte_by (is_kept blocks (own + x / 2))
-    (not (is_kept blocks (above + x / 2) && (is_kept blocks (beside + x / 2) && is_kept blocks (own + x / 2 + x % 2 * 2 - 1)))) (is_inside dist k)
+    (not (is_kept blocks (above + x / 2) && (is_kept blocks (beside + x / 2) && is_kept blocks (own + x / 2 + x % 2 * 2 - 1)))) (is_inside dist x)

@@ -21,13 +21,13 @@ pub fn is_pending(x: u8) -> bool
 pub fn kept_bit(x: u8) -> u64
     ensures { (result ≡ bit (kept_byte x)) × (result ≤ 1) }
 {
-    is_kept(x) as u64
+    u64::from(is_kept(x))
 }
 
 pub fn pending_bit(x: u8) -> u64
     ensures { (result ≡ bit (pending_byte x)) × (result ≤ 1) }
 {
-    is_pending(x) as u64
+    u64::from(is_pending(x))
 }
 
 // The byte made pending, whether it was or not.
@@ -50,8 +50,5 @@ pub fn left(gone: bool, x: u8) -> u8
     requires { pending_byte x ≡ true }
     ensures { result ≡ cond gone 0 (rested x) }
 {
-    if gone {
-        return 0;
-    }
-    rested(x)
+    if gone { 0 } else { rested(x) }
 }

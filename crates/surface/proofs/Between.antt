@@ -1,7 +1,7 @@
 -- Two distances, as the code reads and tests them: each way through `crossing_at` gives the rule's answer.
 use mathlib.Core.Path.{◌≡◌, refl, sym, ap, ap₂, ◌∙◌}
 use mathlib.Core.Bool.{Bool, true, false, true≢false}
-use mathlib.Core.Option.{none, some}
+use Rattle.std.specs.Prelude.{None, Some}
 use Prim.Native.Nat.{ℕ}
 use lib.IntN.{ℤ, pos, negsuc, nat_abs}
 use lib.Signed.{lt_z}
@@ -16,14 +16,14 @@ use Rattle.surface.specs.Surface.{next, point_from, crossing_of}
 -- ---- by the signs of both
 
 module _ (axis : ℕ) (v : Voxel) where
-  pub same_sign : (u w : ℤ) → is_negative u ≡ is_negative w → none ≡ crossing_of axis v u w
+  pub same_sign : (u w : ℤ) → is_negative u ≡ is_negative w → None ≡ crossing_of axis v u w
   unfolding crossing_of
   same_sign (pos p) (pos q) e = refl
   same_sign (pos p) (negsuc q) e = absurd (true≢false (sym e))
   same_sign (negsuc p) (pos q) e = absurd (true≢false e)
   same_sign (negsuc p) (negsuc q) e = refl
 
-  here-negative : (u w : ℤ) → is_negative u ≡ true → is_negative w ≡ false → some (point_from axis true v (nat_abs u) (nat_abs w)) ≡ crossing_of axis v u w
+  here-negative : (u w : ℤ) → is_negative u ≡ true → is_negative w ≡ false → Some (point_from axis true v (nat_abs u) (nat_abs w)) ≡ crossing_of axis v u w
   unfolding crossing_of
   here-negative (pos p) w h k = absurd (true≢false (sym h))
   here-negative (negsuc p) (negsuc q) h k = absurd (true≢false k)
@@ -33,7 +33,7 @@ module _ (axis : ℕ) (v : Voxel) where
       (u w : ℤ)
       → is_negative u ≡ false
       → is_negative w ≡ true
-      → some (point_from axis false (next axis v) (nat_abs w) (nat_abs u)) ≡ crossing_of axis v u w
+      → Some (point_from axis false (next axis v) (nat_abs w) (nat_abs u)) ≡ crossing_of axis v u w
   unfolding crossing_of
   there-negative (negsuc p) w h k = absurd (true≢false h)
   there-negative (pos q) (pos p) h k = absurd (true≢false (sym k))
@@ -51,12 +51,12 @@ pub sign : {d : ℤ} {t : Bool} → SFits w32 d → Sign d t → is_negative d �
 sign F e = sym (held-negative F) ∙ e
 
 module _ (axis : ℕ) (v : Voxel) (u w : ℤ) (F : SFits w32 u) (G : SFits w32 w) where
-  pub neither : (t : Bool) → Sign u t → Sign w t → none ≡ crossing_of axis v u w
+  pub neither : (t : Bool) → Sign u t → Sign w t → None ≡ crossing_of axis v u w
   neither t h k = same_sign axis v u w (sign F h ∙ sym (sign G k))
 
-  pub from-here : (r : Point) → Sign u true → Sign w false → r ≡ point_from axis true v (nat_abs (held u)) (nat_abs (held w)) → some r ≡ crossing_of axis v u w
+  pub from-here : (r : Point) → Sign u true → Sign w false → r ≡ point_from axis true v (nat_abs (held u)) (nat_abs (held w)) → Some r ≡ crossing_of axis v u w
   from-here r h k e =
-      ap some (e ∙ ap₂ (λ (x y : ℤ). point_from axis true v (nat_abs x) (nat_abs y)) (to_z-of_z F) (to_z-of_z G))
+      ap Some (e ∙ ap₂ (λ (x y : ℤ). point_from axis true v (nat_abs x) (nat_abs y)) (to_z-of_z F) (to_z-of_z G))
       ∙ here-negative axis v u w (sign F h) (sign G k)
 
   -- n is the next voxel, as the code finds it
@@ -66,7 +66,7 @@ module _ (axis : ℕ) (v : Voxel) (u w : ℤ) (F : SFits w32 u) (G : SFits w32 w
       → Sign u false
       → Sign w true
       → r ≡ point_from axis false n (nat_abs (held w)) (nat_abs (held u))
-      → some r ≡ crossing_of axis v u w
+      → Some r ≡ crossing_of axis v u w
   from_next n r m h k e =
-      ap some (e ∙ (λ t. point_from axis false (m t) (nat_abs (to_z-of_z G t)) (nat_abs (to_z-of_z F t))))
+      ap Some (e ∙ (λ t. point_from axis false (m t) (nat_abs (to_z-of_z G t)) (nat_abs (to_z-of_z F t))))
       ∙ there-negative axis v u w (sign F h) (sign G k)

@@ -2,7 +2,7 @@
 use mathlib.Core.Path.{◌≡◌, refl, sym, subst}
 use mathlib.Core.Bool.{Bool, true, false}
 use mathlib.Core.List.{List}
-use mathlib.Core.Option.{Option, none, some}
+use Rattle.std.specs.Prelude.{Option, None, Some}
 use Prim.Native.Nat.{ℕ, zero, suc, ◌+◌, ◌^◌, ◌≤◌, ◌<◌}
 use native.Mathlib.Nat.{le_trans, le-add_right, lt_of_lt_of_le, zero-lt-suc}
 use native.Mathlib.Omega.{arith}
@@ -79,7 +79,7 @@ module _ (axis : ℕ) (v : Voxel) (room : coordinate axis v ≤ 62) where
       (subst (λ (t : Float). Near t n (suc p + q)) (sym (along-point axis higher u (suc p) q))
       (moved-near higher (coordinate axis u) (suc p) q (zero-lt-suc p) (few p q P Q) h))
 
-  crossing_of-bounded : (here there : ℤ) → Word here → Word there → (r : Point) → crossing_of axis v here there ≡ some r → Bounded axis v here there r
+  crossing_of-bounded : (here there : ℤ) → Word here → Word there → (r : Point) → crossing_of axis v here there ≡ Some r → Bounded axis v here there r
   unfolding crossing_of
   crossing_of-bounded (negsuc p) (pos q) H T r e = point_from-bounded true v p q room H T r (cc)
   crossing_of-bounded (pos q) (negsuc p) H T r e =
@@ -100,5 +100,5 @@ module _ (s : Sides) (dist : List ℤ) (i axis : ℕ) (has : HasNext s i axis) w
   crossing_at-bounded H T = go (crossing_at s dist i axis) refl
     where
       go : (o : Option Point) → crossing_at s dist i axis ≡ o → BoundedAt s dist i axis o
-      go none e = tt
-      go (some r) e = crossing_of-bounded axis (voxel s i) room (distance_at dist i) (distance_at dist (next_index s i axis)) H T r e
+      go None e = tt
+      go (Some r) e = crossing_of-bounded axis (voxel s i) room (distance_at dist i) (distance_at dist (next_index s i axis)) H T r e

@@ -1,5 +1,5 @@
 -- Crossing's own checks: their number by what the code found, and what holds where none fails.
-use mathlib.Core.Path.{◌≡◌, refl, sym, ◌∙◌}
+use mathlib.Core.Path.{◌≡◌, sym, ◌∙◌}
 use mathlib.Core.Bool.{Bool, true, false, ◌||◌}
 use mathlib.Core.List.{[], ◌∷◌}
 use Prim.Native.Nat.{ℕ, ◌≤◌, ◌<◌}
@@ -10,7 +10,7 @@ use Rattle.rules.specs.declared.Sides.{Sides}
 use Rattle.rules.specs.Grid.{size}
 use Rattle.rules.specs.Checks.{◌when◌, first_failing, AllHold}
 use Rattle.rules.specs.Machine.{State, finished_checks}
-use Rattle.rules.proofs.Checks.{fails-first, holds-first, all_hold, hold-append, held_at}
+use Rattle.rules.proofs.Checks.{fails-first, holds-first, hold-append, held_at}
 use Rattle.rules.proofs.Fit.{ended}
 use Rattle.surface.specs.Surface.{no_next, next_checks, crossing_checks, Crossable}
 
@@ -45,6 +45,3 @@ crossable-held i axis g h =
       low = ltb-false _ _ six.0;
       next = record { fit = e.fit.voxels.lent.sides; here = leb-false (size s) i (held 5); there = leb-false _ _ six.1 };
     }
-
-pub crossable : (i axis : ℕ) (g : State) (n : ℕ) → n ≡ first_failing (crossing_checks i axis g) → n ≡ 0 → Crossable i axis g
-crossable i axis g n f z = crossable-held i axis g (all_hold (crossing_checks i axis g) refl (sym f ∙ z))

@@ -1,6 +1,6 @@
 -- The bound for every grid that begin takes: 32 bits hold its distances.
 use mathlib.Core.Path.{◌≡◌, subst}
-use mathlib.Core.Option.{Option}
+use Rattle.std.specs.Prelude.{Option}
 use Prim.Native.Nat.{ℕ, ◌≤◌}
 use native.Mathlib.Omega.{arith}
 use lib.IntN.{ℤ, pos, negsuc, nat_abs}

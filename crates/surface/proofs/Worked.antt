@@ -1,7 +1,7 @@
 -- Crossing by computation: case A of document 01 after finish, distances as far apart as 32 bits allow, and each of its own numbers.
 use mathlib.Core.Path.{◌≡◌, refl}
 use mathlib.Core.Bool.{Bool, true, false}
-use mathlib.Core.Option.{Option, none, some}
+use Rattle.std.specs.Prelude.{Option, None, Some}
 use Prim.Native.Nat.{ℕ}
 use lib.IntN.{ℤ, pos, negsuc}
 use lib.Ieee.{Float, fin, add, sub, div, of_int}
@@ -47,7 +47,7 @@ abbrev pub one : Float
 one = double 1 (pos 0)
 
 abbrev point : Float → Float → Float → Reply (Option Point)
-point x y z = done (some (record { x = x; y = y; z = z }))
+point x y z = done (Some (record { x = x; y = y; z = z }))
 
 -- ---- case A, after finish
 
@@ -64,7 +64,7 @@ pub backwards : (crossing 10 1 case_a).answer ≡ point one (double 1 (negsuc 0)
 unfolding rule
 backwards = refl
 
-pub nowhere : (crossing 0 2 case_a).answer ≡ done none
+pub nowhere : (crossing 0 2 case_a).answer ≡ done None
 unfolding rule
 nowhere = refl
 

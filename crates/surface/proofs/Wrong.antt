@@ -1,7 +1,7 @@
 -- Crossings by another rule give another point, or another number: by computation, each on one input that tells the two apart.
 use mathlib.Core.Path.{◌≡◌, refl, ap}
 use mathlib.Core.Bool.{false}
-use mathlib.Core.Option.{Option, none, some}
+use Rattle.std.specs.Prelude.{Option, None, Some}
 use Prim.Native.Nat.{ℕ}
 use native.Mathlib.Omega.{arith}
 use lib.IntN.{pos, negsuc}
@@ -16,8 +16,8 @@ use Rattle.surface.proofs.Worked.{rule, grid, case_a}
 
 -- the digits of a point's z
 digits : Option Point → ℕ
-digits none = 0
-digits (some p) = of p.z
+digits None = 0
+digits (Some p) = of p.z
   where
     of : Float → ℕ
     of nan = 0

@@ -1,6 +1,5 @@
 -- Document 02's CR 5, "The bound on surface points covers the longer range as well".
-use Rattle.std.specs.Prelude.{◌≡◌, List, ℕ}
-use Rattle.std.proofs.Math.Option.{Option}
+use Rattle.std.specs.Prelude.{◌≡◌, List, ℕ, Option}
 use Rattle.rules.specs.Answer.{done}
 use Rattle.rules.specs.Demand.{EveryBegun, Call, run}
 use Rattle.surface.specs.declared.Point.{Point}

@@ -1,6 +1,5 @@
 -- Document 01, "Surface points": crossing, and the bound on its changed coordinate, which document 02's CR 5 asks for over the longer range too.
-use Rattle.std.specs.Prelude.{◌≡◌, Bool, true, false, ◌||◌, List, [], ◌∷◌, ◌++◌, ℕ, zero, suc, ◌+◌, ◌-◌, ◌*◌, ◌^◌, ◌≤◌, ◌<◌, leb, ltb, ℤ, pos, negsuc, Float}
-use Rattle.std.proofs.Math.Option.{Option, none, some}
+use Rattle.std.specs.Prelude.{◌≡◌, Bool, true, false, ◌||◌, List, [], ◌∷◌, ◌++◌, ℕ, zero, suc, ◌+◌, ◌-◌, ◌*◌, ◌^◌, ◌≤◌, ◌<◌, leb, ltb, ℤ, pos, negsuc, Float, Option, None, Some}
 use Rattle.std.specs.Float.{nan, inf, fin, binary64}
 use Rattle.std.specs.Float.Ieee.{up, down, add, sub, div, of_int}
 use Rattle.rules.specs.declared.Sides.{Sides}
@@ -56,10 +55,10 @@ point_from axis higher v p q =
 
 -- from v, of worked distance `here`, to the next voxel along the axis, of worked distance `there`
 unfoldable pub crossing_of : ℕ → Voxel → ℤ → ℤ → Option Point
-crossing_of axis v (negsuc p) (pos q) = some (point_from axis true v (suc p) q)
-crossing_of axis v (pos q) (negsuc p) = some (point_from axis false (next axis v) (suc p) q)
-crossing_of axis v (negsuc p) (negsuc q) = none
-crossing_of axis v (pos p) (pos q) = none
+crossing_of axis v (negsuc p) (pos q) = Some (point_from axis true v (suc p) q)
+crossing_of axis v (pos q) (negsuc p) = Some (point_from axis false (next axis v) (suc p) q)
+crossing_of axis v (negsuc p) (negsuc q) = None
+crossing_of axis v (pos p) (pos q) = None
 
 -- the next voxel's index
 unfoldable pub next_index : Sides → ℕ → ℕ → ℕ
@@ -88,8 +87,8 @@ crossing i axis g =
     unless (crossing_checks i axis g) (untouched (lent_to g)) (outcome (done (crossing_at g.rec.sides g.dist i axis)) (lent_to g))
 
 abbrev pub crossed_answer : Crossed → Reply (Option Point)
-crossed_answer Crossed.Nowhere = done none
-crossed_answer (Crossed.At p) = done (some p)
+crossed_answer Crossed.Nowhere = done None
+crossed_answer (Crossed.At p) = done (Some p)
 crossed_answer (Crossed.Refused n) = refused n
 
 -- ---- what holds where no check fails, by name
@@ -130,5 +129,5 @@ Bounded axis v (pos p) (pos q) r = ⊥
 -- what crossing answers where it does not refuse: a point lies within the bound. The code ensures it of any two distances of 32 bits, and so of all
 -- that begin can leave: document 02's CR 5, "The bound on surface points covers the longer range as well". LongRange.antt says it of whole grids.
 abbrev pub BoundedAt : Sides → List ℤ → ℕ → ℕ → Option Point → Type 0
-BoundedAt s dist i axis none = Unit
-BoundedAt s dist i axis (some r) = Bounded axis (voxel s i) (distance_at dist i) (distance_at dist (next_index s i axis)) r
+BoundedAt s dist i axis None = Unit
+BoundedAt s dist i axis (Some r) = Bounded axis (voxel s i) (distance_at dist i) (distance_at dist (next_index s i axis)) r

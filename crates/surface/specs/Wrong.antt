@@ -1,6 +1,5 @@
 -- Crossings by another rule: each gives another point, or another number, on some grid. proofs/Wrong.antt shows it by computation.
-use Rattle.std.specs.Prelude.{◌≡◌, true, false, not, ◌||◌, List, [], ◌∷◌, ◌++◌, ℕ, suc, ◌+◌, leb, ltb, ℤ, pos, negsuc}
-use Rattle.std.proofs.Math.Option.{Option, none, some}
+use Rattle.std.specs.Prelude.{◌≡◌, true, false, not, ◌||◌, List, [], ◌∷◌, ◌++◌, ℕ, suc, ◌+◌, leb, ltb, ℤ, pos, negsuc, Option, None, Some}
 use Rattle.rules.specs.Grid.{Voxel, voxel, size}
 use Rattle.rules.specs.Checks.{Check, ◌when◌, first_failing}
 use Rattle.rules.specs.Answer.{Answers}
@@ -15,17 +14,17 @@ OtherPoint other = ((axis : ℕ) (v : Voxel) (here there : ℤ) → crossing_of 
 
 -- from the nearer voxel, 1 - t added, in place of t subtracted from the negative one
 abbrev pub from_the_nearer : ℕ → Voxel → ℤ → ℤ → Option Point
-from_the_nearer axis v (negsuc p) (pos q) = some (point_from axis true v (suc p) q)
-from_the_nearer axis v (pos q) (negsuc p) = some (point_from axis true v q (suc p))
-from_the_nearer axis v (negsuc p) (negsuc q) = none
-from_the_nearer axis v (pos p) (pos q) = none
+from_the_nearer axis v (negsuc p) (pos q) = Some (point_from axis true v (suc p) q)
+from_the_nearer axis v (pos q) (negsuc p) = Some (point_from axis true v q (suc p))
+from_the_nearer axis v (negsuc p) (negsuc q) = None
+from_the_nearer axis v (pos p) (pos q) = None
 
 -- t is q / (p + q)
 abbrev pub share_of_the_other : ℕ → Voxel → ℤ → ℤ → Option Point
-share_of_the_other axis v (negsuc p) (pos q) = some (point_from axis true v q (suc p))
-share_of_the_other axis v (pos q) (negsuc p) = some (point_from axis false (next axis v) q (suc p))
-share_of_the_other axis v (negsuc p) (negsuc q) = none
-share_of_the_other axis v (pos p) (pos q) = none
+share_of_the_other axis v (negsuc p) (pos q) = Some (point_from axis true v q (suc p))
+share_of_the_other axis v (pos q) (negsuc p) = Some (point_from axis false (next axis v) q (suc p))
+share_of_the_other axis v (negsuc p) (negsuc q) = None
+share_of_the_other axis v (pos p) (pos q) = None
 
 -- ---- its numbers: 1, 2, 7, 9, 5, 6
 

@@ -2,17 +2,18 @@
 #![tactic(auto)]
 
 ghost use Rattle.std.specs.Prelude.{◌≡◌, true, ◌||◌, ◌+◌, ◌<◌, ◌≤◌, ltb, nat_abs, length};
-ghost use Rattle.std.proofs.Math.Option.{Option};
+ghost use Rattle.std.specs.Prelude.{Option};
+ghost use Rattle.surface.specs.declared.Point.{Point};
 ghost use Rattle.rules.specs.Grid.{voxel, size, fit_sides};
 ghost use Rattle.rules.specs.Checks.{first_failing};
 ghost use Rattle.rules.specs.Answer.{done, outcome, buffers};
+ghost use Rattle.rules.specs.Refusals.{number_in};
 ghost use Rattle.rules.specs.Machine.{state};
-ghost use Rattle.surface.specs.declared.Point.{Point};
 ghost use Rattle.surface.specs.Surface.{along, whole, share, moved, point_from, crossing_at, no_next};
 ghost use Rattle.surface.specs.Surface.{crossing_checks, crossing, crossed_answer, HasNext, BoundedAt};
 ghost use Rattle.surface.specs.Coordinates.{voxel_of, UpTo, stride};
 
-use rules::{Record, Sides};
+use rules::{Record, Refusal, Sides};
 
 #[repr(C)]
 #[derive(Clone, Copy)]
@@ -22,7 +23,7 @@ pub struct Point {
     pub z: f64,
 }
 
-// No crossing, a point, or a refusal's number.
+// No crossing, a point, or a refusal's number: document 01 names this form, an enum whose point case carries doubles beside a refusal case.
 #[derive(Clone, Copy)]
 pub enum Crossed {
     Nowhere,
@@ -71,21 +72,17 @@ fn point_from(axis: u32, higher: bool, v: Coordinates, p: u64, q: u64) -> Point
     requires { UpTo 63 v × (p + q ≤ 4294967296) }
     ensures { result ≡ point_from axis higher (voxel_of v) p q }
 {
-    let mut r = Point {
+    let mut point = Point {
         x: whole(v.x),
         y: whole(v.y),
         z: whole(v.z),
     };
-    if axis == 0 {
-        r.x = moved(higher, v.x, p, q);
-        return r;
+    match axis {
+        0 => point.x = moved(higher, v.x, p, q),
+        1 => point.y = moved(higher, v.y, p, q),
+        _ => point.z = moved(higher, v.z, p, q),
     }
-    if axis == 1 {
-        r.y = moved(higher, v.y, p, q);
-        return r;
-    }
-    r.z = moved(higher, v.z, p, q);
-    r
+    point
 }
 
 // ---- voxels
@@ -94,13 +91,11 @@ fn point_from(axis: u32, higher: bool, v: Coordinates, p: u64, q: u64) -> Point
 fn along(axis: u32, x: usize, y: usize, z: usize) -> usize
     ensures { result ≡ along axis x y z }
 {
-    if axis == 0 {
-        return x;
+    match axis {
+        0 => x,
+        1 => y,
+        _ => z,
     }
-    if axis == 1 {
-        return y;
-    }
-    z
 }
 
 fn coordinates_of(sides: Sides, i: usize) -> Coordinates
@@ -131,7 +126,7 @@ pub fn beyond(sides: Sides, i: usize, axis: u32) -> bool
     let v = coordinates_of(sides, i);
     let end = along(axis, sides.a, sides.b, sides.c);
     let at = along(axis, v.x, v.y, v.z);
-    (2 < axis) | (end <= at + 1)
+    2 < axis || end <= at + 1
 }
 
 // ---- the crossing
@@ -149,48 +144,45 @@ fn point_between(
     ensures { result ≡ point_from axis higher (voxel sides k) (nat_abs inside) (nat_abs outside) }
 {
     let v = coordinates_of(sides, k);
-    let p = numbers::magnitude(inside);
-    let q = numbers::magnitude(outside);
+    let p = u64::from(inside.unsigned_abs());
+    let q = u64::from(outside.unsigned_abs());
     point_from(axis, higher, v, p, q)
 }
 
 // From the voxel of index i, which has a next one along the axis. No status is looked at.
-pub fn crossing_at(sides: Sides, dist: &[i32], i: usize, axis: u32) -> Crossed
+pub fn crossing_at(sides: Sides, dist: &[i32], i: usize, axis: u32) -> Option<Point>
     requires { HasNext sides i axis × (length dist.now ≡ size sides) }
-    ensures result_value { crossed_answer result ≡ done (crossing_at sides dist.now i axis) }
-    ensures bounded_at { (o : Option Point) → crossed_answer result ≡ done o → BoundedAt sides dist.now i axis o }
+    ensures result_value { result ≡ crossing_at sides dist.now i axis }
+    ensures bounded_at { BoundedAt sides dist.now i axis result }
 {
     let j = i + stride(sides, axis);
     let here = dist[i];
     let there = dist[j];
-    if here < 0 {
-        if there < 0 {
-            return Crossed::Nowhere;
-        }
-        return Crossed::At(point_between(axis, true, sides, i, here, there));
+    match (here < 0, there < 0) {
+        (true, false) => Some(point_between(axis, true, sides, i, here, there)),
+        (false, true) => Some(point_between(axis, false, sides, j, there, here)),
+        (true, true) | (false, false) => None,
     }
-    if there < 0 {
-        return Crossed::At(point_between(axis, false, sides, j, there, here));
-    }
-    Crossed::Nowhere
 }
 
-// The number of the first check that fails, or 0.
-fn crossing_refusal(given: Record, dist: &[i32], status: &[u8], index: usize, axis: u32) -> u8
-    ensures { result ≡ first_failing (crossing_checks index axis (state given dist.now status.now)) }
+// The checks of crossing, the first that fails.
+fn crossing_refusal(
+    given: Record,
+    dist: &[i32],
+    status: &[u8],
+    index: usize,
+    axis: u32,
+) -> Result<(), Refusal>
+    ensures { number_in result ≡ first_failing (crossing_checks index axis (state given dist.now status.now)) }
 {
-    let n = fitness::finished_refusal(given, dist, status);
-    if n != 0 {
-        return n;
+    fitness::finished_refusal(given, dist, status)?;
+    if sizes::voxel_count(given.sides) <= index {
+        return Err(Refusal::Index);
     }
-    let sides = given.sides;
-    if sizes::voxel_count(sides) <= index {
-        return 5;
+    if beyond(given.sides, index, axis) {
+        return Err(Refusal::Axis);
     }
-    if beyond(sides, index, axis) {
-        return 6;
-    }
-    0
+    Ok(())
 }
 
 // Crossing, from the voxel of that index to the next along the axis.
@@ -199,10 +191,11 @@ pub fn crossing(given: Record, dist: &[i32], status: &[u8], index: usize, axis: 
         ≡ crossing index axis (state given dist.now status.now) }
     ensures bounded_at { (o : Option Point) → crossed_answer result ≡ done o → BoundedAt given.sides dist.now index axis o }
 {
-    let n = crossing_refusal(given, dist, status, index, axis);
-    if n != 0 {
-        return Crossed::Refused(n);
+    if let Err(refusal) = crossing_refusal(given, dist, status, index, axis) {
+        return Crossed::Refused(u8::from(refusal));
     }
-    let sides = given.sides;
-    crossing_at(sides, dist, index, axis)
+    match crossing_at(given.sides, dist, index, axis) {
+        Some(point) => Crossed::At(point),
+        None => Crossed::Nowhere,
+    }
 }

@@ -9,13 +9,12 @@ use rules::{Record, Sides};
 use surface::Crossed;
 
 // The answer is the point with these coordinates.
-fn is_point(c: Crossed, x: f64, y: f64, z: f64) -> bool
-    ensures { result ≡ is_point x y z (crossed_answer c) }
+fn is_point(answer: Crossed, x: f64, y: f64, z: f64) -> bool
+    ensures { result ≡ is_point x y z (crossed_answer answer) }
 {
-    match c {
-        Crossed::At(p) => (p.x == x) & ((p.y == y) & (p.z == z)),
-        Crossed::Nowhere => false,
-        Crossed::Refused(_) => false,
+    match answer {
+        Crossed::At(p) => p.x == x && p.y == y && p.z == z,
+        Crossed::Nowhere | Crossed::Refused(_) => false,
     }
 }
 

@@ -1,16 +1,15 @@
 -- One way through a slab: what holds when t positions have had their turn. The positions come through a map, so that upwards and
 -- downwards are one law.
-use mathlib.Core.Path.{◌≡◌, refl, sym, ap, ◌∙◌, subst, subst₂}
+use mathlib.Core.Path.{◌≡◌, refl, ap, ◌∙◌, subst}
 use mathlib.Core.Logic.{◌⊎◌, inl, inr, ⊎_elim}
 use mathlib.Core.Bool.{Bool, true, false}
 use mathlib.Core.List.{List}
 use Prim.Native.Nat.{ℕ, zero, suc, ◌+◌, ◌-◌, ◌*◌, ◌≤◌, ◌<◌, min}
 use native.Mathlib.Omega.{arith}
-use lib.ListN.{length, get_or, set}
-use Rattle.loops.specs.InPlace.{Each}
+use native.Mathlib.Nat.{suc-mul}
+use lib.ListN.{length, get_or}
 use Rattle.loops.proofs.Orders.{split, times-next}
-use Rattle.loops.proofs.InPlace.{each_none, each_more}
-use Rattle.sweeps.specs.Sweep.{turn_of, position_of, best, Lowered, Apart, Slab, Positioned, Swept}
+use Rattle.sweeps.specs.Sweep.{turn_of, position_of, best, Lowered, Slab, Swept}
 
 turn-lt : (down : Bool) (m t : ℕ) → t < m → turn_of down m t < m
 turn-lt false m t h = h
@@ -46,13 +45,6 @@ module _ (st m at : ℕ) (down : Bool) where
       (λ u. let w = times-next (turn_of down m t) (turn_of down m j) st u in omega arith)
       (turn-other down m t j h k n)
 
-  pub runs-apart : (t : ℕ) → 1 ≤ t → t < m → (p t + st ≤ p (t - 1)) ⊎ (p (t - 1) + st ≤ p t)
-  runs-apart t l h =
-      ⊎_elim
-      (λ u. inr (let w = times-next (turn_of down m (t - 1)) (turn_of down m t) st u in omega arith))
-      (λ u. inl (let w = times-next (turn_of down m t) (turn_of down m (t - 1)) st u in omega arith))
-      (turn-other down m t (t - 1) h (omega arith) (λ e. omega arith))
-
   -- t positions have had their turn
   pub record Sweeping (d₀ d : List ℕ) (t : ℕ) : Type 0 where
     pub low : 1 ≤ t
@@ -81,26 +73,7 @@ module _ (st m at : ℕ) (down : Bool) where
         first zero h r = refl
         first (suc j) h r = let z : ⊥ = omega arith in absurd z
 
-    pub positioned : (t : ℕ) → t < m → Positioned at st m t
-    positioned t h = record { turn = h; fits = omega (arith, B.fits, B.few) }
-
     module _ (d : List ℕ) (t : ℕ) (S : Sweeping d₀ d t) (h : t < m) where
-      -- the voxels at this turn, and those at the last
-      pub turn_in : p t + st ≤ length d
-      turn_in = omega (arith, (position_in t h).1, B.fits, S.len)
-
-      pub last-in : p (t - 1) + st ≤ length d
-      last-in = omega (arith, (position_in (t - 1) (omega (arith, S.low))).1, B.fits, S.len)
-
-      pub turn-apart : Apart d (p t) (p (t - 1)) st
-      turn-apart =
-          record {
-            at_in = turn_in;
-            from_in = last-in;
-            apart = runs-apart t S.low h;
-            small = λ k. omega (arith, S.lower k, B.small k);
-          }
-
       pub sweeping-more : (d' : List ℕ) → Lowered (p t) (p (t - 1)) st d d' → Sweeping d₀ d' (t + 1)
       unfolding best
       sweeping-more d' L =
@@ -141,41 +114,9 @@ module _ (st m at : ℕ) (down : Bool) where
         let hi = S.high in
         record { len = S.len; lower = S.lower; inside = λ j r l u. S.done j r (omega arith) u; outside = S.outside }
 
--- ---- run by run: `from` is where the run of the turn before starts
-
-pub record Running (st m at : ℕ) (down : Bool) (d₀ d : List ℕ) (t from : ℕ) : Type 0 where
-  pub from_is : from ≡ position_of at st m down (t - 1)
-  pub sweeping : Sweeping st m at down d₀ d t
-
-module _ (st m at : ℕ) (down : Bool) (d₀ : List ℕ) (B : Slab d₀ st m at) where
-  pub running-start : (from : ℕ) → from ≡ position_of at st m down 0 → Running st m at down d₀ d₀ 1 from
-  running-start from e = record { from_is = e; sweeping = sweeping-start st m at down d₀ B }
-
-  module _ (d : List ℕ) (t from : ℕ) (R : Running st m at down d₀ d t from) (h : t < m) (i : ℕ) (e : i ≡ position_of at st m down t) where
-    pub running-apart : Apart d i from st
-    running-apart = subst₂ (λ (x y : ℕ). Apart d x y st) (sym e) (sym R.from_is) (turn-apart st m at down d₀ B d t R.sweeping h)
-
-    pub running_more : (d' : List ℕ) → Lowered i from st d d' → Running st m at down d₀ d' (t + 1) i
-    running_more d' L =
-        record {
-          from_is = e ∙ ap (position_of at st m down) (let z : t ≡ t + 1 - 1 = omega arith in z);
-          sweeping = sweeping-more st m at down d₀ B d t R.sweeping h d' (subst₂ (λ (x y : ℕ). Lowered x y st d d') e R.from_is L);
-        }
-
--- ---- along a run: k voxels are lowered
-
-pub lowered_none : (at from : ℕ) (d : List ℕ) → Lowered at from 0 d d
-lowered_none at from d = each_none 0 _ at (at + 0) d (omega arith)
-
-module _ (d : List ℕ) (at from n : ℕ) (A : Apart d at from n) (k : ℕ) (h : k < n) (e : List ℕ) (L : Lowered at from k d e) where
-  -- what is still to be read of the other run is as it was
-  pub lowered-far : get_or e (from + k) 0 ≡ get_or d (from + k) 0
-  lowered-far = L.outside (from + k) (λ z. ⊎_elim (λ p. omega arith) (λ p. omega arith) A.apart)
-
-  pub lowered-more : (v : ℕ) → v ≡ min (get_or e (at + k) 0) (get_or e (from + k) 0 + 1) → Lowered at from (k + 1) d (set e (at + k) v)
-  lowered-more v q =
-      subst (λ (x : ℕ). Each 0 (λ k v. min v (get_or d (from + (k - at)) 0 + 1)) at x d (set e (at + k) v))
-      (let z : at + k + 1 ≡ at + (k + 1) = omega arith in z)
-      (each_more 0 (λ k v. min v (get_or d (from + (k - at)) 0 + 1)) at (at + k) d e v (omega arith) (omega (arith, A.at_in)) L
-      (q ∙ ap (λ (x : ℕ). min (get_or e (at + k) 0) (x + 1)) (lowered-far ∙ ap (λ (x : ℕ). get_or d x 0)
-      (let z : from + k ≡ from + (at + k - at) = omega arith in z))))
+-- where the run before starts
+pub run-before : (at st q : ℕ) → 1 ≤ q → at + q * st - st ≡ at + (q - 1) * st
+run-before at st q h =
+    let n = suc-mul (q - 1) st in
+    let e = ap (λ (x : ℕ). x * st) (let z : q ≡ suc (q - 1) = omega arith in z) in
+    omega arith

@@ -37,11 +37,6 @@ pub record Slab (d : List ℕ) (st m at : ℕ) : Type 0 where
   pub few : length d ≤ 262144
   pub small : (k : ℕ) → get_or d k 0 < 255
 
--- a turn of a slab's sweep
-pub record Positioned (at st m t : ℕ) : Type 0 where
-  pub turn : t < m
-  pub fits : at + m * st ≤ 262144
-
 -- one way through a slab
 pub record Swept (st m at : ℕ) (down : Bool) (d d' : List ℕ) : Type 0 where
   pub len : length d' ≡ length d

@@ -1,45 +1,39 @@
-// Sweeps of distances up and down through a slab. One function with a stride and a direction serves all axes.
+// Sweeps of distances up and down through a slab. One function with a stride serves all axes.
 #![tactic(auto)]
 
-ghost use Rattle.std.specs.Prelude.{◌≡◌, false};
-ghost use Rattle.sweeps.specs.Sweep.{position_of, Lowered, Apart, Slab, Positioned, Swept, Both};
+ghost use Rattle.std.specs.Prelude.{true, false};
+ghost use Rattle.sweeps.specs.Sweep.{Lowered, Apart, Slab, Swept, Both};
 
 // Lowers the distances of a run of n voxels: each is then at most 1 more than the one as far along the run at `from`.
 fn lower(d: &mut [u8], at: usize, from: usize, n: usize)
     requires { Apart d.old at from n }
     ensures { Lowered at from n d.old d.new }
 {
-    let mut k = 0;
-    while k < n {
-        let v = numbers::lesser_u8(d[at + k], d[from + k] + 1);
-        d[at + k] = v;
-        k += 1;
+    // the two runs are parts of one slice, so that one index goes along both
+    for k in 0..n {
+        d[at + k] = d[at + k].min(d[from + k] + 1);
     }
 }
 
-// The first voxel of the position that has turn t, of m positions from `at` on.
-fn position(at: usize, st: usize, m: usize, down: bool, t: usize) -> usize
-    requires { Positioned at st m t }
-    ensures { result ≡ position_of at st m down t }
-{
-    if down {
-        return at + (m - 1 - t) * st;
-    }
-    at + t * st
-}
-
-// Sweeps a slab of m positions with st voxels at each one way, run by run.
-fn sweep(d: &mut [u8], at: usize, st: usize, m: usize, down: bool)
+// Sweeps a slab of m positions with st voxels at each upwards, run by run.
+fn up(d: &mut [u8], at: usize, st: usize, m: usize)
     requires { Slab d.old st m at }
-    ensures { Swept st m at down d.old d.new }
+    ensures { Swept st m at false d.old d.new }
 {
-    let mut from = position(at, st, m, down, 0);
-    let mut t = 1;
-    while t < m {
-        let i = position(at, st, m, down, t);
-        lower(d, i, from, st);
-        from = i;
-        t += 1;
+    for q in 1..m {
+        let run = at + q * st;
+        lower(d, run, run - st, st);
+    }
+}
+
+// The same downwards.
+fn down(d: &mut [u8], at: usize, st: usize, m: usize)
+    requires { Slab d.old st m at }
+    ensures { Swept st m at true d.old d.new }
+{
+    for q in (1..m).rev() {
+        let from = at + q * st;
+        lower(d, from - st, from, st);
     }
 }
 
@@ -48,6 +42,6 @@ pub fn both(d: &mut [u8], at: usize, st: usize, m: usize)
     requires { Slab d.old st m at }
     ensures { Both false st m at d.old d.new }
 {
-    sweep(d, at, st, m, false);
-    sweep(d, at, st, m, true);
+    up(d, at, st, m);
+    down(d, at, st, m);
 }

@@ -3,47 +3,55 @@
 
 ghost use Rattle.std.specs.Prelude.{◌≡◌};
 ghost use Rattle.rules.specs.Answer.{outcome, buffers, taken_answer};
+ghost use Rattle.rules.specs.Refusals.{number_in};
 ghost use Rattle.rules.specs.Checks.{first_failing};
 ghost use Rattle.rules.specs.Machine as machine;
 ghost use Rattle.rules.specs.Marks.{marked};
 ghost use Rattle.rules.specs.Machine.{state, may_go, voxel_checks, take_checks, taken};
 ghost use Rattle.rules.specs.Fit.{Working, Takeable};
 
-use rules::{Record, Taken};
+use rules::{Record, Refusal, Taken};
 
-// The number that refuses a voxel, or 0.
-fn voxel_refusal(given: Record, dist: &[i32], marks: &[u8], status: &[u8], index: usize) -> u8
+// The checks of a voxel.
+fn voxel_refusal(
+    given: Record,
+    dist: &[i32],
+    marks: &[u8],
+    status: &[u8],
+    index: usize,
+) -> Result<(), Refusal>
     requires { Working (state given dist.now status.now) }
-    ensures { result ≡ first_failing (voxel_checks (marked marks.now) index (state given dist.now status.now)) }
+    ensures { number_in result ≡ first_failing (voxel_checks (marked marks.now) index (state given dist.now status.now)) }
 {
     if status.len() <= index {
-        return 5;
+        return Err(Refusal::Index);
     }
     if !status::is_kept(status[index]) {
-        return 10;
+        return Err(Refusal::GoneAlready);
     }
-    let d = dist[index];
-    if d < 0 {
-        return 11;
+    if dist[index] < 0 {
+        return Err(Refusal::Inside);
     }
     if marks::pinned(marks, index) {
-        return 30;
+        return Err(Refusal::PinnedVoxel);
     }
-    let s = given.sides;
-    if !neighbourhood::passes_at(s, status, index) {
-        return 12;
+    if !neighbourhood::passes_at(given.sides, status, index) {
+        return Err(Refusal::NotPassed);
     }
-    0
+    Ok(())
 }
 
-fn take_refusal(given: Record, dist: &[i32], marks: &[u8], status: &[u8], index: usize) -> u8
-    ensures { result ≡ first_failing (take_checks marks.now index (state given dist.now status.now)) }
+fn take_refusal(
+    given: Record,
+    dist: &[i32],
+    marks: &[u8],
+    status: &[u8],
+    index: usize,
+) -> Result<(), Refusal>
+    ensures { number_in result ≡ first_failing (take_checks marks.now index (state given dist.now status.now)) }
 {
     let all = marks::all(marks);
-    let n = fitness::marked_refusal(given, dist, marks, status, all);
-    if n != 0 {
-        return n;
-    }
+    fitness::marked_refusal(given, dist, marks, status, all)?;
     voxel_refusal(given, dist, marks, status, index)
 }
 
@@ -68,9 +76,8 @@ pub fn take(given: Record, dist: &[i32], marks: &[u8], status: &mut [u8], index:
     ensures { outcome (taken_answer result) (buffers dist.now status.new)
         ≡ machine.take marks.now index (state given dist.now status.old) }
 {
-    let n = take_refusal(given, dist, marks, status, index);
-    if n != 0 {
-        return Taken::Refused(n);
+    match take_refusal(given, dist, marks, status, index) {
+        Ok(()) => take_fit(given, dist, marks, status, index),
+        Err(refusal) => Taken::Refused(u8::from(refusal)),
     }
-    take_fit(given, dist, marks, status, index)
 }

@@ -26,9 +26,7 @@ fn tally_after(s: Sides, status: &[u8], i: usize, opens: bool, t: Tally) -> Tall
     if !opens {
         return Tally {
             removed: t.removed + 1,
-            opened: t.opened,
-            euler: t.euler,
-            last: t.last,
+            ..t
         };
     }
     let g = neighbourhood::groups_at(s, status, i);
@@ -49,6 +47,6 @@ pub fn step(s: Sides, status: &mut [u8], list: &[u8], t: Tally) -> Tally
     let i = entries::index_of(list, t.removed);
     let opens = words::is_tagged(list, 6 * t.removed, 0x4F);
     let next = tally_after(s, status, i, opens, t);
-    status[i] = status[i] - 1;
+    status[i] -= 1;
     next
 }

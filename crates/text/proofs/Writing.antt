@@ -3,8 +3,8 @@ use mathlib.Core.Path.{◌≡◌, refl, ap, ap₂, sym, ◌∙◌}
 use mathlib.Core.List.{List, [], ◌∷◌, ◌++◌}
 use Prim.Native.Nat.{ℕ, zero, suc, ◌+◌, ◌-◌, ◌≤◌, ◌<◌}
 use native.Mathlib.Omega.{arith}
-use lib.ListN.{length, get_or, take, drop, set}
-use lib.Seq.{drop-cons, drop-length, length-take-le, take-append-le, take-take, drop_at, set_split}
+use lib.ListN.{length, take, drop, set}
+use lib.Seq.{length-take-le, take-append-le, take-take, drop_at, set_split}
 use Rattle.text.specs.Written.{Written}
 
 -- nothing is written yet
@@ -45,46 +45,3 @@ pub record Spelt (word : List ℕ) (at : ℕ) (old out : List ℕ) (start left :
   pub long : length out ≡ length old
   pub within : left ≤ length word
   pub written : Written (length word - left) at start old out (drop left word ++ drop at old)
-
-module _ (word : List ℕ) (at : ℕ) (old : List ℕ) where
-  pub spelt-start : Spelt word at old old at (length word)
-  spelt-start =
-      let w = written_none old at in
-      record {
-        long = refl;
-        within = omega arith;
-        written =
-            record {
-              near = omega arith;
-              below = omega arith;
-              reads = w.reads ∙ ap (λ (t : List ℕ). take at old ++ (t ++ drop at old)) (sym (drop-length word));
-            };
-      }
-
-  pub spelt-next :
-      (out new : List ℕ) (start next left : ℕ)
-      → at ≤ length old
-      → 0 < left
-      → length new ≡ length out
-      → Spelt word at old out start left
-      → Written 1 start next out new (get_or word (left - 1) 0 ∷ drop start out)
-      → Spelt word at old new next (left - 1)
-  spelt-next out new start next zero room h l s w = elim h [ ]
-  spelt-next out new start next (suc left) room h l s w =
-      let p : suc left - 1 ≡ left = omega arith in
-      let m : left < length word = omega (arith, s.within) in
-      let v = written_then (λ t. get_or word (suc left - 1) 0 ∷ t) room s.written w in
-      record {
-        long = l ∙ s.long;
-        within = omega (arith, s.within);
-        written =
-            record {
-              near = omega (arith, v.near);
-              below = v.below;
-              reads = v.reads ∙ rw p (ap (λ (t : List ℕ). take next old ++ (t ++ drop at old)) (sym (drop-cons word left 0 m)));
-            };
-      }
-
-  pub spelt-done : (out : List ℕ) (start left : ℕ) → left ≤ 0 → Spelt word at old out start left → Written (length word) at start old out (word ++ drop at old)
-  spelt-done out start (suc _) h s = elim h [ ]
-  spelt-done out start zero h s = record { near = omega (arith, s.written.near); below = s.written.below; reads = s.written.reads }

@@ -16,7 +16,7 @@ pub struct Summary {
     pub euler: i32,
 }
 
-// A line: the bytes from start on. Those before it are 0.
+// A line: the bytes from start on. Those before it are 0. Memory is fixed and there is no heap, so that a `String` cannot hold it.
 #[derive(Clone, Copy)]
 pub struct Text {
     pub bytes: [u8; 160],
@@ -38,10 +38,8 @@ fn put_word(out: &mut [u8], at: usize, word: &[u8]) -> usize
     ensures { Before (length word.now) at result out.old out.new (λ t. word.now ++ t) }
 {
     let mut start = at;
-    let mut left = word.len();
-    while 0 < left {
-        left -= 1;
-        start = put(out, start, word[left]);
+    for &byte in word.iter().rev() {
+        start = put(out, start, byte);
     }
     start
 }
@@ -52,18 +50,19 @@ fn put_number(out: &mut [u8], at: usize, n: u64) -> usize
 {
     let mut start = at;
     let mut rest = n;
+    // a `while`, since each step takes one digit off
     while 10 <= rest {
-        start = put(out, start, (rest % 10) as u8 + 0x30);
+        start = put(out, start, (rest % 10) as u8 + b'0');
         rest /= 10;
     }
-    put(out, start, rest as u8 + 0x30)
+    put(out, start, rest as u8 + b'0')
 }
 
 fn put_signed(out: &mut [u8], at: usize, n: i32) -> usize
     requires { (21 ≤ at) × (at ≤ length out.old) }
     ensures { Before 21 at result out.old out.new (signed_number n) }
 {
-    let start = put_number(out, at, numbers::magnitude(n));
+    let start = put_number(out, at, u64::from(n.unsigned_abs()));
     if n < 0 { put(out, start, b'-') } else { start }
 }
 
@@ -83,7 +82,7 @@ fn put_refused(out: &mut [u8], n: u8) -> usize
     ensures { Written 29 160 result out.old out.new (line_text (refused_line n)) }
 {
     let end = put(out, 160, b'\n');
-    put_field(out, end, b"refused ", n as u64)
+    put_field(out, end, b"refused ", u64::from(n))
 }
 
 // The end of the line: the Euler number.

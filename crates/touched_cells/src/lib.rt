@@ -7,18 +7,12 @@ ghost use Rattle.cells.specs.Cells.{touched};
 ghost use Rattle.bits.specs.Bits.{has, bits, spaced};
 ghost use Rattle.touched_cells.specs.Block.{LayerRows, Rows, layer_bit, code_in, kept_in, kept_of, row_of, layer_of, Unpacked};
 
-fn wide(x: u8) -> u64
-    ensures { result ≡ x }
-{
-    x as u64
-}
-
 // The statuses of a layer: its rows side by side.
 fn layer_code(layer: [u8; 3]) -> u64
     requires { LayerRows layer }
     ensures { result ≡ bits 18 (layer_bit layer) }
 {
-    wide(layer[0]) | wide(layer[1]) << 6 | wide(layer[2]) << 12
+    u64::from(layer[0]) | u64::from(layer[1]) << 6 | u64::from(layer[2]) << 12
 }
 
 // The statuses of a block: its layers side by side, so that place p has the bits 2 p and 2 p + 1.
@@ -55,7 +49,7 @@ pub fn touched(block: [[u8; 3]; 3]) -> u64
 fn spaced_bits(kept: u32) -> u64
     ensures { result ≡ bits 54 (spaced (has kept)) }
 {
-    let x = kept as u64 & 0x7FFFFFF;
+    let x = u64::from(kept) & 0x7FFFFFF;
     let x16 = (x | x << 16) & 0x0000FFFF0000FFFF;
     let x8 = (x16 | x16 << 8) & 0x00FF00FF00FF00FF;
     let x4 = (x8 | x8 << 4) & 0x0F0F0F0F0F0F0F0F;

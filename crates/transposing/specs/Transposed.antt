@@ -1,12 +1,6 @@
 -- A layer transposed.
 use Rattle.std.specs.Prelude.{◌≡◌, List, ℕ, ◌+◌, ◌*◌, ◌≤◌, ◌<◌, length, get_or}
 
--- n bytes that lie so far apart among `all`, and a place for them among `room`
-pub record Column (all at step room first n : ℕ) : Type 0 where
-  pub reach : (k : ℕ) → k < n → at + k * step < all
-  pub fits : first + n ≤ room
-  pub few : all ≤ 262144
-
 -- a layer among `all` bytes, and a place for it among `room`
 pub record Transposable (all at rows m room first : ℕ) : Type 0 where
   pub some : 1 ≤ rows

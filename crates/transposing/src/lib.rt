@@ -2,19 +2,16 @@
 // compiler does many bytes at a time.
 #![tactic(auto)]
 
-ghost use Rattle.std.specs.Prelude.{◌+◌, ◌-◌, ◌*◌, length, get_or};
-ghost use Rattle.loops.specs.InPlace.{Each};
-ghost use Rattle.transposing.specs.Transposed.{Column, Transposable, Transposed};
+ghost use Rattle.std.specs.Prelude.{◌≡◌, ℕ, ◌*◌, ◌<◌, length, slice_index, EachIndex};
+ghost use Rattle.transposing.specs.Transposed.{Transposable, Transposed};
 
-// Puts n bytes that lie `step` apart, from `at` on, side by side, from first on.
-fn gather(from: &[u8], at: usize, step: usize, to: &mut [u8], first: usize, n: usize)
-    requires { Column (length from.now) at step (length to.old) first n }
-    ensures { Each 0 (λ k v. get_or from.now (at + (k - first) * step) 0) first (first + n) to.old to.new }
+// Puts every step-th byte of `from` side by side.
+fn gather(from: &[u8], step: usize, to: &mut [u8])
+    requires { (k : ℕ) → k < length to.old → k * step < length from.now }
+    ensures { EachIndex to.new (λ k. slice_index to.new k ≡ slice_index from.now (k * step)) }
 {
-    let mut k = 0;
-    while k < n {
-        to[first + k] = from[at + k * step];
-        k += 1;
+    for (k, v) in to.iter_mut().enumerate() {
+        *v = from[k * step];
     }
 }
 
@@ -23,9 +20,8 @@ pub fn transpose(from: &[u8], at: usize, rows: usize, m: usize, to: &mut [u8], f
     requires { Transposable (length from.now) at rows m (length to.old) first }
     ensures { Transposed from.now at rows m m first to.old to.new }
 {
-    let mut j = 0;
-    while j < m {
-        gather(from, at + j, m, to, first + j * rows, rows);
-        j += 1;
+    for j in 0..m {
+        let start = first + j * rows;
+        gather(&from[at + j..], m, &mut to[start..start + rows]);
     }
 }

@@ -7,7 +7,6 @@ use native.Mathlib.Omega.{arith}
 use native.Mathlib.Nat.{mul-le-mul_left}
 use lib.IntN.{ℤ}
 use lib.ListN.{length}
-use Rattle.prelude.proofs.Bools.{not-true, not-false}
 use Rattle.rules.specs.declared.Sides.{Sides}
 use Rattle.rules.specs.Grid.{size}
 use Rattle.rules.specs.Begin.{exposed}
@@ -25,11 +24,11 @@ use Rattle.watching.proofs.Standing.{stands-not, stands-so, stands-kept}
 
 module _ (s : Sides) (dist : List ℤ) (status : List ℕ) (held : Held s dist status) (i : ℕ) (below : i < size s)
     (stands : Bool) (e : stands ≡ standing dist status i) where
-  pub open_gone : not stands ≡ true → false ≡ can_open s (is_inside dist) (is_kept status) i
+  pub open_gone : stands ≡ false → false ≡ can_open s (is_inside dist) (is_kept status) i
   unfolding can_open
-  open_gone n = stands-not dist status i stands e _ n
+  open_gone n = sym n ∙ stands-not dist status i stands e _ n
 
-  module _ (n : not stands ≡ false) where
+  module _ (n : stands ≡ true) where
     kept : is_kept status i ≡ true
     kept = stands-kept dist status i stands e n
 
@@ -58,11 +57,11 @@ module _ (s : Sides) (dist : List ℤ) (status : List ℕ) (held : Held s dist s
       unfolding can_open
       opens some g = (λ j. shown j && not (g j)) ∙ stands-so dist status i stands e _ n
 
-      pub open-within : not bare ≡ true → false ≡ can_open s (is_inside dist) (is_kept status) i
+      pub open-within : bare ≡ false → false ≡ can_open s (is_inside dist) (is_kept status) i
       open-within b =
           let some = some_passes s (is_inside dist) (is_kept status) in
-          sym (ap (λ (t : Bool). t && not some) (not-true bare b)) ∙ opens some (λ j. some)
+          sym (ap (λ (t : Bool). t && not some) b) ∙ opens some (λ j. some)
 
-      pub open-last : not bare ≡ false → (some : Bool) → some ≡ some_passes s (is_inside dist) (is_kept status)
+      pub open-last : bare ≡ true → (some : Bool) → some ≡ some_passes s (is_inside dist) (is_kept status)
           → not some ≡ can_open s (is_inside dist) (is_kept status) i
-      open-last b some g = sym (ap (λ (t : Bool). t && not some) (not-false bare b)) ∙ opens some g
+      open-last b some g = sym (ap (λ (t : Bool). t && not some) b) ∙ opens some g

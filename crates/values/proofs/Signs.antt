@@ -2,6 +2,7 @@
 use mathlib.Core.Path.{◌≡◌, refl, sym, ap, ap₂, ◌∙◌}
 use mathlib.Core.Logic.{⊎_elim}
 use mathlib.Core.Bool.{Bool, true, false, not, cond, ◌&&◌, ◌||◌}
+use mathlib.Core.List.{List, map}
 use Prim.Native.Nat.{ℕ, zero, suc, ◌+◌, ◌-◌, ◌%◌, ◌^◌, ◌≤◌, ◌<◌, max}
 use native.Mathlib.Omega.{arith}
 use borrow.Author.Tests.{ltb-true, ltb-false, lt-ltb, le-ltb, eq-eqb, ne_eqb, eqb-true, eqb-false}
@@ -15,8 +16,12 @@ use mir.Facts.{to_z-of_z, to_z_pos, to_z-neg}
 use Rattle.prelude.proofs.Bools.{two, and_zero, and_one, or-zero, both_ways}
 use Rattle.prelude.proofs.Signs.{below, not-below, turned, high, high-joined}
 use Rattle.rules.specs.Value.{is_missing, beyond, stray, measured_negative, measured_non_negative, amount}
+use Rattle.std.specs.Int.{int_max}
+use Rattle.cells.specs.Groups.{filter}
+use Rattle.rules.specs.Grid.{range, value_at}
+use Rattle.rules.specs.Begin.{greatest}
 use Rattle.rules.proofs.LongRange.{amount-high}
-use Rattle.values.specs.Values.{counted_as, worked_to}
+use Rattle.values.specs.Values.{counted_as, worked_to, counts}
 
 -- the missing mark by its bits
 mark-bits : (n : ℕ) → SFits w32 (negsuc n) → eqb (of_z w32 (negsuc n)) 2147483648 ≡ eqb n 2147483647
@@ -90,22 +95,30 @@ long-size (negsuc n) h =
 
 -- ---- M
 
+-- M over the voxels below i
+abbrev pub most : List ℤ → List ℕ → ℕ → ℕ
+most values d i = greatest 1 (map (λ k. amount (value_at values k)) (filter (counts values d) (range 0 i)))
+
 -- M with one voxel more: the greater of M so far and the voxel's value, or 0 where it does not count
 greater-is : (g : ℕ) (v : ℤ) (t : Bool)
-    → cond (lt_z (pos g) (cond t v (pos 0))) (cond t v (pos 0)) (pos g) ≡ pos (cond (measured_non_negative v && t) (max (amount v) g) g)
+    → int_max (pos g) (cond t v (pos 0)) ≡ pos (cond (measured_non_negative v && t) (max (amount v) g) g)
 unfolding measured_non_negative
-greater-is g v false = rw (le-ltb g 0 (omega arith), and_zero (measured_non_negative v))
+greater-is g v false =
+    ⊎_elim
+    (λ e. let l = ltb-true 0 g e in rw (e, and_zero (measured_non_negative v)))
+    (λ e. let l = ltb-false 0 g e in rw (e, and_zero (measured_non_negative v)) (ap pos (let q : 0 ≡ g = omega arith in q)))
+    (two (ltb 0 g))
 greater-is g (negsuc n) true = refl
 greater-is g (pos n) true =
     ⊎_elim
-    (λ e. let l = ltb-true g n e in rw e (ap pos (let q : n ≡ max n g = omega arith in q)))
-    (λ e. let l = ltb-false g n e in rw e (ap pos (let q : g ≡ max n g = omega arith in q)))
-    (two (ltb g n))
+    (λ e. let l = ltb-true n g e in rw e (ap pos (let q : g ≡ max n g = omega arith in q)))
+    (λ e. let l = ltb-false n g e in rw e (ap pos (let q : n ≡ max n g = omega arith in q)))
+    (two (ltb n g))
 
 -- the same, where M and the voxel's part in it are at hand as integers
-pub raised : {m : ℕ} (d : ℕ) {x r w : ℤ} (v : ℤ) → x ≡ pos m → r ≡ cond (lt_z x w) w x → w ≡ cond (eqb d 1) v (pos 0)
+pub raised : {m : ℕ} (d : ℕ) {x r w : ℤ} (v : ℤ) → x ≡ pos m → r ≡ int_max x w → w ≡ cond (eqb d 1) v (pos 0)
     → r ≡ pos (cond (measured_non_negative v && eqb d 1) (max (amount v) m) m)
-raised {m} d v x-is e f = e ∙ ap₂ (λ (x y : ℤ). cond (lt_z x y) y x) x-is f ∙ greater-is m v (eqb d 1)
+raised {m} d v x-is e f = e ∙ ap₂ int_max x-is f ∙ greater-is m v (eqb d 1)
 
 -- no value that begin takes makes M greater than the range
 pub in-range : {m : ℕ} (t : Bool) (v : ℤ) → stray v ≡ false → m ≤ 1000000000 → cond t (max (amount v) m) m ≤ 1000000000

@@ -20,14 +20,9 @@ pub fn any_beyond(values: &[i32], bound: u32) -> bool
     requires { bound < 2147483648 }
     ensures { result ≡ any (beyond_of bound) values.now }
 {
-    let mut found = false;
-    let mut i = 0;
-    while i < values.len() {
-        let v = values[i];
-        found = found | beyond(v, bound);
-        i += 1;
-    }
-    found
+    values
+        .iter()
+        .fold(false, |found, &v| found | beyond(v, bound))
 }
 
 // Whether some value is measured and not from -32,767 to 32,767: it then has one of the bits from 15 to 30 in its size, as no other has. The missing
@@ -35,14 +30,8 @@ pub fn any_beyond(values: &[i32], bound: u32) -> bool
 pub fn any_long(values: &[i32]) -> bool
     ensures { result ≡ any (beyond_of 32767) values.now }
 {
-    let mut all: u32 = 0;
-    let mut i = 0;
-    while i < values.len() {
-        let v = values[i];
-        all = all | numbers::magnitude(v) as u32;
-        i += 1;
-    }
-    !(all % 2147483648 < 32768)
+    let all = values.iter().fold(0, |all, v| all | v.unsigned_abs());
+    all % 2147483648 >= 32768
 }
 
 // Whether a value is measured and negative: -2,147,483,648 stands for a missing point.
@@ -56,10 +45,7 @@ pub fn negative(v: i32) -> bool
 fn beside(v: i32, d: u8) -> i32
     ensures { result ≡ cond (eqb d 1) v (pos 0) }
 {
-    if d == 1 {
-        return v;
-    }
-    0
+    if d == 1 { v } else { 0 }
 }
 
 // M: the greatest value of a voxel 1 step from S, and at least 1.
@@ -68,12 +54,8 @@ pub fn greatest(values: &[i32], d: &[u8]) -> u32
     ensures { (result ≡ greatest_by values.now d.now) × (result ≤ 1000000000) }
 {
     let mut m: i32 = 1;
-    let mut i = 0;
-    while i < values.len() {
-        let v = values[i];
-        let w = beside(v, d[i]);
-        m = numbers::greater_i32(m, w);
-        i += 1;
+    for (&v, &steps) in values.iter().zip(d) {
+        m = m.max(beside(v, steps));
     }
     m as u32
 }
@@ -82,10 +64,7 @@ pub fn greatest(values: &[i32], d: &[u8]) -> u32
 fn counted(v: i32) -> i32
     ensures { result ≡ counted_as v }
 {
-    if v == -2147483648 {
-        return -1;
-    }
-    v
+    if v == -2147483648 { -1 } else { v }
 }
 
 // The worked distance of a voxel of value v that is d steps from S.
@@ -94,15 +73,14 @@ fn worked_at(v: i32, d: u8, m: u32) -> i32
     ensures { result ≡ worked_to m v d }
 {
     if d == 0 {
-        return counted(v);
+        counted(v)
+    } else if d != 1 {
+        (m + u32::from(d)) as i32
+    } else if v < 0 {
+        m as i32
+    } else {
+        v
     }
-    if d == 1 {
-        if v < 0 {
-            return m as i32;
-        }
-        return v;
-    }
-    (m + d as u32) as i32
 }
 
 // The worked distances of all voxels.
@@ -110,11 +88,8 @@ pub fn fill(values: &[i32], d: &[u8], m: u32, dist: &mut [i32])
     requires { Fillable (length values.now) (length d.now) (length dist.old) m }
     ensures { dist.new ≡ worked_by m values.now d.now }
 {
-    let mut i = 0;
-    while i < values.len() {
-        let v = values[i];
-        let w = worked_at(v, d[i], m);
-        dist[i] = w;
-        i += 1;
+    // three slices by one index
+    for (i, w) in dist.iter_mut().enumerate() {
+        *w = worked_at(values[i], d[i], m);
     }
 }

@@ -1,26 +1,29 @@
 -- The entries one after the other: what is left to check decides the number, what is left to go the answer, and the bytes say who is gone.
 use mathlib.Core.Path.{◌≡◌, refl, ap, sym, ◌∙◌, fun_ext}
-use mathlib.Core.Bool.{Bool, true, false, not, cond}
+use mathlib.Core.Bool.{Bool, true, false, cond, true≢false}
 use mathlib.Core.List.{List, map}
 use Prim.Native.Nat.{ℕ, suc, ◌+◌, ◌-◌, ◌*◌, ◌^◌, ◌≤◌, ◌<◌}
 use native.Mathlib.Omega.{arith}
 use native.Mathlib.Numerals.{add-one}
 use borrow.Author.Tests.{ltb-true, ltb-false, leb-false}
-use lib.Dec.{ltb}
 use lib.IntN.{ℤ, pos, nat_abs}
 use lib.ListN.{length, length-set}
-use Rattle.prelude.proofs.Bools.{and-true, not-true, not-false}
+use Rattle.prelude.proofs.Bools.{not-false}
 use Rattle.rules.specs.declared.Sides.{Sides}
 use Rattle.rules.specs.Grid.{size, range, neighbourhood}
-use Rattle.rules.specs.Begin.{exposed}
 use Rattle.rules.specs.Neighbours.{Inner}
 use Rattle.rules.specs.Status.{status_of, is_kept}
 use Rattle.rules.specs.Machine.{is_inside}
+use Rattle.std.specs.Prelude.{Result, Ok, Err}
+use Rattle.std.specs.Result.{is_err}
+use Rattle.rules.proofs.Refusals.{numbers}
+use Rattle.rules.specs.declared.Refusal.{Refusal}
+use Rattle.rules.specs.Refusals.{number_in}
 use Rattle.rules.specs.Checks.{Check, first_failing, AllHold}
 use Rattle.rules.proofs.Checks.{held_none, held_at, Deciding, deciding-refused, deciding-next}
 use Rattle.neighbourhood.proofs.Bodies.{kept-inner, fit-body}
 use Rattle.judging.specs.Judge.{entry_length, entry_count, entries_in, Entry, entry_at, Body, start_from, goes, leaves}
-use Rattle.judging.specs.Judge.{can_pass, can_open, some_passes, allows, entry_checks, list_checks, judgement_of}
+use Rattle.judging.specs.Judge.{some_passes, allows, entry_checks, list_checks, judgement_of}
 use Rattle.judging.proofs.Accepted.{passes_none, allowed-turn}
 use Rattle.entries.specs.Entries.{index_of, taken_out, put_back}
 use Rattle.entries.proofs.Undoing.{put-back-taken}
@@ -29,9 +32,18 @@ use Rattle.watching.proofs.Since.{since-ordinary, since-opening}
 use Rattle.tallies.specs.declared.Tally.{Tally}
 use Rattle.tallies.specs.Counts.{body_of, tally_after, Stepping}
 use Rattle.turns.specs.Turns.{Turn}
-use Rattle.verdicts.specs.declared.End.{End}
 use Rattle.verdicts.specs.Verdict.{end_checks, Walkable, Walked}
 use Rattle.tallies.proofs.Counts.{change-small}
+
+-- ---- whether a check refuses, by its number
+
+pub number-err : (v : Result (Unit {0}) Refusal) → is_err v ≡ true → number_in v ≡ 0 → ⊥
+number-err (Ok u) e h = absurd (true≢false (sym e))
+number-err (Err r) e h = numbers r h
+
+pub number-ok : (v : Result (Unit {0}) Refusal) → is_err v ≡ false → number_in v ≡ 0
+number-ok (Ok u) e = refl
+number-ok (Err r) e = absurd (true≢false e)
 
 -- ---- an entry that may go
 
@@ -115,15 +127,15 @@ module _ (s : Sides) (dist : List ℤ) (T : ℕ) (list before : List ℕ) where
       decides : Deciding (left (entry_count list) 0 (start_from before)) (left (suc (entry_count list - suc r)) r b)
       decides = sym (ap (λ (n : ℕ). first_failing (left n r b)) one_more) ∙ w.deciding
 
-      pub walking-refused : (n ≡ 0 → ⊥) → (u : End) → u.refusal ≡ n → u.removed ≡ t.removed → Walked s dist T list before status u
+      pub walking-refused : (n ≡ 0 → ⊥) → (v : Result (Unit {0}) Refusal) → number_in v ≡ n → Walked s dist T list before status (record { tally = t; verdict = v })
       unfolding list_checks
-      walking-refused f u e h =
+      walking-refused f v e =
           record {
             number = e ∙ deciding-refused _ (own status t) _ decides n q f;
             answer = λ z. absurd (f (sym e ∙ z));
-            listed = rw h w.turn.listed;
+            listed = w.turn.listed;
             same = w.same;
-            back = rw h w.back;
+            back = w.back;
           }
 
       module _ (z : n ≡ 0) where
@@ -223,16 +235,13 @@ module _ (s : Sides) (dist : List ℤ) (T : ℕ) (list before : List ℕ) where
       none_left : entry_count list - r ≡ 0
       none_left = omega arith
 
-      pub walking-end : (u : End) → u.refusal ≡ n → u.removed ≡ t.removed → u.opened ≡ t.opened → u.euler ≡ t.euler
-          → Walked s dist T list before status u
+      pub walking-end : (v : Result (Unit {0}) Refusal) → number_in v ≡ n → Walked s dist T list before status (record { tally = t; verdict = v })
       unfolding list_checks leaves range entries_in
-      walking-end u e h o x =
+      walking-end v e =
           record {
             number = e ∙ q ∙ sym (ap (λ (k : ℕ). first_failing (left k r b)) none_left) ∙ w.deciding;
-            answer = λ _.
-                (λ j. record { removed = h j; opened = o j; euler = x j })
-                ∙ ap judgement_of (sym (ap (λ (k : ℕ). after k r b) none_left) ∙ w.leaving);
-            listed = rw h w.turn.listed;
+            answer = λ _. ap judgement_of (sym (ap (λ (k : ℕ). after k r b) none_left) ∙ w.leaving);
+            listed = w.turn.listed;
             same = w.same;
-            back = rw h w.back;
+            back = w.back;
           }

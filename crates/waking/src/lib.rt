@@ -45,9 +45,10 @@ fn woken_status(d: i32, pinned: bool, x: u8) -> u8
     ensures { result ≡ woken_if d pinned x }
 {
     if (d < 0) | pinned {
-        return x;
+        x
+    } else {
+        status::woken(x)
     }
-    status::woken(x)
 }
 
 fn wake_one(dist: &[i32], marks: &[u8], status: &mut [u8], j: usize)
@@ -65,10 +66,11 @@ fn wake(dist: &[i32], marks: &[u8], status: &mut [u8], a: usize, l: usize, at: u
     ensures { Woken (AtBits (may_go (marked marks.now) dist.now) idle (from_voxel a l at)) status.old status.new }
 {
     let mut m = idle;
+    // a `while`, since each step drops the lowest set bit
     while 0 < m {
         let p = bits::lowest(m) / 2;
         wake_one(dist, marks, status, at + offset(a, l, p));
-        m = m & (m - 1);
+        m &= m - 1;
     }
 }
 

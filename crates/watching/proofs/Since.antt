@@ -1,7 +1,7 @@
 -- Whether any voxel passes, by those around what has gone since none did; and an entry more.
 use mathlib.Core.Path.{◌≡◌, refl, ap, sym, ◌∙◌, subst, fun_ext}
 use mathlib.Core.Logic.{inl, inr}
-use mathlib.Core.Bool.{Bool, true, false, not, ◌&&◌, ◌||◌}
+use mathlib.Core.Bool.{Bool, true, false, not, ◌&&◌}
 use mathlib.Core.List.{List}
 use Prim.Native.Nat.{ℕ, ◌+◌, ◌-◌, ◌*◌, ◌≤◌, ◌<◌}
 use native.Mathlib.Omega.{arith}
@@ -13,7 +13,7 @@ use Rattle.cells.specs.Groups.{any}
 use Rattle.cells.specs.Cells.{test, passes}
 use Rattle.prelude.proofs.Lists.{any-true, any_false}
 use Rattle.prelude.proofs.Bools.{and-true, two, not-both, both_ways}
-use Rattle.prelude.proofs.Ranges.{range-mem, mem-range, any_below, below-any, none_below, below_none, scan-next}
+use Rattle.prelude.proofs.Ranges.{range-mem, mem-range, any_below, below-any, none_below, below_none}
 use Rattle.rules.specs.declared.Sides.{Sides}
 use Rattle.rules.specs.Grid.{size, range, voxels, touch, neighbourhood}
 use Rattle.rules.specs.Neighbours.{Inner}
@@ -27,13 +27,6 @@ use Rattle.judging.specs.Judge.{entry_length, less_one, can_pass, some_passes}
 use Rattle.entries.specs.Entries.{index_of, taken_out}
 use Rattle.watching.specs.Watching.{passes_around, any_around, OnlyNear, Since}
 use Rattle.watching.proofs.Gone.{all-inner, gone-kept, gone_held}
-
--- one position more around a voxel
-pub around-next : (s : Sides) (dist : List ℤ) (status : List ℕ) (i p j : ℕ) (found t : Bool) → found ≡ any (passes_around s dist status i) (range 0 p)
-    → j ≡ around s i p → t ≡ can_pass s (is_inside dist) (is_kept status) j → found || t ≡ any (passes_around s dist status i) (range 0 (p + 1))
-unfolding passes_around
-around-next s dist status i p j found t e h f =
-    scan-next (passes_around s dist status i) p found t e (f ∙ ap (can_pass s (is_inside dist) (is_kept status)) h)
 
 -- ---- those around what has gone
 

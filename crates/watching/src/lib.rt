@@ -7,7 +7,7 @@ ghost use Rattle.rules.specs.Neighbours.{Inner};
 ghost use Rattle.rules.specs.Status.{is_kept};
 ghost use Rattle.rules.specs.Machine.{is_inside};
 ghost use Rattle.judging.specs.Judge.{can_pass, some_passes};
-ghost use Rattle.watching.specs.Watching.{standing, Held, any_around, Since};
+ghost use Rattle.watching.specs.Watching.{standing, Held, passes_around, any_around, Since};
 
 use rules::Sides;
 
@@ -16,8 +16,7 @@ pub fn stands(dist: &[i32], status: &[u8], j: usize) -> bool
     requires { (j < length dist.now) × (j < length status.now) }
     ensures { result ≡ standing dist.now status.now j }
 {
-    let d = dist[j];
-    status::is_kept(status[j]) & !(d < 0)
+    status::is_kept(status[j]) & (dist[j] >= 0)
 }
 
 // Whether it passes as well.
@@ -25,10 +24,16 @@ pub fn can_pass(s: Sides, dist: &[i32], status: &[u8], j: usize) -> bool
     requires { Held s dist.now status.now × (j < size s) }
     ensures { result ≡ can_pass s (is_inside dist.now) (is_kept status.now) j }
 {
-    if !stands(dist, status, j) {
-        return false;
-    }
-    neighbourhood::passes_at(s, status, j)
+    stands(dist, status, j) && neighbourhood::passes_at(s, status, j)
+}
+
+// Whether the voxel at position p around voxel i can.
+fn passes_around(s: Sides, dist: &[i32], status: &[u8], i: usize, p: usize) -> bool
+    requires { Held s dist.now status.now × Inner s i × (p < 27) }
+    ensures { result ≡ passes_around s dist.now status.now i p }
+{
+    let j = neighbourhood::first_around(s, i) + waking::offset(s.a, s.a * s.b, p);
+    can_pass(s, dist, status, j)
 }
 
 // Whether one of the 27 voxels around voxel i can.
@@ -36,17 +41,12 @@ fn any_around(s: Sides, dist: &[i32], status: &[u8], i: usize) -> bool
     requires { Held s dist.now status.now × Inner s i }
     ensures { result ≡ any_around s dist.now status.now i }
 {
-    let at = neighbourhood::first_around(s, i);
-    let a = s.a;
-    let l = s.a * s.b;
-    let mut found = false;
-    let mut p: usize = 0;
-    while p < 27 {
-        let j = at + waking::offset(a, l, p);
-        found = found | can_pass(s, dist, status, j);
-        p += 1;
+    for p in 0..27 {
+        if passes_around(s, dist, status, i, p) {
+            return true;
+        }
     }
-    found
+    false
 }
 
 // Whether any voxel can, by a look at each.
@@ -54,14 +54,12 @@ fn any_at_all(s: Sides, dist: &[i32], status: &[u8]) -> bool
     requires { Held s dist.now status.now }
     ensures { result ≡ some_passes s (is_inside dist.now) (is_kept status.now) }
 {
-    let n = status.len();
-    let mut found = false;
-    let mut j: usize = 0;
-    while j < n {
-        found = found | can_pass(s, dist, status, j);
-        j += 1;
+    for j in 0..status.len() {
+        if can_pass(s, dist, status, j) {
+            return true;
+        }
     }
-    found
+    false
 }
 
 // Whether any voxel can, by a look around the voxels of the entries from this one, at which none could, up to that one.
@@ -69,14 +67,13 @@ fn any_since(s: Sides, dist: &[i32], status: &[u8], list: &[u8], from: usize, to
     requires { Since s dist.now status.now list.now true from to }
     ensures { result ≡ some_passes s (is_inside dist.now) (is_kept status.now) }
 {
-    let mut found = false;
-    let mut r = from;
-    while r < to {
+    for r in from..to {
         let i = entries::index_of(list, r);
-        found = found | any_around(s, dist, status, i);
-        r += 1;
+        if any_around(s, dist, status, i) {
+            return true;
+        }
     }
-    found
+    false
 }
 
 // Whether any voxel can: where it was asked before, by what has gone since.
@@ -93,7 +90,8 @@ pub fn some_pass(
     ensures { result ≡ some_passes s (is_inside dist.now) (is_kept status.now) }
 {
     if asked {
-        return any_since(s, dist, status, list, from, to);
+        any_since(s, dist, status, list, from, to)
+    } else {
+        any_at_all(s, dist, status)
     }
-    any_at_all(s, dist, status)
 }

@@ -9,10 +9,8 @@ pub fn join_nodes(tree: &mut [u64], p: usize)
     requires { (1 ≤ p) × (2 * p ≤ length tree.old) }
     ensures { Grown p tree.old tree.new }
 {
-    let mut i = p;
-    while 1 < i {
-        i -= 1;
-        tree[i] = numbers::greater_u64(tree[2 * i], tree[2 * i + 1]);
+    for i in (1..p).rev() {
+        tree[i] = tree[2 * i].max(tree[2 * i + 1]);
     }
 }
 
@@ -31,8 +29,9 @@ pub fn replace(tree: &mut [u64], p: usize, k: usize, v: u64)
     let mut i = p + k;
     let mut g = v;
     tree[i] = g;
+    // the way up halves the index
     while 1 < i {
-        g = numbers::greater_u64(g, tree[sibling(i)]);
+        g = g.max(tree[sibling(i)]);
         i /= 2;
         tree[i] = g;
     }
@@ -44,10 +43,8 @@ pub fn lift(tree: &mut [u64], p: usize, k: usize, w: u64)
     ensures { Changed p k (max (get_or tree.old (p + k) 0) w) tree.old tree.new }
 {
     let mut i = p + k;
-    while 0 < i {
-        if w <= tree[i] {
-            return;
-        }
+    // the way up halves the index
+    while 0 < i && tree[i] < w {
         tree[i] = w;
         i /= 2;
     }

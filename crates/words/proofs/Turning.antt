@@ -2,6 +2,7 @@
 use mathlib.Core.Path.{◌≡◌, sym, ap, subst, ◌∙◌}
 use mathlib.Core.Logic.{⊎_elim}
 use mathlib.Core.Bool.{true, false, cond}
+use Rattle.std.specs.Int.{int_max, int_min}
 use Prim.Native.Nat.{ℕ, suc, ◌+◌, ◌-◌, ◌*◌, ◌^◌, ◌≤◌, ◌<◌}
 use native.Mathlib.Omega.{arith}
 use lib.Bits.{bit_xor, xor_comm, xor_shifted, xor_block, xor_zero_r, xor_lt}
@@ -12,7 +13,6 @@ use mir.Syntax.{w32}
 use mir.Val.{SFits, to_z, of_z}
 use mir.Facts.{to_z_pos}
 use borrow.Author.Tests.{lt-ltb, le-ltb, ltb-true, ltb-false, eqb-true, eqb-false}
-use Rattle.numbers.specs.Signed.{greater, lesser}
 use Rattle.prelude.proofs.Bools.{two}
 use Rattle.prelude.proofs.Signs.{below, not-below, sign}
 use Rattle.rules.specs.Value.{beyond}
@@ -96,7 +96,7 @@ all_said (negsuc n) =
     (λ e. sym (narrowed-other 2147483648 n e))
     (two (eqb n 2147483647))
 
-pub held : (high : ℕ) → 32767 ≤ high → (z : ℤ) → Holds 32768 z → greater (lesser z (pos high)) (negsuc 32767) ≡ narrowed 32768 z
+pub held : (high : ℕ) → 32767 ≤ high → (z : ℤ) → Holds 32768 z → int_max (negsuc 32767) (int_min z (pos high)) ≡ narrowed 32768 z
 unfolding beyond
 held high l (pos n) m = rw (le-ltb high n (omega (arith, ltb-false 32767 n m))) (sym (narrowed-pos 32768 n))
 held high l (negsuc n) m =

@@ -5,43 +5,53 @@ ghost use Rattle.std.specs.Prelude.{◌≡◌, ◌+◌, ◌<◌, ◌≤◌, cond
 ghost use Rattle.std.proofs.lemmas.List.Edits.{sets};
 ghost use Rattle.std.specs.Int.Signed.{mag};
 ghost use Rattle.format.specs.Bytes as spec;
-ghost use Rattle.format.specs.Bytes.{Width, half, signed, widened, Holds, value_of, word_bytes, value_bytes, tagged};
+ghost use Rattle.format.specs.Bytes.{half, signed, widened, Holds, value_of, word_bytes, value_bytes, tagged};
+ghost use Rattle.words.specs.Widths.{bytes_in};
+
+// How many bytes a value has.
+#[derive(Clone, Copy, PartialEq, Eq)]
+pub enum Width {
+    Two,
+    Four,
+}
+
+impl Width {
+    pub fn bytes(self) -> usize
+        ensures { result ≡ bytes_in self }
+    {
+        match self {
+            Width::Two => 2,
+            Width::Four => 4,
+        }
+    }
+}
 
 // ---- read
-
-fn wide(x: u8) -> u32
-    ensures { (result ≡ x) × (result < 256) }
-{
-    x as u32
-}
 
 fn two_bytes(bytes: &[u8], at: usize) -> u32
     requires { at + 2 ≤ length bytes.now }
     ensures { (result ≡ spec.word 2 bytes.now at) × (result < 65536) }
 {
-    wide(bytes[at]) + 256 * wide(bytes[at + 1])
+    u32::from(bytes[at]) + 256 * u32::from(bytes[at + 1])
 }
 
 // A number of so many bytes, low byte first.
-pub fn word(bytes: &[u8], at: usize, width: usize) -> u32
-    requires { (Width width) × (at + width ≤ length bytes.now) }
-    ensures { (result ≡ spec.word width bytes.now at) × (result < half width + half width) }
+pub fn word(bytes: &[u8], at: usize, width: Width) -> u32
+    requires { at + bytes_in width ≤ length bytes.now }
+    ensures { (result ≡ spec.word (bytes_in width) bytes.now at) × (result < half (bytes_in width) + half (bytes_in width)) }
 {
     let low = two_bytes(bytes, at);
-    if width == 2 {
-        return low;
+    match width {
+        Width::Two => low,
+        Width::Four => low + 65536 * two_bytes(bytes, at + 2),
     }
-    low + 65536 * two_bytes(bytes, at + 2)
 }
 
 // How far the value of two bytes falls: the missing mark to the one of 32 bits, any other not at all.
 fn fall(n: u32) -> i32
     ensures { result ≡ cond (eqb n 32768) (pos 2147450880) (pos 0) }
 {
-    if n == 32768 {
-        return 2147450880;
-    }
-    0
+    if n == 32768 { 2147450880 } else { 0 }
 }
 
 // The value of two bytes: the sign bit turned over, less 32,768, is two's complement. No case takes a way of its own, so that a compiler does many at
@@ -58,31 +68,29 @@ fn long_value(n: u32) -> i32
     ensures { result ≡ signed 2147483648 n }
 {
     if n < 2147483648 {
-        return n as i32;
+        n as i32
+    } else {
+        !((4294967295 - n) as i32)
     }
-    !((4294967295 - n) as i32)
 }
 
 // A value of so many bytes. The width is asked for as in `word`: of one test the compiler makes a loop for each width.
-pub fn value(bytes: &[u8], at: usize, width: usize) -> i32
-    requires { (Width width) × (at + width ≤ length bytes.now) }
-    ensures { result ≡ value_of width bytes.now at }
+pub fn value(bytes: &[u8], at: usize, width: Width) -> i32
+    requires { at + bytes_in width ≤ length bytes.now }
+    ensures { result ≡ value_of (bytes_in width) bytes.now at }
 {
     let n = word(bytes, at, width);
-    if width == 2 {
-        return short_value(n);
+    match width {
+        Width::Two => short_value(n),
+        Width::Four => long_value(n),
     }
-    long_value(n)
 }
 
 // Fewer bytes are left from start on; start may lie anywhere.
 pub fn is_short(len: usize, start: usize, needed: usize) -> bool
     ensures { result ≡ ltb len (start + needed) }
 {
-    if len < start {
-        return true;
-    }
-    len - start < needed
+    len < start || len - start < needed
 }
 
 pub fn is_tagged(file: &[u8], start: usize, kind: u8) -> bool
@@ -103,39 +111,39 @@ fn put_two_bytes(bytes: &mut [u8], at: usize, n: u32)
 }
 
 // A number as so many bytes, low byte first.
-pub fn put_word(bytes: &mut [u8], at: usize, width: usize, n: u32)
-    requires { (Width width) × (at + width ≤ length bytes.old) × (n < half width + half width) }
-    ensures { bytes.new ≡ sets bytes.old at (word_bytes width n) }
+pub fn put_word(bytes: &mut [u8], at: usize, width: Width, n: u32)
+    requires { (at + bytes_in width ≤ length bytes.old) × (n < half (bytes_in width) + half (bytes_in width)) }
+    ensures { bytes.new ≡ sets bytes.old at (word_bytes (bytes_in width) n) }
 {
-    if width == 2 {
-        put_two_bytes(bytes, at, n);
-        return;
+    match width {
+        Width::Two => put_two_bytes(bytes, at, n),
+        Width::Four => {
+            put_two_bytes(bytes, at, n % 65536);
+            put_two_bytes(bytes, at + 2, n / 65536);
+        }
     }
-    put_two_bytes(bytes, at, n % 65536);
-    put_two_bytes(bytes, at + 2, n / 65536);
 }
 
 // Half of the numbers of so many bytes: the one that marks a missing point.
-fn half_of(width: usize) -> u32
-    requires { Width width }
-    ensures { (result ≡ half width) × (result ≤ 2147483648) }
+fn half_of(width: Width) -> u32
+    ensures { (result ≡ half (bytes_in width)) × (result ≤ 2147483648) }
 {
-    if width == 2 {
-        return 32768;
+    match width {
+        Width::Two => 32768,
+        Width::Four => 2147483648,
     }
-    2147483648
 }
 
 // The value as so many bytes say it. For two it is held to -32,768 to 32,767, by which the mark of 32 bits becomes the one of 16 with no case told apart,
 // and a compiler does many at a time. No value is over 32,767, but the processor's step holds both ends.
-fn narrowed(width: usize, v: i32) -> i32
-    requires { (Width width) × (Holds (half width) v) }
-    ensures { result ≡ spec.narrowed (half width) v }
+fn narrowed(width: Width, v: i32) -> i32
+    requires { Holds (half (bytes_in width)) v }
+    ensures { result ≡ spec.narrowed (half (bytes_in width)) v }
 {
-    if width == 2 {
-        return numbers::greater_i32(numbers::lesser_i32(v, 32767), -32768);
+    match width {
+        Width::Two => v.clamp(-32768, 32767),
+        Width::Four => v,
     }
-    v
 }
 
 // Two's complement.
@@ -151,9 +159,9 @@ fn unsigned(h: u32, v: i32) -> u32
 }
 
 // A value as so many bytes.
-pub fn put_value(bytes: &mut [u8], at: usize, width: usize, v: i32)
-    requires { (Width width) × (at + width ≤ length bytes.old) × (Holds (half width) v) }
-    ensures { bytes.new ≡ sets bytes.old at (value_bytes width v) }
+pub fn put_value(bytes: &mut [u8], at: usize, width: Width, v: i32)
+    requires { (at + bytes_in width ≤ length bytes.old) × (Holds (half (bytes_in width)) v) }
+    ensures { bytes.new ≡ sets bytes.old at (value_bytes (bytes_in width) v) }
 {
     put_word(
         bytes,

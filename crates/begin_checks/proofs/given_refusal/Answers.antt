@@ -1,7 +1,7 @@
 -- `given_refusal` is the number of the first check that fails.
 use mathlib.Core.Path.{◌≡◌, refl, sym, ap, ap₂, ◌∙◌}
 use mathlib.Core.Bool.{Bool, true, false, not, ◌||◌}
-use Prim.Native.Nat.{ℕ, ◌-◌}
+use Prim.Native.Nat.{ℕ}
 use native.Mathlib.Omega.{arith}
 use borrow.Author.Tests.{eq-eqb, ne_eqb, lt-ltb, le-ltb}
 use lib.Dec.{eqb, ltb}
@@ -9,15 +9,16 @@ use lib.ListN.{length}
 use Rattle.cells.specs.Groups.{any}
 use Rattle.prelude.proofs.Bools.{or-one}
 use Rattle.rules.specs.Value.{stray}
-use Rattle.rules.specs.Grid.{size, range}
+use Rattle.rules.specs.Grid.{size, range, measured_negative, missing}
 use Rattle.rules.specs.Checks.{first_failing}
 use Rattle.rules.specs.Marks.{stray_mark, wrong_marks}
 use Rattle.rules.proofs.Places.{fit}
 use Rattle.marks.proofs.Lent.{few-sized, stray-is}
 use Rattle.begin_checks.specs.Given.{negative_at, given_checks}
+use Rattle.loops.proofs.Spans.{any-read}
 use Rattle.begin_checks.proofs.Numbers.{wrong-length, turns, number_is}
 use Rattle.begin_checks.proofs.given_refusal.Goals as goal
-use Rattle.begin_checks.proofs.given_refusal.Goals.{After-any_negative, After-voxel_count-n, Else-all-gt3, Else-any_beyond, Else-edge_negative, Else-marks-n}
+use Rattle.begin_checks.proofs.given_refusal.Goals.{After-voxel_count-n, Else-all-gt3, Else-any_beyond, Else-edge_negative, Else-marks-n, then-values-n-via-then-values-n, then-values-n-via-else-values-n+then-marks-n}
 
 -- a length is wrong
 refused : (c : After-voxel_count-n) → let a = c.args in wrong-length a.sides a.values.now a.marks.now ≡ true
@@ -25,20 +26,16 @@ refused : (c : After-voxel_count-n) → let a = c.args in wrong-length a.sides a
 refused c e = let a = c.args in number_is a.sides a.values.now a.marks.now true _ _ _ _ e refl refl refl refl
 
 pub returns-then-values-n : goal.returns-then-values-n
+unfolding wrong_marks
 returns-then-values-n c =
     let a = c.args in
     let e = c.voxel_count-n.ensures.0 in
-    refused (goal.at.returns-then-values-n c).After-voxel_count-n (ap (λ (t : Bool). not t || wrong_marks a.sides a.marks.now)
-    (ne_eqb (length a.values.now) (size a.sides) (λ q. let z : ⊥ = omega (arith, c.if-values-n.true) in z)))
-
-pub returns-then-marks-n : goal.returns-then-marks-n
-unfolding wrong_marks
-returns-then-marks-n c =
-    let a = c.args in
-    let e = c.voxel_count-n.ensures.0 in
     let short = not (eqb (length a.values.now) (size a.sides)) in
-    refused (goal.at.returns-then-marks-n c).After-voxel_count-n (ap (λ (t : Bool). short || not t)
-    (ne_eqb (length a.marks.now) (size a.sides) (λ q. let z : ⊥ = omega (arith, c.if-marks-n.true) in z)) ∙ or-one short)
+    refused (goal.at.returns-then-values-n c).After-voxel_count-n
+    (elim c.then-values-n.branch [
+      | then-values-n-via-then-values-n w ↦ ap (λ (t : Bool). not t || wrong_marks a.sides a.marks.now) (ne_eqb _ _ (λ q. omega (arith, w.if-values-n.true)))
+      | then-values-n-via-else-values-n+then-marks-n w ↦ ap (λ (t : Bool). short || not t) (ne_eqb _ _ (λ q. omega (arith, w.if-marks-n.true))) ∙ or-one short
+    ])
 
 values-long : (c : Else-marks-n) → let a = c.args in length a.values.now ≡ size a.sides
 values-long c = omega (arith, c.voxel_count-n.ensures.0, c.if-values-n.false)
@@ -90,21 +87,17 @@ decided c t lengths values marks scan =
     let a = c.args in
     number_is a.sides a.values.now a.marks.now false false false false t lengths values marks (sym c.edge_negative.ensures ∙ c.if-edge_negative.false) scan
 
-scanned : (c : After-any_negative) (t : Bool) → c.any_negative.result ≡ t → let a = c.args in any (negative_at a.values.now) (range 0 (size a.sides)) ≡ t
-scanned c t e =
-    let a = c.args in
-    let n = c.voxel_count-n in
-    let all : n.result - 0 ≡ size a.sides = omega (arith, n.ensures.0) in
-    ap (λ (k : ℕ). any (negative_at a.values.now) (range 0 k)) (sym all) ∙ sym c.any_negative.ensures ∙ e
+scanned : (c : Else-marks-n) → let a = c.args in any (negative_at a.values.now) (range 0 (size a.sides)) ≡ any measured_negative a.values.now
+scanned c = let a = c.args in ap (λ (k : ℕ). any (negative_at a.values.now) (range 0 k)) (sym (values-long c)) ∙ sym (any-read measured_negative missing a.values.now)
 
 pub returns-then-not-any_negative : goal.returns-then-not-any_negative
 returns-then-not-any_negative c =
     let g = goal.at.returns-then-not-any_negative c in
     decided g.Else-edge_negative false (right g.Else-marks-n) (known g.Else-any_beyond) (unstray g.Else-all-gt3)
-    (scanned g.After-any_negative false c.if-not-any_negative.true)
+    (scanned g.Else-marks-n ∙ sym c.any_negative.ensures ∙ c.if-not-any_negative.true)
 
 pub returns : goal.returns
 returns c =
     let g = goal.at.returns c in
     decided g.Else-edge_negative true (right g.Else-marks-n) (known g.Else-any_beyond) (unstray g.Else-all-gt3)
-    (scanned g.After-any_negative true c.if-not-any_negative.false)
+    (scanned g.Else-marks-n ∙ sym c.any_negative.ensures ∙ c.if-not-any_negative.false)

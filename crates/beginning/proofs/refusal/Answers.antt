@@ -3,15 +3,14 @@ use mathlib.Core.Path.{◌≡◌, sym, ap, ap₂, ◌∙◌}
 use mathlib.Core.Bool.{Bool, true, ◌&&◌}
 use mathlib.Core.List.{[]}
 use native.Mathlib.Omega.{arith}
-use borrow.Author.Rules.{rules}
 use borrow.Author.Tests.{eq-eqb, ne_eqb}
 use lib.Dec.{eqb}
 use lib.ListN.{length}
-use Rattle.prelude.proofs.Bools.{not-true, not-false, and_zero}
+use Rattle.prelude.proofs.Bools.{and_zero}
 use Rattle.rules.specs.Grid.{fit_sides, size}
 use Rattle.begin_checks.proofs.Numbers.{sides-refused, others-refused, others-held}
 use Rattle.beginning.proofs.refusal.Goals as goal
-use Rattle.beginning.proofs.refusal.Goals.{Else-not-fit_sides}
+use Rattle.beginning.proofs.refusal.Goals.{Else-not-fit_sides, then-dist-n-via-then-dist-n, then-dist-n-via-else-dist-n+then-status-n}
 
 pub returns-then-not-fit_sides : goal.returns-then-not-fit_sides
 returns-then-not-fit_sides c =
@@ -28,17 +27,12 @@ pub returns-then-dist-n : goal.returns-then-dist-n
 returns-then-dist-n c =
     let a = c.args in
     let e = c.voxel_count-n.ensures.0 in
-    others-refused a.sides a.values.now a.marks.now _ [] (fits (goal.at.returns-then-dist-n c).Else-not-fit_sides)
-    (ap (λ (t : Bool). t && eqb (length a.status.now) (size a.sides))
-    (ne_eqb (length a.dist.now) (size a.sides) (λ q. let z : ⊥ = omega (arith, c.if-dist-n.true) in z)))
-
-pub returns-then-status-n : goal.returns-then-status-n
-returns-then-status-n c =
-    let a = c.args in
-    let e = c.voxel_count-n.ensures.0 in
     let d = eqb (length a.dist.now) (size a.sides) in
-    others-refused a.sides a.values.now a.marks.now _ [] (fits (goal.at.returns-then-status-n c).Else-not-fit_sides)
-    (ap (λ (t : Bool). d && t) (ne_eqb (length a.status.now) (size a.sides) (λ q. let z : ⊥ = omega (arith, c.if-status-n.true) in z)) ∙ and_zero d)
+    others-refused a.sides a.values.now a.marks.now _ [] (fits (goal.at.returns-then-dist-n c).Else-not-fit_sides)
+    (elim c.then-dist-n.branch [
+      | then-dist-n-via-then-dist-n w ↦ ap (λ (t : Bool). t && eqb (length a.status.now) (size a.sides)) (ne_eqb _ _ (λ q. omega (arith, w.if-dist-n.true)))
+      | then-dist-n-via-else-dist-n+then-status-n w ↦ ap (λ (t : Bool). d && t) (ne_eqb _ _ (λ q. omega (arith, w.if-status-n.true))) ∙ and_zero d
+    ])
 
 pub given_refusal-requires : goal.given_refusal-requires
 given_refusal-requires c = (fits (goal.at.given_refusal-requires c).Else-not-fit_sides, c.requires)

@@ -5,9 +5,8 @@ use Prim.Native.Nat.{ℕ}
 use Rattle.rules.specs.Fill.{filled}
 use Rattle.rules.specs.Begin.{inside}
 use Rattle.rules.proofs.Places.{Fit, fit}
-use Rattle.distances.specs.Work.{Seeded, Measured}
+use Rattle.distances.specs.Work.{Seeded}
 use Rattle.beginning.proofs.Settling.{seeded, distanced}
-use borrow.Author.Rules.{rules}
 use Rattle.beginning.proofs.work_distances.Goals as goal
 use Rattle.beginning.proofs.work_distances.Goals.{After-find, Start}
 

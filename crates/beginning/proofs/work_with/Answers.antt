@@ -1,5 +1,4 @@
 -- `work_with` leaves what the rule says with marks.
-use borrow.Author.Rules.{rules}
 use Rattle.rules.specs.Fill.{filled}
 use Rattle.beginning.proofs.FirstMarks.{worked-with}
 use Rattle.beginning.proofs.work_with.Goals as goal

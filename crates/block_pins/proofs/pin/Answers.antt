@@ -1,40 +1,36 @@
--- `pin`: the rows before this one are written.
-use Prim.Native.Nat.{◌/◌}
+-- `pin`: a block has the byte of its eight voxels.
+use mathlib.Core.Path.{◌≡◌, ap, ◌∙◌}
+use mathlib.Core.Bool.{cond}
+use mathlib.Core.List.{List}
+use Prim.Native.Nat.{ℕ, ◌*◌, ◌<◌}
 use native.Mathlib.Omega.{arith}
-use native.Mathlib.Nat.{mul-zero}
-use Rattle.rules.specs.Grid.{voxels}
-use Rattle.loops.proofs.InPlace.{each_none, each_all}
-use Rattle.loops.proofs.Rows.{each_row}
-use Rattle.blocks.proofs.Rows.{rows-low, past-rows, row-blocked}
+use borrow.Author.Rules.{rules}
+use lib.ListN.{length, get_or}
+use Rattle.prelude.proofs.Ranges.{is-map-range}
+use Rattle.cells.specs.Groups.{any}
+use Rattle.rules.specs.Grid.{size, voxels}
+use Rattle.rules.specs.Marks.{marked}
+use Rattle.coarse.specs.Blocks.{halved, block_marks}
+use Rattle.blocks.specs.Work.{corners, corner}
+use Rattle.blocks.proofs.Rows.{layer-few, corners-are, corners-room}
+use Rattle.block_pins.specs.Pins.{pin_at}
 use Rattle.block_pins.proofs.Pins.{pins-are}
 use Rattle.block_pins.proofs.pin.Goals as goal
 
-pub overflow_mul-rows : goal.overflow_mul-rows
-overflow_mul-rows c = omega (arith, rows-low c.args.s c.requires.half-sides)
+pub overflow_mul-l : goal.overflow_mul-l
+overflow_mul-l c = omega (arith, layer-few c.args.s c.requires.sides)
 
-pub loop-row-init : goal.loop-row-init
-loop-row-init c = let a = c.args in (omega arith, each_none _ _ _ _ _ (omega (arith, mul-zero (a.s.a / 2))))
-
-pub pin_row-requires : goal.pin_row-requires
-pin_row-requires c =
-    row-blocked c.requires c.loop-row.invariant.1.len c.loop-row-test.true
-
-pub overflow_add-row : goal.overflow_add-row
-overflow_add-row c =
-    omega (arith, c.loop-row-test.true, rows-low c.args.s c.requires.half-sides)
-
-pub loop-row-preserved : goal.loop-row-preserved
-loop-row-preserved c =
-    let a = c.args in (
-      omega (arith, c.loop-row-test.true),
-      each_row _ _ (a.s.a / 2) c.loop-row.row _ _ _ c.loop-row.invariant.1 c.pin_row.ensures,
-    )
-
-pub shape_of-pins : goal.shape_of-pins
-shape_of-pins c = c.loop-row.invariant.1.len
+pub fill_with-requires-clause-callable : goal.fill_with-requires-clause-callable
+fill_with-requires-clause-callable c = λ j l. let r = corners-room c.args.s _ _ c.requires j l in search rules
 
 pub returns : goal.returns
-unfolding voxels
+unfolding voxels block_marks
 returns c =
-    pins-are c.args.s c.args.marks.now _ c.requires _
-    (each_all _ _ _ _ _ _ c.requires.blocks-len (past-rows c.args.s c.loop-row.row c.loop-row-test.false) c.loop-row.invariant.1)
+    let a = c.args in
+    let each : (j : ℕ) → j < length a.pins.now
+    → get_or c.fill_with.new.blocks j 0 ≡ cond (any (marked a.marks.now).pinned (corners a.s.a (a.s.a * a.s.b) (corner a.s j))) 1 0 =
+    λ j l. let h = c.fill_with.ensures j 0 l in search rules in
+    pins-are a.s a.marks.now _ c.requires c.fill_with.new.blocks
+    (is-map-range (λ j. pin_at a.s (marked a.marks.now) j 0) 0 (size (halved a.s)) c.fill_with.new.blocks (omega (arith, c.requires.blocks-len))
+    (λ j l. each j (omega (arith, c.requires.blocks-len))
+    ∙ ap (λ (js : List ℕ). cond {A = ℕ} (any (marked a.marks.now).pinned js) 1 0) (corners-are a.s _ _ c.requires j)))

@@ -1,37 +1,27 @@
 -- `label`: below j the labels are written.
-use mathlib.Core.Path.{◌≡◌, ◌∙◌, ap, subst}
-use Prim.Native.Nat.{ℕ, ◌-◌, ◌≤◌}
+use mathlib.Core.Path.{◌≡◌, refl, ap, ◌∙◌}
 use native.Mathlib.Omega.{arith}
-use lib.IntN.{ℤ}
-use lib.ListN.{length}
-use mir.Syntax.{w32}
-use mir.Val.{to_z, of_z}
+use borrow.Author.Tests.{le-leb}
+use lib.IntN.{ℤ, pos, negsuc}
+use lib.Signed.{le_z}
 use mir.Facts.{to_z-of_z}
-use borrow.Author.Rules.{rules, sfits_of}
+use borrow.Author.Rules.{rules}
+use mir.Syntax.{w32}
+use mir.Val.{SFits, bool_byte}
 use Rattle.rules.specs.Grid.{distance_at}
-use Rattle.loops.specs.InPlace.{Each}
-use Rattle.loops.proofs.InPlace.{each_none, each_more}
 use Rattle.block_start.specs.Start.{label_of}
+use Rattle.loops.proofs.InPlace.{each_none, each_more}
 use Rattle.block_start.proofs.label.Goals as goal
 
+label-is : (z : ℤ) → bool_byte (le_z (pos 0) z) ≡ label_of z
+label-is (pos n) = ap bool_byte (le-leb 0 n (omega arith))
+label-is (negsuc n) = refl
+
 pub loop-j-init : goal.loop-j-init
-loop-j-init c = (omega arith, each_none _ _ _ _ _ (omega arith))
+loop-j-init c = each_none _ _ _ _ _ (omega arith)
 
 pub loop-j-preserved : goal.loop-j-preserved
 loop-j-preserved c =
-    let j = c.loop-j.j in
-    let d : ℤ = distance_at c.args.blocks.now j in
-    let e : to_z w32 (of_z w32 d) ≡ d = to_z-of_z (sfits_of {w = w32} c.d-1.given) in (
-      search rules,
-      each_more _ _ _ j _ c.loop-j.status c.label_of.result (omega arith) (omega (arith, c.requires, c.loop-j-test.true)) c.loop-j.invariant.1
-          (c.label_of.ensures ∙ ap (λ (x : ℤ). label_of x) e),
-    )
-
-pub shape_of-status : goal.shape_of-status
-shape_of-status c = c.loop-j.invariant.1.len
-
-pub returns : goal.returns
-returns c =
-    let a = c.args in
-    subst (λ (n : ℕ). Each 0 (λ k d. label_of (distance_at a.blocks.now k)) 0 n a.status.now c.loop-j.status)
-    (let e : c.loop-j.j ≡ length a.blocks.now = omega (arith, c.loop-j-test.false) in e) c.loop-j.invariant.1
+    let f : SFits w32 (distance_at c.args.blocks.now c.loop-j.j) = search rules in
+    each_more _ _ _ c.loop-j.j _ c.loop-j.status c.from.result (omega arith) (omega (arith, c.loop-j.invariant.len)) c.loop-j.invariant
+    (c.from.ensures ∙ ap (λ (z : ℤ). bool_byte (le_z (pos 0) z)) (to_z-of_z f) ∙ label-is (distance_at c.args.blocks.now c.loop-j.j))

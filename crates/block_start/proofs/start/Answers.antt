@@ -1,6 +1,5 @@
 -- `start` leaves what the rule says.
 use mathlib.Core.Path.{refl}
-use borrow.Author.Rules.{rules}
 use Rattle.block_start.proofs.Starting.{labelled, started}
 use Rattle.block_start.proofs.start.Goals as goal
 

@@ -1,42 +1,31 @@
--- `measure`: the rows before this one are written.
-use Prim.Native.Nat.{◌*◌, ◌-◌, ◌/◌, ◌≤◌}
+-- `measure`: each block has the least distance of its eight voxels.
+use mathlib.Core.Path.{◌≡◌, ap, ◌∙◌}
+use mathlib.Core.List.{List, map}
+use Prim.Native.Nat.{ℕ, ◌*◌, ◌<◌}
 use native.Mathlib.Omega.{arith}
-use native.Mathlib.Nat.{mul-zero}
-use lib.IntN.{pos}
 use borrow.Author.Rules.{rules}
-use Rattle.rules.specs.Grid.{voxels}
-use Rattle.loops.specs.InPlace.{Each}
-use Rattle.loops.proofs.InPlace.{each_none, each_all}
-use Rattle.loops.proofs.Rows.{each_row}
-use Rattle.coarse.specs.Blocks.{block_distance, block_distances}
-use Rattle.blocks.proofs.Rows.{rows-low, past-rows, row-blocked}
+use lib.IntN.{pos}
+use lib.ListN.{length, get_or}
+use Rattle.prelude.proofs.Ranges.{is-map-range}
+use Rattle.rules.specs.Grid.{size, voxels, distance_at}
+use Rattle.coarse.specs.Blocks.{halved, least_of, block_distance, block_distances}
+use Rattle.blocks.specs.Work.{corners, corner}
+use Rattle.blocks.proofs.Rows.{layer-few, corners-are, corners-room}
 use Rattle.blocks.proofs.measure.Goals as goal
 
-pub overflow_mul-rows : goal.overflow_mul-rows
-overflow_mul-rows c = omega (arith, rows-low c.args.s c.requires.half-sides)
+pub overflow_mul-l : goal.overflow_mul-l
+overflow_mul-l c = omega (arith, layer-few c.args.s c.requires.sides)
 
-pub loop-row-init : goal.loop-row-init
-loop-row-init c = let a = c.args in (omega arith, each_none _ _ _ _ _ (omega (arith, mul-zero (a.s.a / 2))))
-
-pub measure_row-requires : goal.measure_row-requires
-measure_row-requires c =
-    row-blocked c.requires c.loop-row.invariant.1.len c.loop-row-test.true
-
-pub overflow_add-row : goal.overflow_add-row
-overflow_add-row c =
-    omega (arith, c.loop-row-test.true, rows-low c.args.s c.requires.half-sides)
-
-pub loop-row-preserved : goal.loop-row-preserved
-loop-row-preserved c =
-    let a = c.args in (
-      omega (arith, c.loop-row-test.true),
-      each_row _ _ (a.s.a / 2) c.loop-row.row _ _ _ c.loop-row.invariant.1 c.measure_row.ensures,
-    )
-
-pub shape_of-blocks : goal.shape_of-blocks
-shape_of-blocks c = c.loop-row.invariant.1.len
+pub fill_with-requires-clause-callable : goal.fill_with-requires-clause-callable
+fill_with-requires-clause-callable c = λ j l. let r = corners-room c.args.s _ _ c.requires j l in search rules
 
 pub returns : goal.returns
-unfolding block_distances voxels
+unfolding block_distances block_distance voxels
 returns c =
-    each_all _ _ _ _ _ _ c.requires.blocks-len (past-rows c.args.s c.loop-row.row c.loop-row-test.false) c.loop-row.invariant.1
+    let a = c.args in
+    let each : (j : ℕ) → j < length a.blocks.now
+    → get_or c.fill_with.new.blocks j (pos 0) ≡ least_of (map (distance_at a.dist.now) (corners a.s.a (a.s.a * a.s.b) (corner a.s j))) =
+    λ j l. let h = c.fill_with.ensures j (pos 0) l in search rules in
+    is-map-range (block_distance a.s a.dist.now) (pos 0) (size (halved a.s)) c.fill_with.new.blocks (omega (arith, c.requires.blocks-len))
+    (λ j l. each j (omega (arith, c.requires.blocks-len))
+    ∙ ap (λ (js : List ℕ). least_of (map (distance_at a.dist.now) js)) (corners-are a.s _ _ c.requires j))

@@ -2,10 +2,10 @@
 use mathlib.Core.Path.{◌≡◌, sym, ap, ◌∙◌}
 use mathlib.Core.List.{List}
 use Prim.Native.Nat.{ℕ}
-use borrow.Author.Rules.{rules}
 use lib.ListN.{take}
 use lib.Seq.{length-take-le}
-use Rattle.rules.specs.Answer.{Outcome, Buffers, Carving}
+use Rattle.rules.specs.declared.Carving.{Carving}
+use Rattle.rules.specs.Answer.{Outcome, Buffers}
 use Rattle.rules.specs.Marks.{Marked, marked}
 use Rattle.rules.specs.Machine.{State, state, may_go, sooner, carved, carve}
 use Rattle.rules.specs.Fit.{Marking}

@@ -1,5 +1,4 @@
 -- `carving::carve_fit` meets its contract.
-use borrow.Author.Rules.{rules}
 use Rattle.rules.specs.Marks.{marked}
 use Rattle.rules.specs.Machine.{State, state}
 use Rattle.counting.proofs.Counting.{countable-still}

@@ -2,7 +2,7 @@
 use mathlib.Core.Path.{◌≡◌}
 use mathlib.Core.Bool.{Bool}
 use mathlib.Core.List.{List, []}
-use Prim.Native.Nat.{ℕ, ◌-◌}
+use Prim.Native.Nat.{ℕ}
 use Rattle.office.specs.declared.Grids.{Grids}
 use Rattle.office.specs.Serve.{waits, to_serve}
 use Rattle.office.specs.Structs.{places_of, office_given}
@@ -15,6 +15,3 @@ w g status = waits (grids_of g [] status)
 
 abbrev pub invariant-loop-p : goal.invariant-loop-p
 invariant-loop-p l = to_serve (office_given l.g l.o [] l.status) ≡ left (w l.g l.status) l.g.count (places_of l.o) l.p
-
-abbrev pub decreases-loop-p : goal.decreases-loop-p
-decreases-loop-p l = l.g.count - l.p

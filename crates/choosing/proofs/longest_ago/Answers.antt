@@ -1,43 +1,48 @@
 -- `choosing::longest_ago` meets its contract: what is left of the order record gives the place.
 use mathlib.Core.Path.{◌≡◌, ap, sym, ◌∙◌}
 use mathlib.Core.Bool.{Bool, true, false, cond}
-use mathlib.Core.Option.{some}
-use Prim.Native.Nat.{◌+◌, ◌<◌}
+use mathlib.Core.List.{List}
+use Rattle.std.specs.Prelude.{Some}
+use Prim.Native.Nat.{ℕ, ◌+◌, ◌<◌}
 use native.Mathlib.Omega.{arith}
-use lib.ListN.{get_or}
-use borrow.Author.Rules.{rules}
+use lib.ListN.{length, get_or}
 use Rattle.office.specs.Order.{first_waiting}
-use Rattle.office.specs.Structs.{places_of}
-use Rattle.choosing.proofs.Choice.{found, found_none, rest, rest-next, rest-none}
+use Rattle.order_record.proofs.Places.{length-places, listed_at}
+use Rattle.choosing.proofs.Choice.{rest, rest-next, rest-none}
 use Rattle.choosing.proofs.longest_ago.Invariants.{w}
 use Rattle.choosing.proofs.longest_ago.Goals as goal
-use Rattle.choosing.proofs.longest_ago.Goals.{After-place_at-p, After-waits_at}
+use Rattle.choosing.proofs.longest_ago.Goals.{After-waits_at}
 
 -- the place is a grid's
-below : (c : After-place_at-p) → c.place_at-p.result < c.args.g.count
-below c = omega (arith, c.place_at-p.ensures, c.requires.below c.loop-k.k c.loop-k-test.true)
-
 pub waits_at-requires : goal.waits_at-requires
-waits_at-requires c = (c.requires.laid, below c)
+waits_at-requires c =
+    let o = c.args.o in
+    let k = c.loop-place.place-index in
+    let within : k < o.len = omega (arith, c.loop-place-test.true, ap length c.listed-place-items.ensures, length-places o) in
+    let e : c.from-p.result ≡ get_or o.places k 0 =
+    c.from-p.ensures ∙ ap (λ (l : List ℕ). get_or l k 0) c.listed-place-items.ensures ∙ listed_at 0 o.len o.places k within in
+    (c.requires.laid, omega (arith, c.requires.below k within))
 
 -- the order record from k on, by whether something is pending there
-by : (c : After-waits_at) (t : Bool) → c.waits_at.result ≡ t → let a = c.args in let v = w a.g a.status.now in
-    first_waiting v (places_of a.o) ≡ cond t (some (get_or a.o.places c.loop-k.k 0)) (rest v a.o (c.loop-k.k + 1))
+by : (c : After-waits_at) (t : Bool) → c.waits_at.result ≡ t
+    → let places = c.listed-place-items.result.now in
+    let v = w c.args.g c.args.status.now in
+    first_waiting v places ≡ cond t (Some (get_or places c.loop-place.place-index 0)) (rest v places (c.loop-place.place-index + 1))
 by c t e =
-    let a = c.args in
-    let v = w a.g a.status.now in
-    c.loop-k.invariant ∙ rest-next v a.o c.loop-k.k c.loop-k-test.true t (sym e ∙ c.waits_at.ensures ∙ ap v c.place_at-p.ensures)
+    let v = w c.args.g c.args.status.now in
+    c.loop-place.invariant
+    ∙ rest-next v c.listed-place-items.result.now c.loop-place.place-index c.loop-place-test.true t (ap v (sym c.from-p.ensures) ∙ sym c.waits_at.ensures ∙ e)
 
 pub returns-then-waits_at : goal.returns-then-waits_at
-returns-then-waits_at c = by (goal.at.returns-then-waits_at c).After-waits_at true c.if-waits_at.true ∙ ap some (sym c.place_at-p.ensures) ∙ found _ _ (below (goal.at.returns-then-waits_at c).After-place_at-p)
+returns-then-waits_at c =
+    let v = w c.args.g c.args.status.now in
+    ap Some c.from-p.ensures ∙ sym (by (goal.at.returns-then-waits_at c).After-waits_at true c.if-waits_at.true) ∙ ap (first_waiting v) c.listed-place-items.ensures
 
-pub overflow_add-k : goal.overflow_add-k
-overflow_add-k c = let few = c.requires.few in search rules
-
-pub loop-k-preserved : goal.loop-k-preserved
-loop-k-preserved c = by (goal.at.loop-k-preserved c).After-waits_at false c.if-waits_at.false
+pub loop-place-preserved : goal.loop-place-preserved
+loop-place-preserved c = by (goal.at.loop-place-preserved c).After-waits_at false c.if-waits_at.false
 
 pub returns : goal.returns
 returns c =
-    let a = c.args in
-    c.loop-k.invariant ∙ rest-none (w a.g a.status.now) a.o c.loop-k.k c.loop-k-test.false ∙ found_none a.g.count
+    let v = w c.args.g c.args.status.now in
+    sym (c.loop-place.invariant ∙ rest-none v c.listed-place-items.result.now c.loop-place.place-index c.loop-place-test.false)
+    ∙ ap (first_waiting v) c.listed-place-items.ensures

@@ -2,11 +2,10 @@
 use mathlib.Core.Path.{◌≡◌}
 use mathlib.Core.Bool.{Bool}
 use mathlib.Core.List.{List, []}
-use Prim.Native.Nat.{ℕ, ◌-◌}
+use Prim.Native.Nat.{ℕ}
 use Rattle.office.specs.declared.Grids.{Grids}
 use Rattle.office.specs.Order.{first_waiting}
 use Rattle.office.specs.Serve.{waits}
-use Rattle.office.specs.Structs.{places_of}
 use Rattle.serving_checks.specs.Given.{grids_of}
 use Rattle.choosing.proofs.Choice.{rest}
 use Rattle.choosing.proofs.longest_ago.Given as goal
@@ -14,8 +13,5 @@ use Rattle.choosing.proofs.longest_ago.Given as goal
 abbrev pub w : Grids → List ℕ → ℕ → Bool
 w g status = waits (grids_of g [] status)
 
-abbrev pub invariant-loop-k : goal.invariant-loop-k
-invariant-loop-k l = first_waiting (w l.g l.status) (places_of l.o) ≡ rest (w l.g l.status) l.o l.k
-
-abbrev pub decreases-loop-k : goal.decreases-loop-k
-decreases-loop-k l = l.o.len - l.k
+abbrev pub invariant-loop-place : goal.invariant-loop-place
+invariant-loop-place l = first_waiting (w l.g l.status) l.place-items ≡ rest (w l.g l.status) l.place-items l.place-index

@@ -5,16 +5,17 @@ use Prim.Native.Nat.{ℕ}
 use Rattle.rules.specs.Machine.{state, working_checks, quiet_checks}
 use Rattle.rules.specs.Status.{any_pending}
 use Rattle.rules.specs.Checks.{first_failing}
-use Rattle.rules.proofs.Checks.{fails-first, holds-first, all_hold, refused-first, held_first}
+use Rattle.rules.proofs.Checks.{fails-first, holds-first}
+use Rattle.rules.proofs.Refusals.{handed_on, refused-before, passed, passed-before}
 use Rattle.rules.proofs.Fit.{working}
 use Rattle.fitness.proofs.Pending.{any-pending-is}
 use Rattle.closing.proofs.quiet_refusal.Goals as goal
 use Rattle.closing.proofs.quiet_refusal.Goals.{After-any_pending}
 
-pub returns-then-n-ne0 : goal.returns-then-n-ne0
-returns-then-n-ne0 c =
+pub returns-in_err-working_refusal : goal.returns-in_err-working_refusal
+returns-in_err-working_refusal c =
     let g = state c.args.given c.args.dist.now c.args.status.now in
-    refused-first (working_checks g) (quiet_checks g) _ c.working_refusal-n.ensures c.if-n-ne0.true
+    handed_on _ _ c.from_residual.ensures.1 ∙ refused-before (working_checks g) (quiet_checks g) _ c.in_err-working_refusal.ensures
 
 -- the scan finds what the rule asks of a fit state
 pending :
@@ -22,14 +23,14 @@ pending :
     → let g = state c.args.given c.args.dist.now c.args.status.now in c.any_pending.result ≡ any_pending g.rec.sides g.status
 pending c =
     let g = state c.args.given c.args.dist.now c.args.status.now in
-    let w = working g (all_hold (working_checks g) refl (sym c.working_refusal-n.ensures ∙ c.if-n-ne0.false)) in
+    let w = working g (passed (working_checks g) refl c.in_ok-working_refusal.ensures) in
     c.any_pending.ensures ∙ any-pending-is g w.fit.voxels.lent.statuses
 
 behind :
     (c : After-any_pending)
     → let g = state c.args.given c.args.dist.now c.args.status.now in
     (n : ℕ) → n ≡ first_failing (quiet_checks g) → n ≡ first_failing (working_checks g ++ quiet_checks g)
-behind c = held_first _ _ _ c.working_refusal-n.ensures refl c.if-n-ne0.false
+behind c = passed-before _ _ refl c.in_ok-working_refusal.ensures
 
 pub returns-then-any_pending : goal.returns-then-any_pending
 returns-then-any_pending c =

@@ -5,11 +5,15 @@ use native.Mathlib.Omega.{arith}
 use Prim.Native.Nat.{◌/◌}
 use Rattle.rules.specs.Grid.{fit_sides, size}
 use Rattle.rules.specs.Checks.{first_failing}
+use Rattle.rules.proofs.Refusals.{handed_on}
 use Rattle.coarse.specs.Coarse.{FourBuffers, coarse_checks}
 use Rattle.coarse_checks.specs.Lengths.{Lengths}
 use Rattle.coarse_checks.proofs.Numbers.{number-1, number-2, sized, number-given, number-31, number-0}
 use Rattle.coarse_checks.proofs.refusal.Goals as goal
 use Rattle.coarse_checks.proofs.refusal.Goals.{After-voxel_count-n, Else-block_status-n, Else-not-fit_sides}
+use Rattle.coarse_checks.proofs.refusal.Goals.{then-dist-n-via-then-dist-n, then-dist-n-via-else-dist-n+then-status-n}
+use Rattle.coarse_checks.proofs.refusal.Goals.{then-dist-n-via-else-dist-n+else-status-n+then-block_dist-n}
+use Rattle.coarse_checks.proofs.refusal.Goals.{then-dist-n-via-else-dist-n+else-status-n+else-block_dist-n+then-block_status-n}
 
 pub returns-then-not-fit_sides : goal.returns-then-not-fit_sides
 returns-then-not-fit_sides c =
@@ -35,16 +39,15 @@ refused c wrong l L =
     (λ d t b u. wrong (omega (arith, L.dist-len)) (omega (arith, L.status-len)) (omega (arith, L.block-dist-len)) (omega (arith, L.block-status-len)))
 
 pub returns-then-dist-n : goal.returns-then-dist-n
-returns-then-dist-n c = refused (goal.at.returns-then-dist-n c).After-voxel_count-n (λ d t b u. let z : ⊥ = omega (arith, c.if-dist-n.true) in z)
-
-pub returns-then-status-n : goal.returns-then-status-n
-returns-then-status-n c = refused (goal.at.returns-then-status-n c).After-voxel_count-n (λ d t b u. let z : ⊥ = omega (arith, c.if-status-n.true) in z)
-
-pub returns-then-block_dist-n : goal.returns-then-block_dist-n
-returns-then-block_dist-n c = refused (goal.at.returns-then-block_dist-n c).After-voxel_count-n (λ d t b u. let z : ⊥ = omega (arith, c.if-block_dist-n.true) in z)
-
-pub returns-then-block_status-n : goal.returns-then-block_status-n
-returns-then-block_status-n c = refused (goal.at.returns-then-block_status-n c).After-voxel_count-n (λ d t b u. let z : ⊥ = omega (arith, c.if-block_status-n.true) in z)
+returns-then-dist-n c =
+    refused (goal.at.returns-then-dist-n c).After-voxel_count-n
+    (λ d t b u.
+    elim c.then-dist-n.branch [
+      | then-dist-n-via-then-dist-n w ↦ omega (arith, w.if-dist-n.true)
+      | then-dist-n-via-else-dist-n+then-status-n w ↦ omega (arith, w.if-status-n.true)
+      | then-dist-n-via-else-dist-n+else-status-n+then-block_dist-n w ↦ omega (arith, w.if-block_dist-n.true)
+      | then-dist-n-via-else-dist-n+else-status-n+else-block_dist-n+then-block_status-n w ↦ omega (arith, w.if-block_status-n.true)
+    ])
 
 -- past the lengths
 right : (c : Else-block_status-n) → let a = c.args in (l : FourBuffers) → Lengths l a.dist a.status a.block_dist a.block_status
@@ -58,28 +61,29 @@ right c l L =
       block-status-len = omega (arith, L.block-status-len, c.if-block_status-n.false);
     }
 
-pub given_refusal-number-requires : goal.given_refusal-number-requires
-given_refusal-number-requires c = (fits (goal.at.given_refusal-number-requires c).Else-not-fit_sides, c.requires)
+pub given_refusal-requires : goal.given_refusal-requires
+given_refusal-requires c = (fits (goal.at.given_refusal-requires c).Else-not-fit_sides, c.requires)
 
-pub returns-then-number-ne0 : goal.returns-then-number-ne0
-returns-then-number-ne0 c =
+pub returns-in_err-given_refusal : goal.returns-in_err-given_refusal
+returns-in_err-given_refusal c =
     λ l L.
-    number-given _ _ _ l (fits (goal.at.returns-then-number-ne0 c).Else-not-fit_sides) (right (goal.at.returns-then-number-ne0 c).Else-block_status-n l L) _ c.given_refusal-number.ensures
-    (λ z. let y : ⊥ = omega (arith, c.if-number-ne0.true) in y)
+    let g = goal.at.returns-in_err-given_refusal c in
+    handed_on _ _ c.from_residual.ensures.1
+    ∙ number-given _ _ _ l (fits g.Else-not-fit_sides) (right g.Else-block_status-n l L) _ c.in_err-given_refusal.ensures
 
 pub unfit-requires : goal.unfit-requires
 unfit-requires c =
     let a = c.args in
-    sized a.sides a.values.now a.marks.now (fits (goal.at.unfit-requires c).Else-not-fit_sides) _ c.given_refusal-number.ensures (omega (arith, c.if-number-ne0.false))
+    sized a.sides a.values.now a.marks.now (fits (goal.at.unfit-requires c).Else-not-fit_sides) c.in_ok-given_refusal.ensures
 
 pub returns-then-unfit : goal.returns-then-unfit
 returns-then-unfit c =
     λ l L.
-    number-31 _ _ _ l (fits (goal.at.returns-then-unfit c).Else-not-fit_sides) (right (goal.at.returns-then-unfit c).Else-block_status-n l L) _ c.given_refusal-number.ensures
-    (omega (arith, c.if-number-ne0.false)) (sym c.unfit.ensures ∙ c.if-unfit.true)
+    let g = goal.at.returns-then-unfit c in
+    number-31 _ _ _ l (fits g.Else-not-fit_sides) (right g.Else-block_status-n l L) c.in_ok-given_refusal.ensures (sym c.unfit.ensures ∙ c.if-unfit.true)
 
 pub returns : goal.returns
 returns c =
     λ l L.
-    number-0 _ _ _ l (fits (goal.at.returns c).Else-not-fit_sides) (right (goal.at.returns c).Else-block_status-n l L) _ c.given_refusal-number.ensures
-    (omega (arith, c.if-number-ne0.false)) (sym c.unfit.ensures ∙ c.if-unfit.false)
+    let g = goal.at.returns c in
+    number-0 _ _ _ l (fits g.Else-not-fit_sides) (right g.Else-block_status-n l L) c.in_ok-given_refusal.ensures (sym c.unfit.ensures ∙ c.if-unfit.false)

@@ -1,5 +1,4 @@
 -- `begin_coarse` is its rule: a refusal by its number, or the work with the marks that are to be read.
-use native.Mathlib.Omega.{arith}
 use mathlib.Core.Path.{◌≡◌, refl, sym, ap, ◌∙◌}
 use mathlib.Core.Logic.{◌⊎◌, inl, inr}
 use mathlib.Core.Bool.{Bool, true, cond}
@@ -13,11 +12,13 @@ use Rattle.rules.specs.Grid.{fit_sides, size}
 use Rattle.rules.specs.Fill.{filled}
 use Rattle.rules.specs.Marks.{marked}
 use Rattle.rules.specs.Checks.{Check, first_failing}
-use Rattle.rules.specs.Answer.{Outcome, untouched, buffers}
-use Rattle.rules.proofs.Checks.{call-refused, call-done}
+use Rattle.rules.specs.Answer.{Reply, Outcome, outcome, untouched, buffers}
+use Rattle.rules.proofs.Refusals.{call-refused-by, call-passed}
+use Rattle.beginning.proofs.Calls.{handed_reply}
 use Rattle.marks.specs.Lent.{used_of}
 use Rattle.marks.proofs.Lent.{few-sized, used-same}
-use Rattle.coarse.specs.Coarse.{FourBuffers, four_buffers, CoarseStart, coarse_checks, coarse_on, begin_coarse}
+use Rattle.coarse.specs.declared.CoarseStart.{CoarseStart}
+use Rattle.coarse.specs.Coarse.{FourBuffers, four_buffers, coarse_checks, coarse_on, begin_coarse}
 use Rattle.coarse_checks.specs.Lengths.{Lengths}
 use Rattle.coarsening.proofs.Working.{marks-sized, acceptable, begun-is}
 use Rattle.coarsening.proofs.begin_coarse.Goals as goal
@@ -37,12 +38,12 @@ worked c = let a = c.args in coarse_on a.sides a.allowed (filled a.sides a.value
 as_long : (l : FourBuffers) → Lengths l (length l.voxels.dist) (length l.voxels.status) (length l.blocks.dist) (length l.blocks.status)
 as_long l = record { dist-len = refl; status-len = refl; block-dist-len = refl; block-status-len = refl }
 
-pub returns-then-number-ne0 : goal.returns-then-number-ne0
+pub returns-in_err-refusal : goal.returns-in_err-refusal
 unfolding begin_coarse
-returns-then-number-ne0 c =
-    let s = (goal.at.returns-then-number-ne0 c).Start in
-    call-refused (untouched (lent s)) (worked s) (checks s) _ (c.refusal-number.ensures (lent s) (as_long (lent s)))
-    (λ e. let z : ⊥ = omega (arith, c.if-number-ne0.true) in z)
+returns-in_err-refusal c =
+    let s = (goal.at.returns-in_err-refusal c).Start in
+    ap (λ (a : Reply CoarseStart). outcome a (lent s)) (handed_reply _ _ c.from_residual.ensures.1)
+    ∙ call-refused-by (untouched (lent s)) (worked s) (checks s) _ (c.in_err-refusal.ensures (lent s) (as_long (lent s)))
 
 pub slice_bounds-work_out-end : goal.slice_bounds-work_out-end
 slice_bounds-work_out-end c = sym (length-take-le _ _ c.used-n.ensures.1)
@@ -61,11 +62,10 @@ lengths all used m n u h long =
 pub work_out-examined-requires : goal.work_out-examined-requires
 work_out-examined-requires c =
     let a = c.args in
-    let s = (goal.at.work_out-examined-requires c).Start in
-    let numbered : c.refusal-number.result ≡ first_failing (checks s) = c.refusal-number.ensures (lent s) (as_long (lent s)) in
-    let none : c.refusal-number.result ≡ 0 = omega (arith, c.if-number-ne0.false) in
-    let long : length a.marks.now ≡ size a.sides = marks-sized a.sides a.values.now a.marks.now (lent s) _ numbered none in
-    acceptable a.sides a.values.now a.marks.now (lent s) _ numbered none _
+    let l = lent (goal.at.work_out-examined-requires c).Start in
+    let none = c.in_ok-refusal.ensures l (as_long l) in
+    let long : length a.marks.now ≡ size a.sides = marks-sized a.sides a.values.now a.marks.now l none in
+    acceptable a.sides a.values.now a.marks.now l none _
     (lengths c.all-all.result c.used-n.result a.marks.now _ c.used-n.ensures.0 c.used-n.ensures.1 long)
 
 pub returns : goal.returns
@@ -75,13 +75,12 @@ returns c =
     let m = a.marks.now in
     let l = c.work_out-examined.new in
     let s = (goal.at.returns c).Start in
-    let numbered : c.refusal-number.result ≡ first_failing (checks s) = c.refusal-number.ensures (lent s) (as_long (lent s)) in
-    let none : c.refusal-number.result ≡ 0 = omega (arith, c.if-number-ne0.false) in
-    let long : length m ≡ size a.sides = marks-sized a.sides a.values.now m (lent s) _ numbered none in
+    let none : 0 ≡ first_failing (checks s) = c.in_ok-refusal.ensures (lent s) (as_long (lent s)) in
+    let long : length m ≡ size a.sides = marks-sized a.sides a.values.now m (lent s) none in
     let sides-fit : fit_sides a.sides ≡ true =
-    (acceptable a.sides a.values.now m (lent s) _ numbered none 0 (inl refl)).accepted.grid.sides in
+    (acceptable a.sides a.values.now m (lent s) none 0 (inl refl)).accepted.grid.sides in
     let same : marked (take c.used-n.result m) ≡ marked m =
     ap (λ (k : ℕ). marked (take k m)) c.used-n.ensures.0 ∙ used-same m _ c.all-all.ensures (few-sized m a.sides sides-fit long) in
-    call-done (untouched (lent s)) (worked s) (checks s) _ numbered refl none _
+    call-passed (untouched (lent s)) (worked s) (checks s) refl none _
     (begun-is _ _ _ _ _ _ (four_buffers (buffers l.dist l.status) (buffers l.block_dist l.block_status)) _ c.ready.ensures same
     c.work_out-examined.ensures)

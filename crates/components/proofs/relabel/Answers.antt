@@ -1,51 +1,26 @@
--- `relabel`: the entries before k have had their turn.
-use Prim.Native.Nat.{ℕ, ◌-◌, ◌≤◌, ◌<◌}
-use mathlib.Core.Path.{◌≡◌, sym, ap, ◌∙◌, subst}
-use native.Mathlib.Omega.{arith}
-use Rattle.components.specs.Work.{Relabels}
-use Rattle.components.proofs.Relabelling.{relabels-none, relabels-more, entry-index}
-use lib.ListN.{length}
-use Rattle.rules.specs.Grid.{amount}
-use borrow.Author.Rules.{rules}
+-- `relabel`: the voxels before this one have their label.
+use Rattle.std.proofs.Common.{◌≡◌, get_or, pos, rules, arith, nat_abs, to_z, of_z, w32}
+use Rattle.components.proofs.Relabelling.{relabels-more}
 use Rattle.components.proofs.relabel.Goals as goal
-use Rattle.components.proofs.relabel.Goals.{After-entry-v}
 
-pub loop-k-init : goal.loop-k-init
-loop-k-init c = (omega arith, omega (arith, c.requires.order), relabels-none _ _ _)
-
-pub entry-v-requires : goal.entry-v-requires
-entry-v-requires c =
-    let e = c.requires.entries c.loop-k.k c.loop-k.invariant.0 c.loop-k-test.true in
-    (omega (arith, c.loop-k-test.true, c.requires.upto), entry-index _ e.0 e.1)
-
--- the entry is a voxel
-voxel-in : (c : After-entry-v) → let l = c.before.before in c.entry-v.result < length l.args.label.now
-voxel-in c =
-    let l = c.before in
-    let e = l.requires.entries l.loop-k.k l.loop-k.invariant.0 c.loop-k-test.true in
-    let is : e.0 ≡ c.entry-v.result = ap amount (sym e.1 ∙ c.entry-v.ensures) in
-    omega (arith, e.2)
+pub overflow_cast-label : goal.overflow_cast-label
+overflow_cast-label c =
+    let w = c.requires.entries c.loop-v.v-index (omega arith) (omega arith) in
+    let e : get_or c.args.voxels.now c.loop-v.v-index (pos 0) ≡ pos w.0 = w.1 in
+    search rules
 
 pub bounds-label-v : goal.bounds-label-v
-bounds-label-v c = omega (arith, voxel-in c, c.loop-k.invariant.2.len)
+bounds-label-v c =
+    let w = c.requires.entries c.loop-v.v-index (omega arith) (omega arith) in
+    let e : get_or c.args.voxels.now c.loop-v.v-index (pos 0) ≡ pos w.0 = w.1 in
+    let h = w.2 in
+    search rules
 
-pub overflow_add-k : goal.overflow_add-k
-overflow_add-k c = omega (arith, c.loop-k-test.true, c.requires.upto)
-
-pub loop-k-preserved : goal.loop-k-preserved
-loop-k-preserved c =
-    let a = c.args in (
-      omega (arith, c.loop-k.invariant.0),
-      omega (arith, c.loop-k-test.true),
-      relabels-more a.work.now a.first a.label.now c.loop-k.k c.entry-v.result c.loop-k.label c.loop-k.invariant.0 c.entry-v.ensures
-          (voxel-in c) c.loop-k.invariant.2,
-    )
-
-pub shape_of-label : goal.shape_of-label
-shape_of-label c = c.loop-k.invariant.2.len
-
-pub returns : goal.returns
-returns c =
+pub loop-v-preserved : goal.loop-v-preserved
+loop-v-preserved c =
     let a = c.args in
-    let e : c.loop-k.k ≡ a.end = omega (arith, c.loop-k-test.false, c.loop-k.invariant.1) in
-    subst (λ (n : ℕ). Relabels a.work.now a.first n a.label.now c.loop-k.label) e c.loop-k.invariant.2
+    let l = c.loop-v in
+    let w = c.requires.entries l.v-index (omega arith) (omega arith) in
+    let e : get_or a.voxels.now l.v-index (pos 0) ≡ pos w.0 = w.1 in
+    let is : nat_abs (to_z w32 (of_z w32 (get_or a.voxels.now l.v-index (pos 0)))) ≡ w.0 = search rules in
+    rw is (relabels-more a.voxels.now 0 a.label.now l.v-index w.0 l.label (omega arith) e w.2 l.invariant)

@@ -1,36 +1,30 @@
--- `level`: where no other distance was met, those before k are all the same.
-use Prim.Native.Nat.{ℕ, ◌-◌, ◌≤◌}
-use mathlib.Core.Path.{◌≡◌, ap, ◌∙◌, subst}
-use mathlib.Core.Logic.{⊎_elim}
-use mathlib.Core.Bool.{false, not}
-use native.Mathlib.Omega.{arith}
-use native.Mathlib.Nat.{eq-or-lt_of_le}
-use borrow.Author.Rules.{rules}
-use borrow.Author.Tests.{eqb-true}
+-- `level`: where the fold is true, each distance equals the first.
+use Rattle.std.proofs.Common.{◌≡◌, ℕ, zero, suc, ◌<◌, Bool, true, ◌&&◌, List, [], ◌∷◌, length, get_or, fold, sym, ◌∙◌, rules, tests, arith}
 use lib.Dec.{eqb}
-use lib.ListN.{get_or}
-use Rattle.prelude.proofs.Bools.{or-false, not-false, not-true}
-use Rattle.distances.specs.Axes.{Level}
+use borrow.Author.Tests.{eqb-true}
+use Rattle.std.proofs.lemmas.Iterator.{YieldsList-from_slice}
+use Rattle.std.proofs.lemmas.Iterator.Consumers.{fold_from_yields_List}
+use Rattle.prelude.proofs.Bools.{and-true}
 use Rattle.distances.proofs.level.Goals as goal
 
-pub loop-k-init : goal.loop-k-init
-loop-k-init c = (omega arith, omega arith, λ e k l h. absurd (omega arith))
+-- whether all are v, and a is true
+abbrev each_is : ℕ → Bool → List ℕ → Bool
+each_is v a xs = fold (λ a x. a && eqb x v) a xs
 
-pub loop-k-preserved : goal.loop-k-preserved
-loop-k-preserved c =
-    let a = c.args in
-    let d = a.d.now in (
-      omega arith,
-      omega arith,
-      λ e k f h.
-          let n = or-false c.loop-k.other (not (eqb (get_or d c.loop-k.k 0) (get_or d a.first 0))) e in
-          ⊎_elim (λ q. ap (λ (i : ℕ). get_or d i 0) q ∙ eqb-true _ _ (not-false _ n.1)) (λ q. c.loop-k.invariant.2 n.0 k f q)
-          (eq-or-lt_of_le (let b : k ≤ c.loop-k.k = omega arith in b)),
-    )
+all-are : (v : ℕ) (a : Bool) (xs : List ℕ) → each_is v a xs ≡ true → (a ≡ true) × ((k : ℕ) → k < length xs → get_or xs k 0 ≡ v)
+all-are v a [] e = (e, λ k h. absurd (omega arith))
+all-are v a (x ∷ xs) e =
+    let r = all-are v (a && eqb x v) xs e in
+    let s = and-true a (eqb x v) r.0 in
+    (s.0, at s.1 r.1)
+  where
+    at : eqb x v ≡ true → ((k : ℕ) → k < length xs → get_or xs k 0 ≡ v) → (k : ℕ) → k < length (x ∷ xs) → get_or (x ∷ xs) k 0 ≡ v
+    at e r zero h = eqb-true x v e
+    at e r (suc k) h = r k (omega arith)
 
 pub returns : goal.returns
 returns c =
-    λ e.
-    let a = c.args in
-    let k-is : c.loop-k.k ≡ a.end = omega (arith, c.loop-k-test.false) in
-    subst (Level a.d.now a.first) k-is (c.loop-k.invariant.2 (not-true _ e))
+    let d = c.args.d.now in
+    let v = get_or d 0 0 in
+    let e = fold_from_yields_List _ (λ (a : Bool) (x : ℕ). a && eqb x v) true c.fold.result c.fold.ensures.ran (YieldsList-from_slice d cc) (λ a x b q k. search (rules, tests)) in
+    λ t. (all-are v true d (sym e ∙ t)).1

@@ -8,7 +8,6 @@ use Rattle.rules.proofs.Topology.Bytes.{woken-pending}
 use Rattle.queue.specs.Queue.{Queue}
 use Rattle.queue.proofs.Changes.{woken-stays}
 use Rattle.queue.proofs.Steps.{enter-raising, queue-raised, queue-inserted}
-use borrow.Author.Rules.{rules}
 use Rattle.entering.proofs.enter.Goals as goal
 use Rattle.entering.proofs.enter.Goals.{After-made_room-at, After-woken}
 
@@ -41,13 +40,13 @@ returns-then-w-tree c =
           (was-idle (goal.at.returns-then-w-tree c).After-made_room-at) (now-pending (goal.at.returns-then-w-tree c).After-woken) c.voxel_key-w.ensures c.if-w-tree.true _ _ c.raise.ensures;
     }
 
-pub returns : goal.returns
-returns c =
+pub returns-else-w-tree : goal.returns-else-w-tree
+returns-else-w-tree c =
     let a = c.args in
     record {
       status = ap (set a.status.now a.j) c.woken.ensures;
       queue =
           subst (Queue (marked a.marks.now) a.dist.now (set a.status.now a.j c.woken.result) _ _ _) (sym c.insert.ensures.1)
           (queue-inserted (marked a.marks.now) a.dist.now a.status.now _ _ _ _ c.made_room-at.ensures.0 a.j c.woken.result _ c.requires.1
-          (was-idle (goal.at.returns c).After-made_room-at) (now-pending (goal.at.returns c).After-woken) c.voxel_key-w.ensures c.if-w-tree.false c.made_room-at.ensures.1 _ c.insert.ensures.0);
+          (was-idle (goal.at.returns-else-w-tree c).After-made_room-at) (now-pending (goal.at.returns-else-w-tree c).After-woken) c.voxel_key-w.ensures c.if-w-tree.false c.made_room-at.ensures.1 _ c.insert.ensures.0);
     }

@@ -3,7 +3,6 @@ use mathlib.Core.Path.{◌≡◌, refl, ap, ◌∙◌, ap₂}
 use mathlib.Core.Bool.{Bool, true, false, cond, ◌&&◌}
 use Prim.Native.Nat.{ℕ}
 use native.Mathlib.Omega.{arith}
-use borrow.Author.Rules.{rules}
 use Rattle.cells.specs.Cells.{passes}
 use Rattle.rules.specs.Status.{status_of, pending_byte, is_pending, rested, test_at, goes}
 use Rattle.rules.specs.Marks.{marked}
@@ -73,9 +72,9 @@ leave-rest-requires c =
           ∙ left-idle (c.passes-passes.result && c.may_go.result) (status_of a.status.now a.i) c.requires.0.pending;
     }
 
-pub wake_around-woken-requires : goal.wake_around-woken-requires
-wake_around-woken-requires c = (
-  record { queue = c.leave-rest.ensures.queue; statuses = c.leave-rest.auto.status ∙ c.requires.0.work.body.statuses.lent; voxel = inner (goal.at.wake_around-woken-requires c).Start },
+pub wake_around-head-requires : goal.wake_around-head-requires
+wake_around-head-requires c = (
+  record { queue = c.leave-rest.ensures.queue; statuses = c.leave-rest.auto.status ∙ c.requires.0.work.body.statuses.lent; voxel = inner (goal.at.wake_around-head-requires c).Start },
   c.gather-block.ensures.rows,
   c.requires.1,
 )
@@ -87,11 +86,11 @@ returns-then-gone c =
     gone-examined a.s (marked a.marks.now) a.dist.now a.status.now _ _ _ _ _ a.i _ (going (goal.at.returns-then-gone c).After-may_go) c.if-gone.true
     (removed-from a.s (may_go (marked a.marks.now) a.dist.now) a.status.now a.i (inner (goal.at.returns-then-gone c).Start) c.requires.0.work.body.statuses.lent
     (ap (λ (x : ℕ). bits 54 (idle_bit x)) c.gather-block.ensures.code) refl (written_as c.leave-rest.ensures byte)
-    c.wake_around-woken.ensures.woken) c.wake_around-woken.ensures.queue
+    c.wake_around-head.ensures.woken) c.wake_around-head.ensures.queue
 
-pub returns : goal.returns
-returns c =
+pub returns-else-gone : goal.returns-else-gone
+returns-else-gone c =
     let a = c.args in
     let byte = c.left.ensures ∙ ap (λ (b : Bool). cond b 0 (rested (status_of a.status.now a.i))) c.if-gone.false in
-    rest-examined a.s (marked a.marks.now) a.dist.now a.status.now _ _ _ _ _ a.i _ (going (goal.at.returns c).After-may_go) c.if-gone.false
+    rest-examined a.s (marked a.marks.now) a.dist.now a.status.now _ _ _ _ _ a.i _ (going (goal.at.returns-else-gone c).After-may_go) c.if-gone.false
     (written_as c.leave-rest.ensures byte) c.leave-rest.ensures.queue

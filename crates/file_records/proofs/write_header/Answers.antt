@@ -1,6 +1,5 @@
 -- `writing::write_header` meets its contract.
-use mathlib.Core.Path.{refl, ap, ◌∙◌}
-use mathlib.Core.Logic.{inl}
+use mathlib.Core.Path.{ap, ◌∙◌}
 use Prim.Native.Nat.{◌≤◌}
 use native.Mathlib.Omega.{arith}
 use lib.ListN.{length, length-set, length-drop}
@@ -35,11 +34,11 @@ pub bounds-file-4 : goal.bounds-file-4
 bounds-file-4 c = simp length-set (omega (arith, room (goal.at.bounds-file-4 c).Start))
 
 pub put_word-requires : goal.put_word-requires
-put_word-requires c = (inl refl, simp length-set (omega (arith, room (goal.at.put_word-requires c).Start)), search rules)
+put_word-requires c = (simp length-set (omega (arith, room (goal.at.put_word-requires c).Start)), search rules)
 
 pub returns : goal.returns
 returns c =
-    c.put_word.ensures ∙ rw (is-spread 0 7 c.args.file.now (room (goal.at.returns c).Start))
+    c.put_word.ensures ∙ rw (c.from.ensures, is-spread 0 7 c.args.file.now (room (goal.at.returns c).Start))
 
 pub shape_of-file : goal.shape_of-file
 shape_of-file c =

@@ -5,18 +5,15 @@ use Prim.Native.Nat.{ℕ, suc, ◌+◌, ◌-◌, ◌*◌}
 use native.Mathlib.Omega.{arith}
 use lib.ListN.{length, drop, length-set, length-take, length-drop}
 use lib.Seq.{drop-length}
-use borrow.Author.Rules.{rules}
 use Rattle.format.specs.Written.{values_form}
 use Rattle.format.proofs.Forms.{length-values_form}
 use Rattle.file_records.proofs.Laying.{is-spread}
+use Rattle.words.specs.Widths.{bytes_in}
 use Rattle.file_records.proofs.write_layer.Goals as goal
 use Rattle.file_records.proofs.write_layer.Goals.{After-kind_of}
 
-long : (c : After-kind_of) → let a = c.args in length a.bytes.now ≡ 3 + a.width * length a.values.now
+long : (c : After-kind_of) → let a = c.args in length a.bytes.now ≡ 3 + bytes_in a.width * length a.values.now
 long c = c.requires.1
-
-pub kind_of-requires : goal.kind_of-requires
-kind_of-requires c = c.requires.0.two-or-four
 
 pub bounds-bytes-1 : goal.bounds-bytes-1
 bounds-bytes-1 c = simp length-set (omega (arith, long c))
@@ -45,9 +42,9 @@ returns c =
     let l = a.bytes.now in
     rw (c.write_values.ensures, is-spread 0 3 l (omega (arith, long (goal.at.returns c).After-kind_of)))
     (ap₂ (λ (t : ℕ) (m : List ℕ). 0x56 ∷ t ∷ a.z ∷ m) c.kind_of.ensures
-    (none_left (values_form a.width a.values.now) (drop 1 (drop 1 (drop 1 l)))))
+    (none_left (values_form (bytes_in a.width) a.values.now) (drop 1 (drop 1 (drop 1 l)))))
 
 pub shape_of-bytes : goal.shape_of-bytes
 shape_of-bytes c =
     let a = c.args in
-    ap length (returns c) ∙ omega (arith, length-values_form a.width a.values.now, long (goal.at.shape_of-bytes c).After-kind_of)
+    ap length (returns c) ∙ omega (arith, length-values_form (bytes_in a.width) a.values.now, long (goal.at.shape_of-bytes c).After-kind_of)

@@ -1,5 +1,5 @@
 -- `fitness::marked_refusal` meets its contract: checks 1 and 2, the length of the marks, then 7, 29 and 8.
-use mathlib.Core.Path.{◌≡◌, sym, ◌∙◌}
+use mathlib.Core.Path.{◌≡◌, refl, sym, ◌∙◌}
 use mathlib.Core.List.{[], ◌∷◌}
 use borrow.Author.Tests.{lt-ltb, le-ltb}
 use lib.Dec.{ltb}
@@ -8,34 +8,36 @@ use Rattle.rules.specs.Fit.{Lent}
 use Rattle.rules.specs.Marks.{stray_mark}
 use Rattle.rules.specs.Machine.{state, marked_checks}
 use Rattle.rules.proofs.Checks.{fails-first, holds-first}
+use Rattle.rules.proofs.Refusals.{numbers, handed_on}
 use Rattle.fitness.proofs.Numbers.{held-lent}
 use Rattle.fitness.proofs.Marked.{rest, lent-refused, marks-refused, after-lengths, stray-marks}
 use Rattle.fitness.proofs.marked_refusal.Goals as goal
-use Rattle.fitness.proofs.marked_refusal.Goals.{After-worked_refusal, Else-marks-status, Else-n-ne0, Else-unfit_state}
+use Rattle.fitness.proofs.marked_refusal.Goals.{After-worked_refusal, Else-marks-status, Else-unfit_state, In_ok-lent_refusal}
 
-pub returns-then-n-ne0 : goal.returns-then-n-ne0
-returns-then-n-ne0 c =
+pub returns-in_err-lent_refusal : goal.returns-in_err-lent_refusal
+returns-in_err-lent_refusal c =
     let a = c.args in
-    lent-refused a.marks.now (state a.given a.dist.now a.status.now) _ c.lent_refusal-n.ensures c.if-n-ne0.true
+    handed_on _ _ c.from_residual.ensures.1
+    ∙ lent-refused a.marks.now (state a.given a.dist.now a.status.now) _ c.in_err-lent_refusal.ensures (numbers c.in_err-lent_refusal.field-0.0)
 
 -- past 1 and 2 without marks
-right : (c : Else-n-ne0) → let a = c.args in Lent a.given.sides a.dist.now a.status.now
-right c = let a = c.args in held-lent (state a.given a.dist.now a.status.now) _ c.lent_refusal-n.ensures c.if-n-ne0.false
+right : (c : In_ok-lent_refusal) → let a = c.args in Lent a.given.sides a.dist.now a.status.now
+right c = let a = c.args in held-lent (state a.given a.dist.now a.status.now) _ c.in_ok-lent_refusal.ensures refl
 
 pub returns-then-marks-status : goal.returns-then-marks-status
 returns-then-marks-status c =
     let a = c.args in
-    sym (marks-refused a.marks.now (state a.given a.dist.now a.status.now) (right (goal.at.returns-then-marks-status c).Else-n-ne0) c.if-marks-status.true)
+    sym (marks-refused a.marks.now (state a.given a.dist.now a.status.now) (right (goal.at.returns-then-marks-status c).In_ok-lent_refusal) c.if-marks-status.true)
 
 pub unfit_state-requires : goal.unfit_state-requires
-unfit_state-requires c = right (goal.at.unfit_state-requires c).Else-n-ne0
+unfit_state-requires c = right (goal.at.unfit_state-requires c).In_ok-lent_refusal
 
 -- past the lengths
 behind : (c : Else-marks-status) → let a = c.args in let g = state a.given a.dist.now a.status.now in
     first_failing (marked_checks a.marks.now g) ≡ first_failing (rest a.marks.now g)
 behind c =
     let a = c.args in
-    after-lengths a.marks.now (state a.given a.dist.now a.status.now) (right (goal.at.unfit_state-requires c).Else-n-ne0) c.if-marks-status.false
+    after-lengths a.marks.now (state a.given a.dist.now a.status.now) (right (goal.at.unfit_state-requires c).In_ok-lent_refusal) c.if-marks-status.false
 
 pub returns-then-unfit_state : goal.returns-then-unfit_state
 returns-then-unfit_state c =
@@ -50,7 +52,7 @@ past-fit c e = e ∙ holds-first 7 _ _ (sym c.unfit_state.ensures ∙ c.if-unfit
 stray : (c : Else-marks-status) → stray_mark c.args.marks.now ≡ ltb 3 c.args.all
 stray c =
     let a = c.args in
-    sym (stray-marks a.marks.now (state a.given a.dist.now a.status.now) (right (goal.at.unfit_state-requires c).Else-n-ne0) c.if-marks-status.false a.all c.requires)
+    sym (stray-marks a.marks.now (state a.given a.dist.now a.status.now) (right (goal.at.unfit_state-requires c).In_ok-lent_refusal) c.if-marks-status.false a.all c.requires)
 
 pub returns-then-all-gt3 : goal.returns-then-all-gt3
 returns-then-all-gt3 c =

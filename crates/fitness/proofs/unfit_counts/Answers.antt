@@ -15,7 +15,7 @@ pub returns : goal.returns
 unfolding unfit_counts
 returns c =
     let r = c.args.given in
-    let f : SFits w32 r.euler = search (rules, c.struct_told-1.given) in
+    let f : SFits w32 r.euler = search rules in
     ap₂
     (λ (n e : ℕ). ltb r.allowed r.openings || (ltb n r.removals || (ltb (27 * n) r.examinations || ltb (8 * n) e)))
-    c.requires.0 (c.magnitude-euler.ensures.0 ∙ ap nat_abs (to_z-of_z f))
+    c.requires.0 (c.from-euler.ensures ∙ c.unsigned_abs.ensures.value ∙ ap nat_abs (to_z-of_z f))

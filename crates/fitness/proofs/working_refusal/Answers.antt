@@ -1,9 +1,9 @@
 -- `fitness::working_refusal` meets its contract: the checks of a state, then number 8.
-use mathlib.Core.Path.{refl}
+use mathlib.Core.Path.{refl, ◌∙◌}
 use mathlib.Core.List.{List, [], ◌∷◌}
 use Rattle.rules.specs.Checks.{Check, ◌when◌, first_failing}
 use Rattle.rules.specs.Machine.{State, state, state_checks}
-use Rattle.rules.proofs.Checks.{refused-first, held_first}
+use Rattle.rules.proofs.Refusals.{handed_on, refused-before, passed-before}
 use Rattle.fitness.proofs.working_refusal.Goals as goal
 use Rattle.fitness.proofs.working_refusal.Goals.{Start}
 
@@ -14,13 +14,13 @@ lent-to c = state c.args.given c.args.dist.now c.args.status.now
 abbrev last : State → List Check
 last g = 8 when g.rec.finished ∷ []
 
-pub returns-then-n-ne0 : goal.returns-then-n-ne0
-returns-then-n-ne0 c =
-    let g = lent-to (goal.at.returns-then-n-ne0 c).Start in
-    refused-first (state_checks g) (last g) _ c.refusal-n.ensures c.if-n-ne0.true
+pub returns-in_err-refusal : goal.returns-in_err-refusal
+returns-in_err-refusal c =
+    let g = lent-to (goal.at.returns-in_err-refusal c).Start in
+    handed_on _ _ c.from_residual.ensures.1 ∙ refused-before (state_checks g) (last g) _ c.in_err-refusal.ensures
 
 pub returns : goal.returns
 unfolding first_failing
 returns c =
     let g = lent-to (goal.at.returns c).Start in
-    held_first (state_checks g) (last g) _ c.refusal-n.ensures refl c.if-n-ne0.false _ c.worked_refusal.ensures
+    passed-before (state_checks g) (last g) refl c.in_ok-refusal.ensures _ c.worked_refusal.ensures

@@ -6,7 +6,7 @@ use lib.IntN.{pos}
 use lib.ListN.{length, get_or}
 use Rattle.pushing.specs.Push.{Fill, fill_of, push, push_all}
 use Rattle.pushing.proofs.Pushes.{label-lt}
-use Rattle.floods.specs.Flood.{shifted, spanned, Pushable, Floodable}
+use Rattle.floods.specs.Flood.{shifted, spanned, Pushable}
 use Rattle.floods.proofs.Spreading.{Spread, spread-start, spread-as, spread-turn, spread-ended, turn_in, turn-entry, turn_low, turn-pushable}
 use Rattle.floods.proofs.flood.Goals as goal
 use Rattle.floods.proofs.flood.Goals.{At-loop-at, In-loop-at}

@@ -1,12 +1,10 @@
 -- `flood`: whatever the labels were at the call, if the loop began in a state of their flood, it is in one now.
-use Prim.Native.Nat.{◌-◌, ◌≤◌, ◌<◌}
-use mathlib.Core.Path.{◌≡◌, refl, sym, subst}
-use native.Mathlib.Omega.{arith}
+use Prim.Native.Nat.{◌-◌}
+use mathlib.Core.Path.{◌≡◌}
 use lib.ListN.{length}
-use Rattle.pushing.specs.Push.{Fill, fill_of, push, push_all}
-use Rattle.pushing.proofs.Pushes.{label-lt}
-use Rattle.floods.specs.Flood.{shifted, spanned, Pushable, Floodable}
-use Rattle.floods.proofs.Spreading.{Spread, spread-start, spread-as, spread-turn, spread-ended, turn_in, turn-entry, turn_low, turn-pushable}
+use Rattle.pushing.specs.Push.{Fill, fill_of}
+use Rattle.floods.specs.Flood.{spanned, Floodable}
+use Rattle.floods.proofs.Spreading.{Spread}
 use Rattle.floods.proofs.flood.Given as goal
 
 abbrev pub invariant-loop-at : goal.invariant-loop-at

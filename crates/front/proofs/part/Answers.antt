@@ -1,9 +1,11 @@
 -- `front::part` meets its contract.
-use mathlib.Core.Path.{◌≡◌, sym, ap, ◌∙◌}
-use mathlib.Core.Bool.{false}
-use Prim.Native.Nat.{ℕ, ◌+◌, ◌-◌, ◌*◌, ◌<◌, max}
+use mathlib.Core.Path.{◌≡◌, refl, sym, ap, ◌∙◌}
+use mathlib.Core.Bool.{Bool, true, false, cond}
+use lib.Dec.{ltb}
+use Prim.Native.Nat.{ℕ, ◌+◌, ◌-◌, ◌*◌, ◌≤◌, ◌<◌, max}
 use native.Mathlib.Omega.{arith}
 use lib.Bits.{and_le_r}
+use mir.Val.{bool_byte}
 use mathlib.Core.List.{List}
 use lib.IntN.{ℤ}
 use lib.ListN.{length, length-set}
@@ -17,6 +19,15 @@ use Rattle.front.proofs.part.Goals.{After-lowest, At-loop-m}
 -- the keys, by what the slices hold
 abbrev key : List ℤ → List ℕ → List ℕ → ℕ → ℕ
 key dist marks status = key_at (marked marks).hurried dist status
+
+-- a test as a number
+byte : (b : Bool) → bool_byte b ≡ cond b 1 0
+byte true = refl
+byte false = refl
+
+byte-small : (b : Bool) → bool_byte b ≤ 1
+byte-small true = omega arith
+byte-small false = omega arith
 
 -- the invariant, for what was lent
 taking : (c : At-loop-m) → let a = c.args in
@@ -64,7 +75,7 @@ bounds-front-e c =
 
 pub overflow_add-e : goal.overflow_add-e
 overflow_add-e c =
-    record { fits = omega (arith, (taking (goal.at.overflow_add-e c).At-loop-m).high, c.above-e.ensures.1) }
+    record { fits = omega (arith, (taking (goal.at.overflow_add-e c).At-loop-m).high, c.from-e.ensures, byte-small) }
 
 pub loop-m-smaller : goal.loop-m-smaller
 loop-m-smaller c =
@@ -78,7 +89,7 @@ loop-m-preserved c = λ P.
     taking_step (key a.dist.now a.marks.now a.status.now) a.k a.floor P.falls a.front.now l.front l.e l.g l.m c.lowest.result
     (l.invariant P) c.lowest.ensures P.room c.voxel_key-x.result _ _
     (c.voxel_key-x.ensures ∙ sym (inside (goal.at.loop-m-preserved c).After-lowest).1)
-    (ap (λ (n : ℕ). l.e + n) c.above-e.ensures.0) (c.greater_u64-g.ensures ∙ ap (max l.g) c.up_to.ensures)
+    (ap (λ (n : ℕ). l.e + n) (c.from-e.ensures ∙ byte (ltb a.floor c.voxel_key-x.result))) (c.max-g.ensures ∙ ap (max l.g) c.up_to.ensures)
 
 pub offset_bounds-front-e-2 : goal.offset_bounds-front-e-2
 offset_bounds-front-e-2 c = record { fits = omega (arith, (taking (goal.at.offset_bounds-front-e-2 c).At-loop-m).high) }

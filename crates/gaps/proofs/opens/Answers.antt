@@ -1,32 +1,31 @@
--- `opens`: what is found before k, or stands from k on, is what stands in all.
-use native.Mathlib.Omega.{arith}
-use mathlib.Core.Path.{refl, ◌∙◌}
-use Rattle.loops.proofs.Below.{look-next, look-done}
+-- `opens`: what `any` finds is what the definition finds.
+use Rattle.std.proofs.Common.{◌≡◌, ℕ, ◌+◌, ◌<◌, get_or, length, refl, rules, tests, arith, ◌∙◌, ap, Bool, ◌||◌, List, [], ◌∷◌}
+use lib.Dec.{eqb}
+use Rattle.std.proofs.lemmas.Iterator.{YieldsList-from_slice}
+use Rattle.std.proofs.lemmas.Iterator.Adapters.{serves_from_places}
+use Rattle.std.proofs.lemmas.Iterator.Search.{any_from_yields_List}
+use Rattle.std.proofs.lemmas.Grind.{get_or_default_zero}
+use Rattle.std.specs.List.{list_any}
+use Rattle.prelude.specs.Lists.{any}
 use Rattle.gaps.specs.Gaps.{opens}
-use Rattle.gaps.proofs.opens.Invariants.{three}
 use Rattle.gaps.proofs.opens.Goals as goal
 
-pub loop-k-init : goal.loop-k-init
-loop-k-init c = (omega arith, refl)
+any-is : (p : ℕ → Bool) (xs : List ℕ) → list_any p xs ≡ any p xs
+unfolding any
+any-is p [] = refl
+any-is p (x ∷ xs) = ap (λ (t : Bool). p x || t) (any-is p xs)
 
-pub overflow_add-found : goal.overflow_add-found
-overflow_add-found c =
-    let h = c.requires c.loop-k.k c.loop-k-test.true in
-    omega arith
-
-pub bounds-label-base : goal.bounds-label-base
-bounds-label-base c = c.requires c.loop-k.k c.loop-k-test.true
-
-pub loop-k-preserved : goal.loop-k-preserved
-loop-k-preserved c =
-    let a = c.args in (
-      omega (arith, c.loop-k-test.true),
-      look-next (three a.label.now a.base) a.offsets.now c.loop-k.k 0 c.loop-k.found c.loop-k-test.true refl ∙ c.loop-k.invariant.1,
-    )
+pub any-requires-clause-callable : goal.any-requires-clause-callable
+any-requires-clause-callable c =
+    serves_from_places (YieldsList-from_slice c.args.offsets.now cc) (λ x q k. search rules)
+    (λ x k h e.
+    let r : c.args.base + x.now < length c.args.label.now = omega (arith, e, get_or_default_zero c.args.offsets.now k x.now h, c.requires k h) in
+    (λ _ _ _ _ _ _ _ _. search rules, λ _ _ _ _ _ _ _ _ _. r))
 
 pub returns : goal.returns
 unfolding opens
 returns c =
-    let l = c.loop-k in
     let a = c.args in
-    look-done (three a.label.now a.base) a.offsets.now l.k l.found c.loop-k-test.false ∙ l.invariant.1
+    let three = λ (o : ℕ). eqb (get_or a.label.now (a.base + o) 0) 3 in
+    any_from_yields_List three _ _ c.any.result c.any.ensures.ran (YieldsList-from_slice a.offsets.now cc) (λ x b q k. search (rules, tests))
+    ∙ any-is three a.offsets.now

@@ -3,7 +3,6 @@ use mathlib.Core.Path.{ap}
 use mathlib.Core.Bool.{Bool, ◌&&◌}
 use lib.Dec.{leb}
 use Rattle.format.specs.File.{fit_up_to}
-use borrow.Author.Rules.{rules}
 use Rattle.gridfile.proofs.fit_up_to.Goals as goal
 
 pub returns : goal.returns

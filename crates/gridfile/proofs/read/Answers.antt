@@ -1,5 +1,4 @@
 -- `gridfile::read` meets its contract.
-use borrow.Author.Rules.{rules}
 use Rattle.format.specs.File.{read}
 use Rattle.gridfile.proofs.read.Goals as goal
 

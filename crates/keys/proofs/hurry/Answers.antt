@@ -3,7 +3,6 @@ use mathlib.Core.Path.{sym, ap, ◌∙◌}
 use mathlib.Core.Bool.{Bool, cond}
 use Prim.Native.Nat.{ℕ}
 use native.Mathlib.Omega.{arith}
-use borrow.Author.Rules.{rules}
 use Rattle.keys.specs.Key.{hurry_of}
 use Rattle.keys.proofs.hurry.Goals as goal
 
@@ -14,6 +13,6 @@ pub returns-then-hurried : goal.returns-then-hurried
 unfolding hurry_of raise
 returns-then-hurried c = (sym (ap raise (sym c.hurried.ensures ∙ c.if-hurried.true)), omega arith)
 
-pub returns : goal.returns
+pub returns-else-hurried : goal.returns-else-hurried
 unfolding hurry_of raise
-returns c = (sym (ap raise (sym c.hurried.ensures ∙ c.if-hurried.false)), omega arith)
+returns-else-hurried c = (sym (ap raise (sym c.hurried.ensures ∙ c.if-hurried.false)), omega arith)

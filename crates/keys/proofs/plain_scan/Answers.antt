@@ -1,55 +1,50 @@
 -- `keys::plain_scan` meets its contract: where none is hurried the rank is the distance's.
-use mathlib.Core.Path.{ap, ◌∙◌}
-use mathlib.Core.Bool.{Bool, cond}
-use Prim.Native.Nat.{ℕ, ◌+◌, ◌-◌}
+use mathlib.Core.Path.{refl, sym, ap, ◌∙◌}
+use Prim.Native.Nat.{ℕ, ◌+◌}
 use native.Mathlib.Omega.{arith}
-use lib.Bits.{and_le_r}
+use borrow.Author.Rules.{rules}
+use borrow.Author.Tests.{ltb-true, ltb-false}
+use lib.IntN.{pos}
+use lib.ListN.{get_or}
 use mir.Syntax.{w32}
-use mir.Val.{to_z}
-use mir.Facts.{to_z-of_z}
-use borrow.Author.Rules.{sfits_of}
+use mir.Val.{SFits, to_z, of_z}
 use Rattle.rules.specs.Marks.{unmarked}
-use Rattle.keys.specs.Key.{rank_of, key_of}
-use Rattle.keys.proofs.Ranks.{read_fits, compared, rank-greater, plain-rank}
-use Rattle.keys.proofs.Scanning.{scanning-none, scanning-first, scanning-step, scanning-done}
+use Rattle.keys.specs.Key.{key_of}
+use Rattle.keys.proofs.Ranks.{compared, plain-rank}
+use Rattle.keys.proofs.Scanning.{scanning-none, scanning-first, scanning-ahead, scanning-behind, scanning-done}
 use Rattle.keys.proofs.plain_scan.Goals as goal
+use Rattle.keys.proofs.plain_scan.Goals.{then-g-d, else-g-d}
 
 pub returns-then-set-eq0 : goal.returns-then-set-eq0
 returns-then-set-eq0 c = scanning-none unmarked.hurried c.args.dist.now c.args.at _ c.if-set-eq0.true
 
-pub distance-g-requires : goal.distance-g-requires
-distance-g-requires c = c.requires.each _ c.lowest-b.ensures.below c.lowest-b.ensures.here
-
 pub loop-m-init : goal.loop-m-init
 loop-m-init c =
-    let f = sfits_of {w = w32} c.distance-g.type_inv in
-    let r = plain-rank _ f c.distance-g.ensures in
-    (scanning-first unmarked.hurried c.args.dist.now c.args.at _ _ _ c.requires c.lowest-b.ensures r.0 r.1, read_fits f)
-
-pub distance-d-requires : goal.distance-d-requires
-distance-d-requires c = c.loop-m.invariant.0.left _ c.lowest-t.ensures.below c.lowest-t.ensures.here
-
-pub loop-m-smaller : goal.loop-m-smaller
-loop-m-smaller c =
-    let m = c.loop-m.m in
-    omega (arith, and_le_r m (m - 1), c.loop-m-test.true)
+    let a = c.args in
+    let f : SFits w32 (get_or a.dist.now c.lowest-b.result (pos 0)) = search rules in
+    let r = plain-rank (a.at + c.lowest-b.result) f refl in
+    scanning-first unmarked.hurried a.dist.now a.at _ _ _ c.requires c.lowest-b.ensures r.0 r.1
 
 pub loop-m-preserved : goal.loop-m-preserved
 loop-m-preserved c =
     let a = c.args in
     let l = c.loop-m in
     let t = c.lowest-t.result in
-    let r = plain-rank _ (sfits_of {w = w32} c.distance-d.type_inv) c.distance-d.ensures in
-    let f = sfits_of {w = w32} c.greater_i32-g.type_inv in (
-      scanning-step unmarked.hurried a.dist.now a.at _ (rank_of (to_z w32 l.g-bits)) l.b l.m t _ _ _ l.invariant.0 c.lowest-t.ensures r.0 r.1
-          (c.leading-b.ensures ∙ ap (λ (x : Bool). cond x t l.b) (compared (to_z w32 l.g-bits) _ l.invariant.1))
-          (ap rank_of (to_z-of_z f ∙ c.greater_i32-g.ensures) ∙ rank-greater _ _ l.invariant.1),
-      read_fits f,
-    )
+    let f : SFits w32 (get_or a.dist.now t (pos 0)) = search rules in
+    let r = plain-rank (a.at + t) f refl in
+    let e = compared (to_z w32 l.g-bits) (to_z w32 (of_z w32 (get_or a.dist.now t (pos 0)))) (search rules) in
+    elim c.if-g-d.branch [
+      | then-g-d w ↦
+          let p = ltb-true _ _ (sym e ∙ w.if-g-d.true) in
+          rw (w.b-is, w.g-is) (scanning-ahead unmarked.hurried a.dist.now a.at _ _ l.b l.m t _ l.invariant c.lowest-t.ensures r.0 r.1 p)
+      | else-g-d w ↦
+          let p = ltb-false _ _ (sym e ∙ w.if-g-d.false) in
+          rw (w.b-is, w.g-is) (scanning-behind unmarked.hurried a.dist.now a.at _ _ l.b l.m t _ l.invariant c.lowest-t.ensures r.0 r.1 p)
+    ]
 
 pub returns : goal.returns
 returns c =
     let a = c.args in
     let l = c.loop-m in
     scanning-done unmarked.hurried a.dist.now a.at _ _ l.b l.m _ (omega (arith, c.loop-m-test.false))
-    (c.key.ensures ∙ ap (λ (x : ℕ). key_of x (a.at + l.b)) c.raised.ensures.0) l.invariant.0
+    (c.key.ensures ∙ ap (λ (x : ℕ). key_of x (a.at + l.b)) c.raised.ensures.0) l.invariant

@@ -2,12 +2,16 @@
 use mathlib.Core.Path.{ap, ◌∙◌}
 use mathlib.Core.Bool.{Bool}
 use Prim.Native.Nat.{ℕ}
-use borrow.Author.Rules.{rules}
+use native.Mathlib.Omega.{arith}
+use lib.ListN.{length}
+use mathlib.Core.Path.{◌≡◌}
+use Rattle.std.proofs.lemmas.Bool.Decides.{nat_tests}
 use Rattle.keys.specs.Key.{greatest, width, bit_key}
 use Rattle.keys.proofs.Ranks.{none-hurried}
 use Rattle.keys.proofs.scan.Goals as goal
 
-pub returns-then-marks-eq0 : goal.returns-then-marks-eq0
-returns-then-marks-eq0 c =
+pub returns-then-is_empty : goal.returns-then-is_empty
+returns-then-is_empty c =
     let a = c.args in
-    c.plain_scan.ensures ∙ ap (λ (h : ℕ → Bool). greatest (bit_key h a.dist.now a.at a.set) 0 width) (none-hurried a.marks.now c.if-marks-eq0.true)
+    let none : length a.marks.now ≡ 0 = grind (arith, nat_tests) in
+    c.plain_scan.ensures ∙ ap (λ (h : ℕ → Bool). greatest (bit_key h a.dist.now a.at a.set) 0 width) (none-hurried a.marks.now none)

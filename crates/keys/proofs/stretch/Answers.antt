@@ -2,7 +2,6 @@
 use mathlib.Core.Path.{refl}
 use native.Mathlib.Omega.{arith}
 use Rattle.keys.proofs.Scanning.{shown-readable, shown-greatest}
-use borrow.Author.Rules.{rules}
 use Rattle.rules.specs.Marks.{marked}
 use Rattle.keys.proofs.stretch.Goals as goal
 

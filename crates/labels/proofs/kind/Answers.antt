@@ -1,4 +1,4 @@
--- `kind`: a value by its sign, and the missing mark by its bits.
+-- `kind`: the missing mark by its bits, and any other value by its sign.
 use mathlib.Core.Path.{sym}
 use Rattle.prelude.proofs.Signs.{sign}
 use Rattle.labels.proofs.Marking.{kind-missing, kind-negative, kind-other}
@@ -11,5 +11,5 @@ pub returns-then-v-lt0 : goal.returns-then-v-lt0
 returns-then-v-lt0 c =
     sym (kind-negative _ c.ranges.v (sign _ c.ranges.v c.if-v-lt0.true) c.if-v-eqminus2147483648.false)
 
-pub returns : goal.returns
-returns c = sym (kind-other _ (sign _ c.ranges.v c.if-v-lt0.false))
+pub returns-else-v-lt0 : goal.returns-else-v-lt0
+returns-else-v-lt0 c = sym (kind-other _ (sign _ c.ranges.v c.if-v-lt0.false))

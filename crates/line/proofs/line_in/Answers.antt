@@ -13,5 +13,5 @@ returns-in_default c =
 pub returns : goal.returns
 returns c =
     let lent = c.requires in
-    printed-grid _ _ _ _ c.read_up_to-answer.ensures lent.values _ _ _ _ _ _ c.begun_line.ensures c.in-Grid.is lent.marks
+    printed-grid _ _ _ _ c.read_up_to-answer.ensures lent.values _ _ _ _ _ c.begun_line.ensures c.in-Ok.is lent.marks
     lent.distances lent.statuses

@@ -1,38 +1,13 @@
--- `local_test::groups_of` meets its contract: the groups are those of the test.
-use mathlib.Core.Path.{◌≡◌, ◌∙◌}
-use native.Mathlib.Omega.{arith}
-use borrow.Author.Rules.{rules}
-use Rattle.cells.specs.Cells.{Test, test}
-use Rattle.touched_cells.specs.Block.{kept_in}
-use Rattle.local_test.specs.declared.Groups.{Groups}
-use Rattle.local_test.specs.Answers.{GroupsOf}
-use Rattle.local_test.proofs.Counts.{Counted, counted}
-use Rattle.local_test.proofs.Faces.{face-of}
+-- `local_test::groups_of` meets its contract: its groups and face are the whole test's.
+use mathlib.Core.Path.{◌≡◌, ap}
+use Rattle.cells.specs.Cells.{Test}
+use Rattle.local_test.specs.declared.Local.{Local}
+use Rattle.local_test.specs.Answers.{as_test, GroupsOf}
 use Rattle.local_test.proofs.groups_of.Goals as goal
-use Rattle.local_test.proofs.groups_of.Goals.{After-touched-t, After-touched_groups-k}
 
-known : (c : After-touched-t) → Counted (kept_in c.args.block) c.touched-t.result
-known c = counted (kept_in c.args.block) c.touched-t.result c.touched-t.ensures
-
-pub touched_groups-k-requires : goal.touched_groups-k-requires
-touched_groups-k-requires c = (kept_in c.args.block, c.touched-t.ensures)
-
-groups-are : (c : After-touched_groups-k) → let t = c.before in c.touched_groups-k.result ≡ (test (kept_in t.args.block)).k
-groups-are c = let t = c.before in c.touched_groups-k.ensures (kept_in t.args.block) t.touched-t.ensures
-
-pub bare_groups-requires : goal.bare_groups-requires
-bare_groups-requires c =
-    let f = known (goal.at.bare_groups-requires c).After-touched-t in
-    let k = groups-are c in
-    (omega arith, omega arith)
-
-same-groups : (g : Groups) (t : Test) → g.k ≡ t.k → g.m ≡ t.m → g.face ≡ t.face → GroupsOf t g
-same-groups g t k m f = λ i. record { k = k i; m = m i; corners = t.corners; edges = t.edges; faces = t.faces; face = f i }
+-- with the test's own counts of corners, edges and faces they are the test
+same-groups : (l : Local) (t : Test) → as_test l ≡ t → GroupsOf t (record { k = l.k; m = l.m; face = l.face })
+same-groups l t e = λ i. record { k = (e i).k; m = (e i).m; corners = t.corners; edges = t.edges; faces = t.faces; face = (e i).face }
 
 pub returns : goal.returns
-returns c =
-    let kept = kept_in c.args.block in
-    let f = known (goal.at.returns c).After-touched-t in
-    let k = groups-are (goal.at.returns c).After-touched_groups-k in
-    let m = c.bare_groups.ensures in
-    same-groups _ (test kept) k (omega arith) (c.bare_face.ensures ∙ face-of kept c.touched-t.result c.touched-t.ensures)
+returns c = same-groups _ _ c.local_test-k.ensures

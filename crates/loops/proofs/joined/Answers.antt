@@ -1,22 +1,16 @@
--- `joined`: the loop has joined the bytes before k.
-use borrow.Author.Rules.{rules}
-use native.Mathlib.Omega.{arith}
-use mathlib.Core.Path.{◌≡◌, subst}
-use Prim.Native.Nat.{ℕ, ◌-◌, ◌≤◌}
+-- `joined`: the bytes from first up to end, one after the other.
+use Rattle.std.proofs.Common.{◌≡◌, ◌-◌, sym, subst, take, drop, ℕ, bit_or, rules}
+use Rattle.std.specs.List.{fold}
+use Rattle.std.proofs.lemmas.Iterator.{YieldsList-from_slice}
+use Rattle.std.proofs.lemmas.Iterator.Consumers.{fold_from_yields_List}
 use Rattle.loops.specs.Joined.{Joined}
-use Rattle.loops.proofs.Joining.{joined-none, joined-more}
+use Rattle.loops.proofs.Joining.{joined_all}
 use Rattle.loops.proofs.joined.Goals as goal
-
-pub loop-k-init : goal.loop-k-init
-loop-k-init c = (omega arith, omega arith, joined-none _ _ _ (omega arith))
-
-pub loop-k-preserved : goal.loop-k-preserved
-loop-k-preserved c =
-    let a = c.args in
-    (omega arith, omega arith, joined-more a.bytes.now a.first c.loop-k.k c.loop-k.all c.loop-k.invariant.0 c.loop-k.invariant.2)
 
 pub returns : goal.returns
 returns c =
     let a = c.args in
-    let e : c.loop-k.k ≡ a.end = omega (arith, c.loop-k-test.false) in
-    subst (λ (k : ℕ). Joined a.bytes.now a.first k c.loop-k.all) e c.loop-k.invariant.2
+    let part = take (a.end - a.first) (drop a.first a.bytes.now) in
+    let e : c.fold.result ≡ fold bit_or 0 part =
+    fold_from_yields_List _ bit_or 0 c.fold.result c.fold.ensures.ran (YieldsList-from_slice part cc) (λ a x b q k. search rules) in
+    subst (λ (r : ℕ). Joined a.bytes.now a.first a.end r) (sym e) (joined_all a.bytes.now a.first a.end c.requires.0 c.requires.1)

@@ -1,10 +1,6 @@
 -- `passed`: v stands nowhere from first up to i.
 use Prim.Native.Nat.{◌-◌}
-use native.Mathlib.Omega.{arith}
-use borrow.Author.Rules.{rules}
-use Rattle.prelude.proofs.Bools.{not-true}
 use Rattle.loops.specs.Searches.{Passed}
-use Rattle.loops.proofs.Orders.{absent_none, absent-join}
 use Rattle.loops.proofs.passed.Given as goal
 
 abbrev pub invariant-loop-i : goal.invariant-loop-i

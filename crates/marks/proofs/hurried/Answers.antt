@@ -1,6 +1,5 @@
 -- `marks::hurried` meets its contract.
 use mathlib.Core.Path.{ap, ◌∙◌}
-use borrow.Author.Rules.{rules}
 use Rattle.rules.specs.Marks.{hurried_mark, marked}
 use Rattle.marks.proofs.hurried.Goals as goal
 

@@ -1,6 +1,5 @@
 -- `marks::pinned` meets its contract.
 use mathlib.Core.Path.{ap, ◌∙◌}
-use borrow.Author.Rules.{rules}
 use Rattle.rules.specs.Marks.{pinned_mark, marked}
 use Rattle.marks.proofs.pinned.Goals as goal
 

@@ -1,5 +1,4 @@
 -- `marks::stray` meets its contract.
-use borrow.Author.Rules.{rules}
 use Rattle.marks.proofs.Lent.{joined-stray}
 use Rattle.marks.proofs.stray.Goals as goal
 

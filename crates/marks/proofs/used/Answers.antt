@@ -8,6 +8,6 @@ pub returns-then-all-eq0 : goal.returns-then-all-eq0
 unfolding used_of
 returns-then-all-eq0 c = (simp (eq-eqb _ _ c.if-all-eq0.true), omega arith)
 
-pub returns : goal.returns
+pub returns-else-all-eq0 : goal.returns-else-all-eq0
 unfolding used_of
-returns c = (simp (ne_eqb _ _ c.if-all-eq0.false), omega arith)
+returns-else-all-eq0 c = (simp (ne_eqb _ _ c.if-all-eq0.false), omega arith)

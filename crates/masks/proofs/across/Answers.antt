@@ -5,7 +5,6 @@ use native.Mathlib.Omega.{arith}
 use Rattle.rules.specs.Status.{is_pending}
 use Rattle.masks.specs.Bits.{crossed}
 use Rattle.masks.proofs.Crossing.{gathered}
-use borrow.Author.Rules.{rules}
 use Rattle.masks.proofs.across.Goals as goal
 
 pub returns : goal.returns

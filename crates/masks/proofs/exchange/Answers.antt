@@ -1,6 +1,5 @@
 -- `exchange` meets its contract.
 use Rattle.masks.proofs.Crossing.{exchanged}
-use borrow.Author.Rules.{rules}
 use Rattle.masks.proofs.exchange.Goals as goal
 
 pub returns : goal.returns

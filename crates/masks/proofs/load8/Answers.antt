@@ -1,10 +1,7 @@
--- `load8` meets its contract: twice four bytes.
+-- `load8` meets its contract: eight bytes, each above the one before.
 use native.Mathlib.Omega.{arith}
-use Rattle.masks.proofs.Loading.{loaded-join}
-use borrow.Author.Rules.{rules}
+use Rattle.masks.proofs.Loading.{loaded-eight}
 use Rattle.masks.proofs.load8.Goals as goal
 
 pub returns : goal.returns
-returns c =
-    let a = c.args in
-    loaded-join 4 a.s.now a.at _ _ (omega arith) c.load4.ensures c.load4-2.ensures
+returns c = loaded-eight c.args.s.now c.args.at (λ i. omega (arith, c.type_inv.s i)) _ c.from_le_bytes.ensures

@@ -7,7 +7,6 @@ use Rattle.bits.specs.Bits.{has}
 use Rattle.rules.specs.Status.{is_pending}
 use Rattle.masks.specs.Bits.{crossed}
 use Rattle.masks.proofs.Crossing.{has-none, apart-7, apart-14, apart-28, transposed}
-use borrow.Author.Rules.{rules}
 use Rattle.masks.proofs.whole.Goals as goal
 use Rattle.masks.proofs.whole.Goals.{After-across-x}
 
@@ -20,20 +19,20 @@ stands c t h =
 pub returns-then-x-eq0 : goal.returns-then-x-eq0
 returns-then-x-eq0 c = λ t h. has-none t ∙ sym (ap (λ (x : ℕ). has x (crossed t)) c.if-x-eq0.true ∙ has-none (crossed t)) ∙ stands (goal.at.returns-then-x-eq0 c).After-across-x t h
 
+pub exchange-near-requires : goal.exchange-near-requires
+exchange-near-requires c = record { short = omega arith; fits = lit< tt; apart = apart-7 }
+
+pub exchange-far-requires : goal.exchange-far-requires
+exchange-far-requires c = record { short = omega arith; fits = lit< tt; apart = apart-14 }
+
 pub exchange-requires : goal.exchange-requires
-exchange-requires c = record { short = omega arith; fits = lit< tt; apart = apart-7 }
+exchange-requires c = record { short = omega arith; fits = lit< tt; apart = apart-28 }
 
-pub exchange-requires-2 : goal.exchange-requires-2
-exchange-requires-2 c = record { short = omega arith; fits = lit< tt; apart = apart-14 }
-
-pub exchange-requires-3 : goal.exchange-requires-3
-exchange-requires-3 c = record { short = omega arith; fits = lit< tt; apart = apart-28 }
-
-pub returns : goal.returns
-returns c = λ t h.
+pub returns-else-x-eq0 : goal.returns-else-x-eq0
+returns-else-x-eq0 c = λ t h.
     let T = transposed t h in
-    c.exchange-3.ensures t h
-    ∙ c.exchange-2.ensures _ T.last-in
-    ∙ c.exchange.ensures _ T.middle-in
+    c.exchange.ensures t h
+    ∙ c.exchange-far.ensures _ T.last-in
+    ∙ c.exchange-near.ensures _ T.middle-in
     ∙ ap (has c.across-x.result) T.is
-    ∙ stands (goal.at.returns c).After-across-x t h
+    ∙ stands (goal.at.returns-else-x-eq0 c).After-across-x t h

@@ -1,21 +1,12 @@
--- `fill_offsets` meets its contract.
-use mathlib.Core.Path.{◌≡◌, refl, sym, ap, ◌∙◌}
-use Prim.Native.Nat.{ℕ, ◌-◌}
-use borrow.Author.Rules.{rules}
-use native.Mathlib.Nat.{zero-add}
-use native.Mathlib.Omega.{arith}
-use lib.ListN.{length, get_or}
+-- `fill_offsets` meets its contract: the stretches so far have their offsets.
+use mathlib.Core.Path.{◌≡◌}
+use Prim.Native.Nat.{ℕ, ◌<◌}
+use lib.ListN.{get_or}
 use Rattle.rules.specs.Marks.{marked}
-use Rattle.keys.specs.Key.{key_at, stretches, stretch_key}
+use Rattle.keys.specs.Key.{key_at, stretch_key}
 use Rattle.offsets.specs.Offsets.{offset_of}
-use Rattle.offsets.proofs.Offsets.{Filling, filling-start, filling_step, offset_made}
-use Rattle.keys.proofs.Ranks.{keyed}
-use Rattle.offsets.proofs.Held.{keyed-named}
 use Rattle.offsets.proofs.fill_offsets.Given as goal
 
 abbrev pub invariant-loop-k : goal.invariant-loop-k
 invariant-loop-k l =
-    (l.p ≡ stretches (length l.dist)) × Filling (λ m. offset_of (stretch_key (key_at (marked l.marks).hurried l.dist l.status) m)) 0 l.p l.initial.offsets l.offsets l.k
-
-abbrev pub decreases-loop-k : goal.decreases-loop-k
-decreases-loop-k l = l.p - l.k
+    (m : ℕ) → m < l.k → get_or l.offset-items m 0 ≡ offset_of (stretch_key (key_at (marked l.marks).hurried l.dist l.status) m)

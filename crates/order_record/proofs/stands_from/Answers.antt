@@ -1,29 +1,35 @@
--- `order_record::stands_from` meets its contract: what stands from j on is looked at.
-use mathlib.Core.Path.{◌≡◌, ap, sym, ◌∙◌}
+-- `order_record::stands_from` meets its contract: `any` over what stands from k on.
+use mathlib.Core.Path.{◌≡◌, ap, ◌∙◌}
 use mathlib.Core.List.{List}
+use native.Mathlib.Omega.{arith}
 use Prim.Native.Nat.{ℕ, ◌-◌, ◌≤◌}
-use lib.ListN.{drop}
+use lib.Dec.{eqb}
+use lib.ListN.{length, take, drop}
 use borrow.Author.Rules.{rules}
-use Rattle.cells.specs.Groups.{any}
+use borrow.Author.Tests.{tests}
+use Rattle.std.specs.List.{list_any}
+use Rattle.std.proofs.lemmas.Iterator.{YieldsList-from_slice}
+use Rattle.std.proofs.lemmas.Iterator.Search.{any_from_yields_List}
 use Rattle.rules.specs.Grid.{is_in}
-use Rattle.office.specs.Structs.{places_of}
-use Rattle.order_record.proofs.Places.{drop-none, stands-more}
+use Rattle.order_record.proofs.Places.{length-places, from-on, any-is}
 use Rattle.order_record.proofs.stands_from.Goals as goal
+use Rattle.order_record.proofs.stands_from.Goals.{After-listed}
 
-pub loop-j-init : goal.loop-j-init
-unfolding is_in any
-loop-j-init c = (search rules, search rules, sym (ap (λ (l : List ℕ). is_in l c.args.place) (drop-none c.args.o c.args.o.len (search rules))))
+within : (c : After-listed) → c.args.k ≤ length c.listed.result.now
+within c = omega (arith, ap length c.listed.ensures, length-places c.args.o)
 
-pub loop-j-preserved : goal.loop-j-preserved
-loop-j-preserved c =
-    let a = c.args in (
-      search rules,
-      search rules,
-      stands-more a.o c.loop-j.j (c.loop-j.j - 1) (search rules) (search rules) (search rules) a.place _ _ c.place_at.ensures c.loop-j.invariant.2,
-    )
+pub slice_bounds-iter-count : goal.slice_bounds-iter-count
+slice_bounds-iter-count c = within c
+
+pub slice_bounds-iter-start : goal.slice_bounds-iter-start
+slice_bounds-iter-start c = let w = within c in search rules
 
 pub returns : goal.returns
+unfolding is_in
 returns c =
     let a = c.args in
-    let e : c.loop-j.j ≡ a.k = search rules in
-    c.loop-j.invariant.2 ∙ ap (λ (j : ℕ). is_in (drop j (places_of a.o)) a.place) e
+    let part = take (length c.listed.result.now - a.k) (drop a.k c.listed.result.now) in
+    let e : c.any.result ≡ list_any (eqb a.place) part =
+    any_from_yields_List (eqb a.place) _ _ _ c.any.ensures.ran (YieldsList-from_slice part cc) (λ x b q k. search (rules, tests)) in
+    e ∙ any-is (eqb a.place) part ∙ ap (λ (l : List ℕ). is_in l a.place) (from-on a.k c.listed.result.now)
+    ∙ ap (λ (l : List ℕ). is_in (drop a.k l) a.place) c.listed.ensures

@@ -2,10 +2,10 @@
 use mathlib.Core.Path.{◌≡◌, ap}
 use mathlib.Core.List.{List}
 use Prim.Native.Nat.{ℕ}
-use borrow.Author.Rules.{rules}
 use lib.IntN.{ℤ}
 use Rattle.rules.specs.declared.Record.{Record}
-use Rattle.rules.specs.Answer.{Outcome, Buffers, Carving}
+use Rattle.rules.specs.declared.Carving.{Carving}
+use Rattle.rules.specs.Answer.{Outcome, Buffers}
 use Rattle.rules.specs.Machine as machine
 use Rattle.rules.specs.Machine.{state}
 use Rattle.part_carving.specs.Part.{part, spliced}

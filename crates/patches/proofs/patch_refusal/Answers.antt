@@ -5,8 +5,7 @@ use Prim.Native.Nat.{◌+◌, ◌≤◌}
 use native.Mathlib.Omega.{arith}
 use lib.Dec.{leb, ltb}
 use lib.ListN.{length}
-use borrow.Author.Rules.{rules}
-use borrow.Author.Tests.{ltb-false, le-leb, lt-leb, not-true, not-false}
+use borrow.Author.Tests.{ltb-false, le-leb, lt-leb}
 use Rattle.rules.specs.Checks.{first_failing}
 use Rattle.format.specs.Bytes.{tagged}
 use Rattle.format.specs.Patch.{patch_length, index_at}

@@ -1,17 +1,14 @@
 -- `patches::patches_refusal` meets its contract.
-use mathlib.Core.Path.{◌≡◌, refl, subst}
+use mathlib.Core.Path.{refl, subst, ◌∙◌}
 use mathlib.Core.List.{◌++◌}
-use Prim.Native.Nat.{◌+◌, ◌-◌}
+use Prim.Native.Nat.{◌+◌}
 use native.Mathlib.Omega.{arith}
-use lib.ListN.{length}
-use borrow.Author.Rules.{rules}
-use Rattle.rules.specs.Checks.{first_failing}
-use Rattle.rules.proofs.Checks.{all_hold, Deciding, deciding-refused, deciding-next, deciding-done}
+use Rattle.rules.proofs.Refusals.{numbers, handed_on}
+use Rattle.rules.proofs.Checks.{Deciding, deciding-refused, deciding-next, deciding-done}
 use Rattle.format.specs.Patch.{patch_length, patch_checks, patches_checks}
 use Rattle.format.proofs.Patch.{checks-next, checks-none}
-use Rattle.patches.proofs.Patching.{Fit, fit}
 use Rattle.patches.proofs.patches_refusal.Goals as goal
-use Rattle.patches.proofs.patches_refusal.Goals.{Else-r-ne0, In-loop-at}
+use Rattle.patches.proofs.patches_refusal.Goals.{In_ok-patch_refusal, In-loop-at}
 
 -- the record at hand, and those behind it
 here : (c : In-loop-at) → let a = c.args in
@@ -19,28 +16,22 @@ here : (c : In-loop-at) → let a = c.args in
     (patch_checks a.n a.file.now c.loop-at.at ++ patches_checks a.n a.file.now (c.loop-at.at + patch_length))
 here c = subst (Deciding _) (checks-next _ _ _ c.loop-at-test.true) c.loop-at.invariant
 
--- behind the branch
-held : (c : Else-r-ne0) → let a = c.args in
-    first_failing (patch_checks a.n a.file.now c.loop-at.at) ≡ 0
-held c = omega (arith, c.patch_refusal-r.ensures, c.if-r-ne0.false)
+pub returns-in_err-patch_refusal : goal.returns-in_err-patch_refusal
+returns-in_err-patch_refusal c =
+    handed_on _ _ c.from_residual.ensures.1
+    ∙ deciding-refused _ _ _ (here (goal.at.returns-in_err-patch_refusal c).In-loop-at) _ c.in_err-patch_refusal.ensures (numbers c.in_err-patch_refusal.field-0.0)
 
-right : (c : Else-r-ne0) → let a = c.args in Fit a.n a.file.now c.loop-at.at
-right c = fit _ _ _ (all_hold _ refl (held c))
-
-pub loop-at-init : goal.loop-at-init
-loop-at-init c = refl
-
-pub returns-then-r-ne0 : goal.returns-then-r-ne0
-returns-then-r-ne0 c = deciding-refused _ _ _ (here (goal.at.returns-then-r-ne0 c).In-loop-at) _ c.patch_refusal-r.ensures (λ e. omega arith)
-
-pub overflow_add-at : goal.overflow_add-at
-overflow_add-at c = omega (arith, (right c).whole)
-
-pub loop-at-smaller : goal.loop-at-smaller
-loop-at-smaller c = omega (arith, c.loop-at-test.true)
+-- and what is left after it
+next : (c : In_ok-patch_refusal) → let a = c.args in
+    Deciding (patches_checks a.n a.file.now a.start) (patches_checks a.n a.file.now (c.loop-at.at + patch_length))
+next c = deciding-next _ _ _ (here (goal.at.In_ok-patch_refusal c).In-loop-at) _ c.in_ok-patch_refusal.ensures refl refl
 
 pub loop-at-preserved : goal.loop-at-preserved
-loop-at-preserved c = deciding-next _ _ _ (here (goal.at.loop-at-preserved c).In-loop-at) _ c.patch_refusal-r.ensures refl (omega arith)
+loop-at-preserved c = next (goal.at.loop-at-preserved c).In_ok-patch_refusal
 
 pub returns : goal.returns
 returns c = deciding-done _ (subst (Deciding _) (checks-none _ _ _ c.loop-at-test.false) c.loop-at.invariant)
+
+pub returns-in_ok-patch_refusal : goal.returns-in_ok-patch_refusal
+returns-in_ok-patch_refusal c =
+    deciding-done _ (subst (Deciding _) (checks-none _ _ _ (omega arith)) (next (goal.at.returns-in_ok-patch_refusal c).In_ok-patch_refusal))

@@ -8,7 +8,6 @@ use Rattle.keys.specs.Key.{key_at}
 use Rattle.keys.proofs.Ranks.{keyed}
 use Rattle.offsets.proofs.Held.{held, held-group}
 use Rattle.pending.proofs.Indexing.{indexed}
-use borrow.Author.Rules.{rules}
 use Rattle.pending.proofs.build.Goals as goal
 
 pub fill_leaves-requires : goal.fill_leaves-requires

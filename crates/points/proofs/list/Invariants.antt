@@ -1,11 +1,7 @@
 -- `points::list` meets its contract. The loop's invariant: what is left of the walk gives the whole walk's answer and buffer.
-use Prim.Native.Nat.{◌-◌}
 use Rattle.points.specs.Positions.{point_on}
 use Rattle.points.proofs.Walking.{Going}
 use Rattle.points.proofs.list.Given as goal
 
 abbrev pub invariant-loop-p : goal.invariant-loop-p
 invariant-loop-p l = Going (point_on l.sides l.dist) l.position l.end l.initial.out l.out l.count l.p
-
-abbrev pub decreases-loop-p : goal.decreases-loop-p
-decreases-loop-p l = l.end - l.p

@@ -9,13 +9,14 @@ use lib.ListN.{length}
 use Rattle.rules.specs.Grid.{size}
 use Rattle.rules.specs.Checks.{◌when◌, first_failing}
 use Rattle.rules.specs.Machine.{State, state, finished_checks}
-use Rattle.rules.proofs.Checks.{fails-first, holds-first, refused-first, held_first, all_hold}
+use Rattle.rules.proofs.Checks.{fails-first, holds-first}
+use Rattle.rules.proofs.Refusals.{handed_on, refused-before, passed, passed-before}
 use Rattle.rules.proofs.Fit.{ended}
 use Rattle.points.specs.Listing.{points_checks}
 use Rattle.points.proofs.points_refusal.Goals as goal
-use Rattle.points.proofs.points_refusal.Goals.{Else-n-ne0}
+use Rattle.points.proofs.points_refusal.Goals.{In_ok-finished_refusal}
 
-module _ (c : Else-n-ne0) where
+module _ (c : In_ok-finished_refusal) where
   abbrev lent : State
   lent = state c.args.given c.args.dist.now c.args.status.now
 
@@ -24,23 +25,24 @@ module _ (c : Else-n-ne0) where
 
   lengths : length c.args.dist.now ≡ n
   lengths =
-      (ended lent (all_hold (finished_checks lent) refl (sym c.finished_refusal-n.ensures ∙ c.if-n-ne0.false))).fit.voxels.lent.distances
+      (ended lent (passed (finished_checks lent) refl c.in_ok-finished_refusal.ensures)).fit.voxels.lent.distances
 
   follows : (m : ℕ) → first_failing (5 when ltb (3 * n) c.args.position ∷ []) ≡ m → m ≡ first_failing (points_checks c.args.position lent)
-  follows m e = held_first (finished_checks lent) _ _ c.finished_refusal-n.ensures refl c.if-n-ne0.false m (sym e)
+  follows m e = passed-before (finished_checks lent) _ refl c.in_ok-finished_refusal.ensures m (sym e)
 
-pub returns-then-n-ne0 : goal.returns-then-n-ne0
-returns-then-n-ne0 c =
+pub returns-in_err-finished_refusal : goal.returns-in_err-finished_refusal
+returns-in_err-finished_refusal c =
     let g = state c.args.given c.args.dist.now c.args.status.now in
-    refused-first (finished_checks g) _ _ c.finished_refusal-n.ensures c.if-n-ne0.true
+    handed_on _ _ c.from_residual.ensures.1
+    ∙ refused-before (finished_checks g) (5 when ltb (3 * size g.rec.sides) c.args.position ∷ []) _ c.in_err-finished_refusal.ensures
 
-pub returns-then-end-position : goal.returns-then-end-position
-returns-then-end-position c =
-    let h : 3 * n (goal.at.returns-then-end-position c).Else-n-ne0 < c.args.position = omega (arith, lengths (goal.at.returns-then-end-position c).Else-n-ne0, c.if-end-position.true) in
-    follows (goal.at.returns-then-end-position c).Else-n-ne0 5 (fails-first 5 _ [] (lt-ltb _ _ h))
+pub returns-then-dist-position : goal.returns-then-dist-position
+returns-then-dist-position c =
+    let h : 3 * n (goal.at.returns-then-dist-position c).In_ok-finished_refusal < c.args.position = omega (arith, lengths (goal.at.returns-then-dist-position c).In_ok-finished_refusal, c.if-dist-position.true) in
+    follows (goal.at.returns-then-dist-position c).In_ok-finished_refusal 5 (fails-first 5 _ [] (lt-ltb _ _ h))
 
 pub returns : goal.returns
 unfolding first_failing
 returns c =
-    let h : c.args.position ≤ 3 * n (goal.at.returns c).Else-n-ne0 = omega (arith, lengths (goal.at.returns c).Else-n-ne0, c.if-end-position.false) in
-    follows (goal.at.returns c).Else-n-ne0 0 (holds-first 5 _ [] (le-ltb _ _ h))
+    let h : c.args.position ≤ 3 * n (goal.at.returns c).In_ok-finished_refusal = omega (arith, lengths (goal.at.returns c).In_ok-finished_refusal, c.if-dist-position.false) in
+    follows (goal.at.returns c).In_ok-finished_refusal 0 (holds-first 5 _ [] (le-ltb _ _ h))

@@ -1,6 +1,5 @@
 -- `practice` meets its contract.
-use Rattle.std.proofs.Common.{◌≡◌, true, length, sym, ap, ◌∙◌, rules}
-use borrow.Author.Tests.{not-true, not-false}
+use Rattle.std.proofs.Common.{◌≡◌, true, length, sym, ap, ◌∙◌}
 use Rattle.prelude.proofs.Ranges.{length-map-range}
 use Rattle.rules.specs.Grid.{fit_sides, size}
 use Rattle.practice.proofs.Calling.{sides-refused, length-refused, filled}

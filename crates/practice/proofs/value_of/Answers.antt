@@ -1,5 +1,4 @@
 -- `value_of`: the difference fits, since its size is at most 1,000.
-use Rattle.std.proofs.Common.{rules}
 use Rattle.practice.proofs.Values.{held_fits, held-value}
 use Rattle.practice.proofs.value_of.Goals as goal
 

@@ -8,7 +8,6 @@ use mir.Syntax.{w32}
 use mir.Facts.{to_z_pos}
 use Rattle.pushing.specs.Push.{fill_of}
 use Rattle.pushing.proofs.Pushes.{push-yes, push-no, has_room}
-use borrow.Author.Rules.{rules}
 use Rattle.pushing.proofs.push.Goals as goal
 
 pub bounds-work-end : goal.bounds-work-end
@@ -23,7 +22,7 @@ returns-then-label-j-eq1 c =
     (to_z_pos w32 (let l = c.requires.1.small in omega arith))
     ∙ sym (push-yes a.j (fill_of a.label.now a.work.now a.end) c.if-label-j-eq1.true)
 
-pub returns : goal.returns
-returns c =
+pub returns-else-label-j-eq1 : goal.returns-else-label-j-eq1
+returns-else-label-j-eq1 c =
     let a = c.args in
     sym (push-no a.j (fill_of a.label.now a.work.now a.end) c.if-label-j-eq1.false)

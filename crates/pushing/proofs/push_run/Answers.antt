@@ -3,7 +3,6 @@ use mathlib.Core.Path.{sym}
 use native.Mathlib.Omega.{arith}
 use Rattle.pushing.specs.Push.{fill_of}
 use Rattle.pushing.proofs.Runs.{run-taken}
-use borrow.Author.Rules.{rules}
 use Rattle.pushing.proofs.push_run.Goals as goal
 
 pub returns-then-joined-eq0 : goal.returns-then-joined-eq0

@@ -16,7 +16,6 @@ use Rattle.rules.specs.Status.{is_pending}
 use Rattle.rules.specs.Marks.{Marked, marked}
 use Rattle.queue.specs.Queue.{Queue}
 use Rattle.queue.proofs.Choosing.{first-own, root-pending, idle}
-use borrow.Author.Rules.{rules}
 use Rattle.queue.proofs.any_pending.Goals as goal
 
 positive : (w : ℕ) → (w ≡ 0 → ⊥) → 0 < w
@@ -40,9 +39,9 @@ returns-then-front-head-ne0 c =
     let a = c.args in
     let v = first-own (marked a.marks.now) a.dist.now a.status.now a.offsets.now a.tree.now a.front.now a.head c.requires
     (positive _ c.if-front-head-ne0.true) in
-    sym (below-any (is_pending a.status.now) (length a.status.now) _ v.inside v.pending)
+    ap not (ne_eqb _ 0 c.if-front-head-ne0.true) ∙ sym (below-any (is_pending a.status.now) (length a.status.now) _ v.inside v.pending)
 
-pub returns : goal.returns
-returns c =
+pub returns-else-front-head-ne0 : goal.returns-else-front-head-ne0
+returns-else-front-head-ne0 c =
     let a = c.args in
     rest (marked a.marks.now) a.dist.now a.status.now a.offsets.now a.tree.now a.front.now a.head c.requires c.if-front-head-ne0.false

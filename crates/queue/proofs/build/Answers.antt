@@ -1,7 +1,6 @@
 -- `queue::build` meets its contract.
 use Rattle.rules.specs.Marks.{marked}
 use Rattle.queue.proofs.Steps.{queue-start}
-use borrow.Author.Rules.{rules}
 use Rattle.queue.proofs.build.Goals as goal
 
 pub returns : goal.returns

@@ -2,7 +2,6 @@
 use native.Mathlib.Omega.{arith}
 use Rattle.rules.specs.Marks.{marked}
 use Rattle.queue.proofs.Choosing.{first-own, best-nothing, best-at}
-use borrow.Author.Rules.{rules}
 use Rattle.queue.proofs.first.Goals as goal
 
 pub returns-then-w-eq0 : goal.returns-then-w-eq0
@@ -19,8 +18,8 @@ voxel-requires c =
     (omega arith) in
     (omega arith, omega (arith, v.inside, c.requires.queue.lent.same))
 
-pub returns : goal.returns
-returns c =
+pub returns-else-w-eq0 : goal.returns-else-w-eq0
+returns-else-w-eq0 c =
     let a = c.args in
     let n = c.if-w-eq0.false in
     best-at (marked a.marks.now) a.dist.now a.status.now a.offsets.now a.tree.now a.front.now a.head c.requires.queue _

@@ -3,7 +3,6 @@ use mathlib.Core.Path.{refl}
 use Rattle.rules.specs.Marks.{marked}
 use Rattle.keys.proofs.Ranks.{pending-inside}
 use Rattle.queue.proofs.Steps.{queue-left}
-use borrow.Author.Rules.{rules}
 use Rattle.queue.proofs.leave.Goals as goal
 
 pub bounds-status-i : goal.bounds-status-i

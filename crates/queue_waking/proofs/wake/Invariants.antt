@@ -1,17 +1,7 @@
 -- `queue_waking::wake` meets its contract: the loop wakes the voxels at the bits that it has dropped.
-use mathlib.Core.Path.{◌≡◌, ap, ◌∙◌}
-use Prim.Native.Nat.{ℕ, ◌+◌, ◌-◌, ◌/◌, ◌<◌}
-use native.Mathlib.Omega.{arith}
-use borrow.Author.Rules.{rules}
-use lib.ListN.{length, get_or}
-use lib.Bits.{and_le_r}
-use lib.Dec.{lit<}
 use Rattle.rules.specs.Marks.{marked}
-use Rattle.bits.specs.Bits.{has}
 use Rattle.waking.specs.Waking.{from_voxel}
-use Rattle.waking.proofs.Idle.{has-beyond}
-use Rattle.waking.proofs.Waking.{lowest-position, position-below}
-use Rattle.queue_waking.proofs.Calling.{Calling, calling-start, calling-next, calling-done}
+use Rattle.queue_waking.proofs.Calling.{Calling}
 use Rattle.queue_waking.proofs.wake.Given as goal
 
 abbrev pub invariant-loop-m : goal.invariant-loop-m

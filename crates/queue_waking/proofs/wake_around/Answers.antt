@@ -1,14 +1,11 @@
 -- `queue_waking::wake_around` meets its contract.
-use mathlib.Core.Path.{sym, subst, subst₂}
-use Prim.Native.Nat.{ℕ, ◌*◌, ◌^◌, ◌<◌}
+use mathlib.Core.Path.{sym, subst₂}
+use Prim.Native.Nat.{ℕ, ◌*◌}
 use native.Mathlib.Omega.{arith}
-use borrow.Author.Rules.{rules}
-use Rattle.rules.specs.Marks.{marked}
 use Rattle.touched_cells.specs.Block.{code_in}
 use Rattle.neighbourhood.specs.Neighbourhood.{Room}
 use Rattle.neighbourhood.proofs.Interior.{layer-small, room}
 use Rattle.waking.proofs.Idle.{idle-few}
-use Rattle.queue_waking.proofs.Calling.{woken-at}
 use Rattle.queue_waking.proofs.wake_around.Goals as goal
 
 pub overflow_mul-s : goal.overflow_mul-s
@@ -25,12 +22,6 @@ wake-requires c =
           record {
             room = subst₂ (λ (m n : ℕ). Room a.s.a (a.s.a * a.s.b) m n) (sym c.first_around-at.ensures) (sym c.requires.0.statuses)
                 (room a.s a.i c.requires.0.voxel);
-            few = subst (λ (n : ℕ). n < 2 ^ 54) (sym c.idle_bits-idle.ensures) (idle-few (code_in a.block));
+            few = omega (arith, c.idle_bits-idle.ensures, idle-few (code_in a.block));
           };
     }
-
-pub returns : goal.returns
-returns c =
-    let a = c.args in
-    woken-at {mk = marked a.marks.now} {dist = a.dist.now} a.s.a (a.s.a * a.s.b) c.idle_bits-idle.ensures c.first_around-at.ensures
-    c.wake.ensures

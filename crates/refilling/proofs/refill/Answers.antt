@@ -6,7 +6,6 @@ use Rattle.rules.specs.Marks.{marked}
 use Rattle.keys.specs.Key.{voxel_of, width}
 use lib.ListN.{get_or}
 use Rattle.queue.proofs.Steps.{refill-inside, refill-parting, refill-refreshing, queue-refilled}
-use borrow.Author.Rules.{rules}
 use Rattle.refilling.proofs.refill.Goals as goal
 use Rattle.refilling.proofs.refill.Goals.{After-voxel-k}
 
@@ -21,9 +20,6 @@ voxel-k-requires c =
       refill-inside (marked a.marks.now) a.dist.now a.status.now a.offsets.now a.tree.now a.front.now a.head c.requires.0.queue
           c.requires.0.empty c.requires.1,
     )
-
-pub overflow_mul-root : goal.overflow_mul-root
-overflow_mul-root c = record { fits = omega (arith, c.slice_known-4-1.given 1) }
 
 pub part-w-requires : goal.part-w-requires
 part-w-requires c =

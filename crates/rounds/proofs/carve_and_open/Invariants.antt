@@ -1,17 +1,15 @@
 -- `rounds::carve_and_open` meets its contract.
-use mathlib.Core.Path.{◌≡◌, refl}
-use native.Mathlib.Omega.{arith}
-use borrow.Author.Rules.{rules}
+use mathlib.Core.Path.{◌≡◌}
 use lib.ListN.{length}
 use Rattle.rules.specs.Machine.{state}
-use Rattle.program.specs.Program.{carve_and_open}
-use Rattle.program.specs.Program.{rounds_left}
-use Rattle.rounds.proofs.Going.{Going, left, going_start, going_next, going_done}
+use Rattle.program.specs.Program.{carve_and_open, rounds_left}
+use Rattle.rounds.proofs.Going.{Going, left}
 use Rattle.rounds.proofs.carve_and_open.Given as goal
 
-abbrev pub invariant-loop-opened : goal.invariant-loop-opened
-invariant-loop-opened l =
-    (length l.status ≡ length l.initial.status) × Going l.marks (carve_and_open l.marks (rounds_left l.initial.current) (state l.initial.current l.dist l.initial.status)) l.opened l.current l.dist l.status
+abbrev pub invariant-loop-opening : goal.invariant-loop-opening
+invariant-loop-opening l =
+    (length l.status ≡ length l.fn.status)
+    × Going l.marks (carve_and_open l.marks (rounds_left l.fn.given) (state l.fn.given l.dist l.fn.status)) l.carved l.dist l.status
 
-abbrev pub decreases-loop-opened : goal.decreases-loop-opened
-decreases-loop-opened l = left l.opened l.current
+abbrev pub decreases-loop-opening : goal.decreases-loop-opening
+decreases-loop-opening l = left l.carved

@@ -3,7 +3,7 @@ use mathlib.Core.Path.{◌≡◌, refl, ap, sym, ◌∙◌, subst}
 use mathlib.Core.Logic.{◌⊎◌, inl, inr}
 use mathlib.Core.Bool.{Bool, true, false, not, cond, ◌&&◌, true≢false}
 use mathlib.Core.List.{List, [], ◌∷◌}
-use mathlib.Core.Option.{Option, none, some}
+use Rattle.std.specs.Prelude.{Option, None, Some}
 use Prim.Native.Nat.{ℕ, zero, suc, ◌+◌, ◌*◌, ◌≤◌, ◌<◌}
 use native.Mathlib.Omega.{arith}
 use lib.IntN.{ℤ, pos, ◌+ℤ◌, +ℤ_assoc, +ℤ_idr}
@@ -86,8 +86,8 @@ module _ (s : Sides) (S pins held free : ℕ → Bool) (ahead : ℕ → ℕ → 
           → ((i : ℕ) (t : Tally) → Sound s S held total (examine s free status i) t
           → let p = carving s free ahead limit (examine s free status i) in Sound s S held total p.status (grown t p))
           → Sound s S held total (next o).status (grown t (next o))
-      go none e rest = nothing-done status t sound
-      go (some i) e rest =
+      go None e rest = nothing-done status t sound
+      go (Some i) e rest =
           let first = first-foremost s ahead order (is_pending status) i e in
           more (goes s free status i) (test_at s status i).face (carving s free ahead limit (examine s free status i))
           (rest i (examined_once (goes s free status i) t)
@@ -103,7 +103,7 @@ module _ (s : Sides) (S pins held free : ℕ → Bool) (ahead : ℕ → ℕ → 
       next : Option ℕ → Progress
       next o = examining s free status (λ i. carving s free ahead limit (examine s free status i)) o
 
-      quiet : first_of s ahead (is_pending status) ≡ none → any_pending s status ≡ false
+      quiet : first_of s ahead (is_pending status) ≡ None → any_pending s status ≡ false
       quiet e =
           unfold any_pending voxels in
           elim (two (any (is_pending status) (range 0 (size s)))) [
@@ -116,8 +116,8 @@ module _ (s : Sides) (S pins held free : ℕ → Bool) (ahead : ℕ → ℕ → 
       go : (o : Option ℕ) → first_of s ahead (is_pending status) ≡ o
           → ((i : ℕ) → let p = carving s free ahead limit (examine s free status i) in (any_pending s p.status ≡ false) ⊎ (p.examined ≡ limit))
           → (any_pending s (next o).status ≡ false) ⊎ ((next o).examined ≡ suc limit)
-      go none e rest = inl (quiet e)
-      go (some i) e rest = elim (rest i) [ inl f ↦ inl f | inr f ↦ inr (ap suc f) ]
+      go None e rest = inl (quiet e)
+      go (Some i) e rest = elim (rest i) [ inl f ↦ inl f | inr f ↦ inr (ap suc f) ]
 
   -- a run of as many examinations as 27 for each voxel of the body at the start leaves nothing pending
   pub carving-ends : (limit : ℕ) (status : List ℕ) (t : Tally) → Sound s S held total status t → 27 * total ≤ limit
@@ -263,8 +263,8 @@ module _ (S held : ℕ → Bool) (total : ℕ) where
 
         through : Held marks → Openable marks g → (o : Option ℕ) → to_open free g ≡ o
             → Keeps g (after (λ r. r.next) g (opened free (the_voxel o) g)) (of_open (opened free (the_voxel o) g).answer)
-        through within w none e = absurd (true≢false (ap is_none (sym e) ∙ w.found))
-        through within w (some i) e =
+        through within w None e = absurd (true≢false (ap is_none (sym e) ∙ w.found))
+        through within w (Some i) e =
             unfold opened in
             let f = w.quiet.working.unfinished in
             let first = first-foremost s (farther g.dist) (farther-order g.dist) (openable s free g.status) i (unfold to_open in e) in

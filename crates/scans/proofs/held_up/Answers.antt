@@ -11,6 +11,6 @@ pub returns-then-s-eq1 : goal.returns-then-s-eq1
 unfolding held_up
 returns-then-s-eq1 c = let a = c.args in sym (ap (λ (t : Bool). cond t (pos 0) a.d) (eq-eqb a.s 1 c.if-s-eq1.true))
 
-pub returns : goal.returns
+pub returns-else-s-eq1 : goal.returns-else-s-eq1
 unfolding held_up
-returns c = let a = c.args in to_z-of_z c.ranges.d ∙ sym (ap (λ (t : Bool). cond t (pos 0) a.d) (ne_eqb a.s 1 c.if-s-eq1.false))
+returns-else-s-eq1 c = let a = c.args in to_z-of_z c.ranges.d ∙ sym (ap (λ (t : Bool). cond t (pos 0) a.d) (ne_eqb a.s 1 c.if-s-eq1.false))

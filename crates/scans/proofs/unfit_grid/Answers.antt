@@ -1,6 +1,5 @@
 -- `scans::unfit_grid` meets its contract: three scans make one.
 use mathlib.Core.Path.{sym, ◌∙◌}
-use borrow.Author.Rules.{rules}
 use Rattle.scans.proofs.Borders.{three-scans}
 use Rattle.scans.proofs.unfit_grid.Goals as goal
 

@@ -1,25 +1,18 @@
--- `scans::unknown` meets its contract. The loop has found whether a status before voxel i is unknown.
-use borrow.Author.Rules.{rules}
-use native.Mathlib.Omega.{arith}
-use mathlib.Core.Path.{◌≡◌, ap, refl, sym, ◌∙◌}
-use Prim.Native.Nat.{ℕ, ◌-◌, ◌≤◌}
-use lib.ListN.{length}
-use Rattle.cells.specs.Groups.{any}
-use Rattle.rules.specs.Grid.{range}
+-- `scans::unknown` meets its contract: some status found, as a fold.
+use Rattle.std.proofs.Common.{◌∙◌, ◌||◌, ℕ, Bool, not, false, eqb, rules}
+use Rattle.std.proofs.lemmas.Iterator.{YieldsList-from_slice}
+use Rattle.std.proofs.lemmas.Iterator.Consumers.{fold_from_yields_List}
+use Rattle.loops.proofs.Spans.{fold-any, any-read}
 use Rattle.scans.specs.Scans.{unknown_at}
-use Rattle.prelude.proofs.Ranges.{any-run-none, scan-next}
 use Rattle.scans.proofs.unknown.Goals as goal
 
-pub loop-i-init : goal.loop-i-init
-loop-i-init c = (omega arith, sym (any-run-none _ 0 0 refl))
-
-pub loop-i-preserved : goal.loop-i-preserved
-unfolding unknown_at
-loop-i-preserved c =
-    (omega arith, scan-next (unknown_at c.args.status.now) c.loop-i.i c.loop-i.bad _ c.loop-i.invariant.1 refl)
+abbrev bad : ℕ → Bool
+bad s = not (eqb s 0 || (eqb s 1 || eqb s 3))
 
 pub returns : goal.returns
+unfolding unknown_at
 returns c =
-    let a = c.args in
-    let e : c.loop-i.i ≡ length a.status.now = omega (arith, c.loop-i-test.false) in
-    c.loop-i.invariant.1 ∙ ap (λ (n : ℕ). any (unknown_at a.status.now) (range 0 n)) e
+    let xs = c.args.status.now in
+    fold_from_yields_List _ (λ t s. t || bad s) false c.fold.result c.fold.ensures.ran (YieldsList-from_slice xs cc) (λ a x b q k. search rules)
+    ∙ fold-any bad false xs
+    ∙ any-read bad 0 xs

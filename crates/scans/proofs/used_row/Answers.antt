@@ -65,9 +65,9 @@ bounds-status-end c =
     let r = row_in a.s a.y a.z c.requires.1 (length a.status.now) c.requires.0 c.requires.2 in
     omega arith
 
-pub returns : goal.returns
+pub returns-else-y-s : goal.returns-else-y-s
 unfolding used_at
-returns c =
+returns-else-y-s c =
     let a = c.args in
     let r = row_in a.s a.y a.z c.requires.1 (length a.status.now) c.requires.0 c.requires.2 in
     used-ends a.s a.y a.z c.requires.1 a.status.now (a.s.a * (a.y + a.s.b * a.z) + a.s.a - 1) r.row.a-low (omega arith) c.if-y-s.false

@@ -10,6 +10,6 @@ pub returns-then-surface : goal.returns-then-surface
 unfolding height_of
 returns-then-surface c = to_z-of_z c.ranges.d ∙ sym (ap (λ (t : Bool). cond t c.args.d (negsuc 0)) c.if-surface.true)
 
-pub returns : goal.returns
+pub returns-else-surface : goal.returns-else-surface
 unfolding height_of
-returns c = sym (ap (λ (t : Bool). cond t c.args.d (negsuc 0)) c.if-surface.false)
+returns-else-surface c = sym (ap (λ (t : Bool). cond t c.args.d (negsuc 0)) c.if-surface.false)

@@ -1,6 +1,6 @@
 -- `searching::highest` meets its contract: the loop has the first stretch of the greatest height before voxel i.
 use mathlib.Core.Path.{◌≡◌, refl, sym, ap, ◌∙◌, subst}
-use Prim.Native.Nat.{ℕ, ◌+◌, ◌-◌, ◌≤◌}
+use Prim.Native.Nat.{ℕ, ◌+◌, ◌-◌}
 use native.Mathlib.Omega.{arith}
 use borrow.Author.Rules.{sfits_of, rules}
 use lib.IntN.{ℤ, negsuc}
@@ -33,14 +33,13 @@ greatest-requires c =
     let p = c.requires in
     let y = p.0 in
     let v = c.loop-i.invariant in
-    let e = c.stretch.ensures in
     let t = c.loop-i-test.true in (
       record {
         one = y.one;
         row = y.row;
         low = omega (arith, v.0, v.2);
-        order = omega arith;
-        high = omega (arith, v.0, v.1, v.3, e.1, y.ends);
+        order = omega (arith, c.min-e.ensures);
+        high = omega (arith, v.0, v.1, v.3, c.min-e.ensures, y.ends);
       },
       p.1,
     )
@@ -50,15 +49,16 @@ loop-i-preserved c =
     let a = c.args in
     let v = c.loop-i.invariant in
     let i = c.loop-i.i in
-    let e = i + c.stretch.result in
+    let t = c.loop-i-test.true in
+    let e = c.min-e.result in
     let k = 1 + a.a + a.l in
     let f = key_at (marked a.marks.now) a.dist.now a.status.now a.a a.l in (
       refl,
       refl,
-      omega (arith, v.2),
-      omega (arith, v.3, c.stretch.ensures.1, c.loop-i-test.true),
+      omega (arith, v.2, c.min-e.ensures, t),
+      omega (arith, c.min-e.ensures),
       subst (Holding f k e) (sym (c.keep-best.ensures ∙ ap (λ (z : ℤ). held_of c.loop-i.best z i e) (to_z-of_z (sfits_of {w = w32} c.greatest.type_inv))))
-          (holding-step f k i e c.greatest.result c.loop-i.best v.2 (omega arith) v.4 c.greatest.ensures),
+          (holding-step f k i e c.greatest.result c.loop-i.best v.2 (omega (arith, c.min-e.ensures, t)) v.4 c.greatest.ensures),
     )
 
 pub returns : goal.returns

@@ -1,15 +1,9 @@
 -- `searching::highest` meets its contract: the loop has the first stretch of the greatest height before voxel i.
-use mathlib.Core.Path.{◌≡◌, refl, sym, ap, ◌∙◌, subst}
-use Prim.Native.Nat.{ℕ, ◌+◌, ◌-◌, ◌≤◌}
-use native.Mathlib.Omega.{arith}
-use borrow.Author.Rules.{sfits_of, rules}
-use lib.IntN.{ℤ, negsuc}
+use mathlib.Core.Path.{◌≡◌}
+use Prim.Native.Nat.{◌+◌, ◌-◌, ◌≤◌}
 use lib.ListN.{length}
-use mir.Facts.{to_z-of_z}
 use Rattle.rules.specs.Marks.{marked}
-use Rattle.searching.specs.Argmax.{key_at, held_of, Holding}
-use Rattle.searching.proofs.Argmax.{holding-start, holding-step}
-use mir.Syntax.{w32}
+use Rattle.searching.specs.Argmax.{key_at, Holding}
 use Rattle.searching.proofs.highest.Given as goal
 
 abbrev pub invariant-loop-i : goal.invariant-loop-i

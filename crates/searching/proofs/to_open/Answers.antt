@@ -2,6 +2,7 @@
 use mathlib.Core.Path.{sym, ◌∙◌, subst}
 use Prim.Native.Nat.{ℕ, ◌+◌, ◌-◌, ◌*◌}
 use native.Mathlib.Omega.{arith}
+use borrow.Author.Rules.{rules}
 use mir.Val.{SFits}
 use mir.Syntax.{w32}
 use Rattle.prelude.proofs.Signs.{held-negative}
@@ -11,10 +12,7 @@ use Rattle.searching.specs.Argmax.{key_at, rank, Holding, Layers}
 use Rattle.searching.proofs.Opening.{layers, nothing, at_first}
 use Rattle.searching.proofs.Argmax.{rank-none, rank-some, leading-all}
 use Rattle.searching.proofs.to_open.Goals as goal
-use Rattle.searching.proofs.to_open.Goals.{After-highest-held, After-struct_told-1}
-
-height-fits : (c : After-struct_told-1) → SFits w32 c.highest-held.result.height
-height-fits c = record { sfits = c.struct_told-1.given.0.1 }
+use Rattle.searching.proofs.to_open.Goals.{After-highest-held}
 
 -- the search over the grid's voxels
 held :
@@ -42,12 +40,12 @@ highest-held-requires c =
       (p.lent.0 ∙ sym e, p.lent.1 ∙ sym e),
     )
 
-pub returns-then-height-lt0 : goal.returns-then-height-lt0
-returns-then-height-lt0 c =
+pub returns-then-held-lt0 : goal.returns-then-held-lt0
+returns-then-held-lt0 c =
     let a = c.args in
     let r = c.highest-held.result in
-    sym (nothing a.s a.dist.now a.marks.now a.status.now c.requires (rank r.height) (held (goal.at.returns-then-height-lt0 c).After-highest-held).top
-    (rank-none r.height (sym (held-negative (height-fits (goal.at.returns-then-height-lt0 c).After-struct_told-1)) ∙ c.if-height-lt0.true)))
+    sym (nothing a.s a.dist.now a.marks.now a.status.now c.requires (rank r.height) (held (goal.at.returns-then-held-lt0 c).After-highest-held).top
+    (rank-none r.height (sym (held-negative (let f : SFits w32 c.highest-held.result.height = search rules in f)) ∙ c.if-held-lt0.true)))
 
 pub first_of-requires : goal.first_of-requires
 first_of-requires c =
@@ -60,17 +58,17 @@ first_of-requires c =
       record {
         span = record { one = y.one; row = y.row; low = omega (arith, g.low); order = g.span; high = omega (arith, g.high, y.ends, e) };
         greatest = g.greatest;
-        some = rank-some r.height (sym (held-negative (height-fits (goal.at.first_of-requires c).After-struct_told-1)) ∙ c.if-height-lt0.false);
+        some = rank-some r.height (sym (held-negative (let f : SFits w32 c.highest-held.result.height = search rules in f)) ∙ c.if-held-lt0.false);
       },
       (p.lent.0 ∙ sym e, p.lent.1 ∙ sym e),
     )
 
-pub returns : goal.returns
-returns c =
+pub returns-else-held-lt0 : goal.returns-else-held-lt0
+returns-else-held-lt0 c =
     let a = c.args in
     let r = c.highest-held.result in
-    let g = held (goal.at.returns c).After-highest-held in
-    let p = rank-some r.height (sym (held-negative (height-fits (goal.at.returns c).After-struct_told-1)) ∙ c.if-height-lt0.false) in
+    let g = held (goal.at.returns-else-held-lt0 c).After-highest-held in
+    let p = rank-some r.height (sym (held-negative (let f : SFits w32 c.highest-held.result.height = search rules in f)) ∙ c.if-held-lt0.false) in
     let f = key_at (marked a.marks.now) a.dist.now a.status.now a.s.a (a.s.a * a.s.b) in
     sym (at_first a.s a.dist.now a.marks.now a.status.now c.requires (rank r.height) g.top p c.first_of.result
     (leading-all f (1 + a.s.a + a.s.a * a.s.b) (size a.s - (1 + a.s.a + a.s.a * a.s.b)) r c.first_of.result g p c.first_of.ensures))

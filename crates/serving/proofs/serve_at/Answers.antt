@@ -1,4 +1,5 @@
 -- `serving::serve_at` meets its contract: the part of the grid is carved, and the order record moved.
+use mathlib.Core.Path.{refl}
 use borrow.Author.Rules.{rules}
 use Rattle.serving.proofs.AtPlace.{Ready, ready, within, part-marking, served-is}
 use Rattle.serving.proofs.serve_at.Goals as goal
@@ -25,12 +26,12 @@ overflow_cast-place c = let r = is-ready (goal.at.overflow_cast-place c).Start i
 pub served_last-order-requires : goal.served_last-order-requires
 served_last-order-requires c = let r = is-ready (goal.at.served_last-order-requires c).Start in search rules
 
-pub carve-requires : goal.carve-requires
-carve-requires c =
+pub carve-carving-requires : goal.carve-carving-requires
+carve-carving-requires c =
     let a = c.args in (
-      within a.marks.now a.limit a.g a.o a.dist.now a.status.now a.p (is-ready (goal.at.carve-requires c).Start) _ _ c.start_of-from.ensures
+      within a.marks.now a.limit a.g a.o a.dist.now a.status.now a.p (is-ready (goal.at.carve-carving-requires c).Start) _ _ c.start_of-from.ensures
           c.start_of-to.ensures _ c.record_at-given.ensures,
-      part-marking a.marks.now a.limit a.g a.o a.dist.now a.status.now a.p (is-ready (goal.at.carve-requires c).Start) _ _ c.start_of-from.ensures
+      part-marking a.marks.now a.limit a.g a.o a.dist.now a.status.now a.p (is-ready (goal.at.carve-carving-requires c).Start) _ _ c.start_of-from.ensures
           c.start_of-to.ensures _ c.record_at-given.ensures,
     )
 
@@ -38,4 +39,4 @@ pub returns : goal.returns
 returns c =
     let a = c.args in
     served-is a.marks.now a.limit a.g a.o a.dist.now a.status.now a.p (is-ready (goal.at.returns c).Start) _ _ c.start_of-from.ensures c.start_of-to.ensures _
-    c.record_at-given.ensures _ _ _ _ c.placed-answer.ensures c.served_last-order.ensures c.carve.ensures
+    c.record_at-given.ensures _ _ _ _ refl c.served_last-order.ensures c.carve-carving.ensures

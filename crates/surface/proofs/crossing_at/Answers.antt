@@ -2,7 +2,7 @@
 use borrow.Author.Rules.{rules}
 use mathlib.Core.Path.{◌≡◌, sym, ap, ◌∙◌, subst}
 use mathlib.Core.Bool.{true, false}
-use mathlib.Core.Option.{Option, none, some}
+use Rattle.std.specs.Prelude.{Option, None, Some}
 use Prim.Native.Nat.{ℕ, ◌+◌, ◌<◌}
 use native.Mathlib.Omega.{arith}
 use lib.IntN.{ℤ}
@@ -10,7 +10,6 @@ use lib.ListN.{length}
 use mir.Syntax.{w32}
 use mir.Val.{SFits}
 use Rattle.rules.specs.Grid.{Voxel, voxel, size, distance_at}
-use Rattle.rules.specs.Answer.{done}
 use Rattle.surface.specs.declared.Point.{Point}
 use Rattle.surface.specs.Surface.{next, crossing_of, next_index, crossing_at, BoundedAt}
 use Rattle.surface.proofs.Bound.{Word, crossing_at-bounded}
@@ -61,15 +60,12 @@ module _ (c : After-stride) where
     meets :
         (o : Option Point)
         → o ≡ crossing_of c.args.axis v here there
-        → (done o ≡ done answer) × ((q : Option Point) → done o ≡ done q → Bound q)
+        → (o ≡ answer) × (Bound o)
     unfolding crossing_at
     meets o e =
         let a : o ≡ answer = e ∙ ap (λ (n : ℕ). crossing_of c.args.axis v here (distance_at c.args.dist.now n)) j-is in
-        (ap done a, λ q f. subst (λ (o : Option Point). Bound o) (same answer o q a f) bounded)
+        (a, subst Bound (sym a) bounded)
       where
-        same : (a o q : Option Point) → o ≡ a → done o ≡ done q → a ≡ q
-        same a o q e f = cc
-
         bounded : Bound answer
         bounded =
             crossing_at-bounded c.args.sides c.args.dist.now c.args.i c.args.axis c.requires.0 F.sfits
@@ -80,45 +76,44 @@ module _ (c : After-stride) where
 pub bounds-dist-j : goal.bounds-dist-j
 bounds-dist-j c = j-lt (goal.at.bounds-dist-j c).After-stride
 
-pub returns-then-there-lt0 : goal.returns-then-there-lt0
-returns-then-there-lt0 c =
-    let r = (goal.at.returns-then-there-lt0 c).After-stride in
+pub returns-in-true-false : goal.returns-in-true-false
+returns-in-true-false c =
+    let r = (goal.at.returns-in-true-false c).After-stride in
     let F : SFits w32 (here r) = search rules in
     let G : SFits w32 (there r) = search rules in
     let m =
-    meets r F G none (neither c.args.axis (v r) (here r) (there r) F G true c.if-here-lt0.true c.if-there-lt0.true) in
+    meets r F G (Some c.point_between.result)
+    (from-here c.args.axis (v r) (here r) (there r) F G c.point_between.result c.in-true-false.is-0 c.in-true-false.is-1 c.point_between.ensures) in
     record { result_value = m.0; bounded_at = m.1 }
 
-pub returns-then-here-lt0 : goal.returns-then-here-lt0
-returns-then-here-lt0 c =
-    let r = (goal.at.returns-then-here-lt0 c).After-stride in
+pub point_between-requires-in-false-true : goal.point_between-requires-in-false-true
+point_between-requires-in-false-true c = (c.requires.0.fit, j-below (goal.at.point_between-requires-in-false-true c).After-stride)
+
+pub returns-in-false-true : goal.returns-in-false-true
+returns-in-false-true c =
+    let r = (goal.at.returns-in-false-true c).After-stride in
     let F : SFits w32 (here r) = search rules in
     let G : SFits w32 (there r) = search rules in
     let m =
-    meets r F G (some c.point_between.result)
-    (from-here c.args.axis (v r) (here r) (there r) F G c.point_between.result c.if-here-lt0.true c.if-there-lt0.false
-    c.point_between.ensures) in
-    record { result_value = m.0; bounded_at = m.1 }
-
-pub point_between-requires-then-there-lt0-2 : goal.point_between-requires-then-there-lt0-2
-point_between-requires-then-there-lt0-2 c = (c.requires.0.fit, j-below (goal.at.point_between-requires-then-there-lt0-2 c).After-stride)
-
-pub returns-then-there-lt0-2 : goal.returns-then-there-lt0-2
-returns-then-there-lt0-2 c =
-    let r = (goal.at.returns-then-there-lt0-2 c).After-stride in
-    let F : SFits w32 (here r) = search rules in
-    let G : SFits w32 (there r) = search rules in
-    let m =
-    meets r F G (some c.point_between-then-there-lt0-2.result)
+    meets r F G (Some c.point_between-in-false-true.result)
     (from_next c.args.axis (v r) (here r) (there r) F G (voxel c.args.sides (j r))
-    c.point_between-then-there-lt0-2.result (j-next r) c.if-here-lt0.false c.if-there-lt0-2.true c.point_between-then-there-lt0-2.ensures) in
+    c.point_between-in-false-true.result (j-next r) c.in-false-true.is-0 c.in-false-true.is-1 c.point_between-in-false-true.ensures) in
     record { result_value = m.0; bounded_at = m.1 }
 
-pub returns : goal.returns
-returns c =
-    let r = (goal.at.returns c).After-stride in
+pub returns-in-true-true : goal.returns-in-true-true
+returns-in-true-true c =
+    let r = (goal.at.returns-in-true-true c).After-stride in
     let F : SFits w32 (here r) = search rules in
     let G : SFits w32 (there r) = search rules in
     let m =
-    meets r F G none (neither c.args.axis (v r) (here r) (there r) F G false c.if-here-lt0.false c.if-there-lt0-2.false) in
+    meets r F G None (neither c.args.axis (v r) (here r) (there r) F G true c.in-true-true.is-0 c.in-true-true.is-1) in
+    record { result_value = m.0; bounded_at = m.1 }
+
+pub returns-in-true-true-2 : goal.returns-in-true-true-2
+returns-in-true-true-2 c =
+    let r = (goal.at.returns-in-true-true-2 c).After-stride in
+    let F : SFits w32 (here r) = search rules in
+    let G : SFits w32 (there r) = search rules in
+    let m =
+    meets r F G None (neither c.args.axis (v r) (here r) (there r) F G false c.in-true-true.is-0 c.in-true-true.is-1) in
     record { result_value = m.0; bounded_at = m.1 }

@@ -5,53 +5,54 @@ use Rattle.rules.specs.Grid.{size}
 use Rattle.rules.specs.Checks.{first_failing}
 use Rattle.rules.specs.Machine.{State, state, finished_checks}
 use Rattle.rules.specs.Fit.{Ended}
-use Rattle.rules.proofs.Checks.{refused-first, held_first, all_hold}
+use Rattle.rules.proofs.Refusals.{handed_on, refused-before, passed, passed-before}
 use Rattle.rules.proofs.Fit.{ended}
 use Rattle.surface.specs.Surface.{next_checks, crossing_checks}
 use Rattle.surface.proofs.Crossable.{five, six, neither}
 use Rattle.surface.proofs.crossing_refusal.Goals as goal
-use Rattle.surface.proofs.crossing_refusal.Goals.{Else-n-ne0, Else-voxel_count-index}
+use Rattle.surface.proofs.crossing_refusal.Goals.{In_ok-finished_refusal, Else-voxel_count-index}
 
 -- ---- where the checks of a finished grid hold
 
-module _ (c : Else-n-ne0) where
+module _ (c : In_ok-finished_refusal) where
   abbrev lent : State
   lent = state c.args.given c.args.dist.now c.args.status.now
 
   found : Ended lent
-  found = ended lent (all_hold (finished_checks lent) refl (sym c.finished_refusal-n.ensures ∙ c.if-n-ne0.false))
+  found = ended lent (passed (finished_checks lent) refl c.in_ok-finished_refusal.ensures)
 
   follows :
       (m : ℕ)
       → first_failing (next_checks c.args.index c.args.axis c.args.given.sides) ≡ m
       → m ≡ first_failing (crossing_checks c.args.index c.args.axis lent)
-  follows m e = held_first (finished_checks lent) _ _ c.finished_refusal-n.ensures refl c.if-n-ne0.false m (sym e)
+  follows m e = passed-before (finished_checks lent) _ refl c.in_ok-finished_refusal.ensures m (sym e)
 
 under : (c : Else-voxel_count-index) → c.args.index < size c.args.given.sides
 under c = subst (λ (n : ℕ). c.args.index < n) c.voxel_count.ensures.0 c.if-voxel_count-index.false
 
 -- ---- the goals
 
-pub returns-then-n-ne0 : goal.returns-then-n-ne0
-returns-then-n-ne0 c =
+pub returns-in_err-finished_refusal : goal.returns-in_err-finished_refusal
+returns-in_err-finished_refusal c =
     let g = state c.args.given c.args.dist.now c.args.status.now in
-    refused-first (finished_checks g) _ _ c.finished_refusal-n.ensures c.if-n-ne0.true
+    handed_on _ _ c.from_residual.ensures.1
+    ∙ refused-before (finished_checks g) (next_checks c.args.index c.args.axis c.args.given.sides) _ c.in_err-finished_refusal.ensures
 
 pub voxel_count-requires : goal.voxel_count-requires
-voxel_count-requires c = (found (goal.at.voxel_count-requires c).Else-n-ne0).fit.voxels.lent.sides
+voxel_count-requires c = (found (goal.at.voxel_count-requires c).In_ok-finished_refusal).fit.voxels.lent.sides
 
 pub returns-then-voxel_count-index : goal.returns-then-voxel_count-index
 returns-then-voxel_count-index c =
-    follows (goal.at.returns-then-voxel_count-index c).Else-n-ne0 5
+    follows (goal.at.returns-then-voxel_count-index c).In_ok-finished_refusal 5
     (five c.args.index c.args.axis c.args.given.sides (subst (λ (n : ℕ). n ≤ c.args.index) c.voxel_count.ensures.0 c.if-voxel_count-index.true))
 
 pub beyond-requires : goal.beyond-requires
-beyond-requires c = ((found (goal.at.beyond-requires c).Else-n-ne0).fit.voxels.lent.sides, under c)
+beyond-requires c = ((found (goal.at.beyond-requires c).In_ok-finished_refusal).fit.voxels.lent.sides, under (goal.at.beyond-requires c).Else-voxel_count-index)
 
 pub returns-then-beyond : goal.returns-then-beyond
 returns-then-beyond c =
-    follows (goal.at.returns-then-beyond c).Else-n-ne0 6 (six c.args.index c.args.axis c.args.given.sides (under (goal.at.returns-then-beyond c).Else-voxel_count-index) _ c.beyond.ensures c.if-beyond.true)
+    follows (goal.at.returns-then-beyond c).In_ok-finished_refusal 6 (six c.args.index c.args.axis c.args.given.sides (under (goal.at.returns-then-beyond c).Else-voxel_count-index) _ c.beyond.ensures c.if-beyond.true)
 
 pub returns : goal.returns
 returns c =
-    follows (goal.at.returns c).Else-n-ne0 0 (neither c.args.index c.args.axis c.args.given.sides (under (goal.at.returns c).Else-voxel_count-index) _ c.beyond.ensures c.if-beyond.false)
+    follows (goal.at.returns c).In_ok-finished_refusal 0 (neither c.args.index c.args.axis c.args.given.sides (under (goal.at.returns c).Else-voxel_count-index) _ c.beyond.ensures c.if-beyond.false)

@@ -6,8 +6,8 @@ use Rattle.surface.proofs.point_between.Goals as goal
 
 pub returns : goal.returns
 returns c =
-    let inside : c.magnitude-p.result ≡ nat_abs c.args.inside = c.magnitude-p.ensures.0 ∙ ap nat_abs (to_z-of_z c.ranges.inside) in
-    let outside : c.magnitude-q.result ≡ nat_abs c.args.outside = c.magnitude-q.ensures.0 ∙ ap nat_abs (to_z-of_z c.ranges.outside) in
+    let inside : c.from-p.result ≡ nat_abs c.args.inside = c.from-p.ensures ∙ c.unsigned_abs.ensures.value ∙ ap nat_abs (to_z-of_z c.ranges.inside) in
+    let outside : c.from-q.result ≡ nat_abs c.args.outside = c.from-q.ensures ∙ c.unsigned_abs-2.ensures.value ∙ ap nat_abs (to_z-of_z c.ranges.outside) in
     let e = c.coordinates_of-v.ensures.0 in
     let g = c.point_from.ensures in
     cc

@@ -1,6 +1,6 @@
 -- `surface_case::main` meets its contract: each point follows from the rule by computation.
 use mathlib.Core.Path.{ap, ◌∙◌}
-use mathlib.Core.Option.{Option}
+use Rattle.std.specs.Prelude.{Option}
 use Prim.Native.Nat.{ℕ}
 use lib.Ieee.{Float, binary64, of_bits, eq}
 use Rattle.rules.specs.Answer.{Outcome, Buffers}

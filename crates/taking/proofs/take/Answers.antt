@@ -1,4 +1,4 @@
--- `taking::take` meets its contract: refused by the number, or done where it is 0.
+-- `taking::take` meets its contract: refused by the number, or done where there is none.
 use mathlib.Core.Path.{refl}
 use mathlib.Core.List.{List}
 use Rattle.rules.specs.Marks.{marked}
@@ -6,7 +6,7 @@ use Rattle.rules.specs.Machine.{State, state, lent_to, may_go, take_checks, take
 use Rattle.rules.specs.Machine as machine
 use Rattle.rules.specs.Answer.{Outcome, untouched, Buffers, Removal}
 use Rattle.rules.specs.Checks.{Check}
-use Rattle.rules.proofs.Checks.{held_none, call-refused, call-done}
+use Rattle.rules.proofs.Refusals.{passed, call-refused-by, call-passed}
 use Rattle.rules.proofs.Fit.{takeable}
 use Rattle.taking.proofs.take.Goals as goal
 use Rattle.taking.proofs.take.Goals.{Start}
@@ -21,16 +21,19 @@ worked c = taken (may_go (marked c.args.marks.now) (lent-to c).dist) c.args.inde
 abbrev checks : Start → List Check
 checks c = take_checks c.args.marks.now c.args.index (lent-to c)
 
-pub returns-then-n-ne0 : goal.returns-then-n-ne0
+pub returns-in-Err : goal.returns-in-Err
 unfolding machine.take
-returns-then-n-ne0 c =
-    call-refused (untouched (lent_to (lent-to (goal.at.returns-then-n-ne0 c).Start))) (worked (goal.at.returns-then-n-ne0 c).Start) (checks (goal.at.returns-then-n-ne0 c).Start) _ c.take_refusal-n.ensures c.if-n-ne0.true
+returns-in-Err c =
+    let s = (goal.at.returns-in-Err c).Start in
+    rw c.from.ensures (call-refused-by (untouched (lent_to (lent-to s))) (worked s) (checks s) _ c.in-Err.ensures)
 
 pub take_fit-requires : goal.take_fit-requires
 take_fit-requires c =
-    takeable (lent-to (goal.at.take_fit-requires c).Start) c.args.marks.now c.args.index (held_none (checks (goal.at.take_fit-requires c).Start) _ c.take_refusal-n.ensures refl c.if-n-ne0.false)
+    let s = (goal.at.take_fit-requires c).Start in
+    takeable (lent-to s) c.args.marks.now c.args.index (passed (checks s) refl c.in-Ok.ensures)
 
-pub returns : goal.returns
+pub returns-in-Ok : goal.returns-in-Ok
 unfolding machine.take
-returns c =
-    call-done (untouched (lent_to (lent-to (goal.at.returns c).Start))) (worked (goal.at.returns c).Start) (checks (goal.at.returns c).Start) _ c.take_refusal-n.ensures refl c.if-n-ne0.false _ c.take_fit.ensures
+returns-in-Ok c =
+    let s = (goal.at.returns-in-Ok c).Start in
+    call-passed (untouched (lent_to (lent-to s))) (worked s) (checks s) refl c.in-Ok.ensures _ c.take_fit.ensures

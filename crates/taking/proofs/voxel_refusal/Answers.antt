@@ -17,7 +17,7 @@ use Rattle.waking.proofs.Fitting.{kept-removable}
 use mathlib.Core.Path.{ap}
 use mathlib.Core.Bool.{not}
 use Rattle.taking.proofs.voxel_refusal.Goals as goal
-use Rattle.taking.proofs.voxel_refusal.Goals.{Else-d-lt0, Else-not-is_kept, Else-status-index}
+use Rattle.taking.proofs.voxel_refusal.Goals.{Else-dist-index-lt0, Else-not-is_kept, Else-status-index}
 
 pub returns-then-status-index : goal.returns-then-status-index
 unfolding first_failing
@@ -43,25 +43,25 @@ kept : (c : Else-not-is_kept) → let a = c.args in is_kept a.status.now a.index
 unfolding is_kept
 kept c = sym c.is_kept.ensures ∙ c.if-not-is_kept.false
 
-pub returns-then-d-lt0 : goal.returns-then-d-lt0
+pub returns-then-dist-index-lt0 : goal.returns-then-dist-index-lt0
 unfolding first_failing is_inside
-returns-then-d-lt0 c =
-    let at = goal.at.returns-then-d-lt0 c in
+returns-then-dist-index-lt0 c =
+    let at = goal.at.returns-then-dist-index-lt0 c in
     let d-fits : SFits w32 (distance_at c.args.dist.now c.args.index) = search rules in
-    simp (within at.Else-status-index, kept at.Else-not-is_kept, sym (held-negative d-fits) ∙ c.if-d-lt0.true)
+    simp (within at.Else-status-index, kept at.Else-not-is_kept, sym (held-negative d-fits) ∙ c.if-dist-index-lt0.true)
 
 -- where the voxel may go, by its distance and its mark
-outer : (c : Else-d-lt0) → let a = c.args in is_inside a.dist.now a.index ≡ false
+outer : (c : Else-dist-index-lt0) → let a = c.args in is_inside a.dist.now a.index ≡ false
 unfolding is_inside
 outer c =
     let d-fits : SFits w32 (distance_at c.args.dist.now c.args.index) = search rules in
-    sym (held-negative d-fits) ∙ c.if-d-lt0.false
+    sym (held-negative d-fits) ∙ c.if-dist-index-lt0.false
 
 pub returns-then-pinned : goal.returns-then-pinned
 unfolding first_failing
 returns-then-pinned c =
     let at = goal.at.returns-then-pinned c in
-    simp (within at.Else-status-index, kept at.Else-not-is_kept, outer at.Else-d-lt0, ← c.pinned.ensures, c.if-pinned.true)
+    simp (within at.Else-status-index, kept at.Else-not-is_kept, outer at.Else-dist-index-lt0, ← c.pinned.ensures, c.if-pinned.true)
 
 pub passes_at-requires : goal.passes_at-requires
 passes_at-requires c =
@@ -74,10 +74,10 @@ pub returns-then-not-passes_at : goal.returns-then-not-passes_at
 unfolding first_failing
 returns-then-not-passes_at c =
     let at = goal.at.returns-then-not-passes_at c in
-    simp (within at.Else-status-index, kept at.Else-not-is_kept, outer at.Else-d-lt0, ← c.pinned.ensures, c.if-pinned.false, ← c.passes_at.ensures, (ap not c.if-not-passes_at.true))
+    simp (within at.Else-status-index, kept at.Else-not-is_kept, outer at.Else-dist-index-lt0, ← c.pinned.ensures, c.if-pinned.false, ← c.passes_at.ensures, (ap not c.if-not-passes_at.true))
 
 pub returns : goal.returns
 unfolding first_failing
 returns c =
     let at = goal.at.returns c in
-    simp (within at.Else-status-index, kept at.Else-not-is_kept, outer at.Else-d-lt0, ← c.pinned.ensures, c.if-pinned.false, ← c.passes_at.ensures, (ap not c.if-not-passes_at.false))
+    simp (within at.Else-status-index, kept at.Else-not-is_kept, outer at.Else-dist-index-lt0, ← c.pinned.ensures, c.if-pinned.false, ← c.passes_at.ensures, (ap not c.if-not-passes_at.false))

@@ -1,7 +1,6 @@
 -- `tallies::step` meets its contract.
 use mathlib.Core.Path.{◌≡◌, ap, sym, ◌∙◌, subst}
 use native.Mathlib.Omega.{arith}
-use borrow.Author.Rules.{rules}
 use borrow.Author.Tests.{eqb-true}
 use Prim.Native.Nat.{ℕ, ◌%◌}
 use Rattle.rules.specs.Status.{kept_byte, is_kept, status_of}

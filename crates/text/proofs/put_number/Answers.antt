@@ -1,8 +1,6 @@
 -- `text::put_number` meets its contract.
 use borrow.Author.Rules.{rules}
-use lib.ListN.{drop}
-use Rattle.text.specs.Line.{number}
-use Rattle.text.proofs.Digits.{Digits, digits-start, digits-next, digits-done}
+use Rattle.text.proofs.Digits.{digits-start, digits-next, digits-done}
 use Rattle.text.proofs.put_number.Goals as goal
 
 pub loop-rest-init : goal.loop-rest-init

@@ -1,8 +1,7 @@
 -- `text::put_number` meets its contract.
-use borrow.Author.Rules.{rules}
 use lib.ListN.{drop}
 use Rattle.text.specs.Line.{number}
-use Rattle.text.proofs.Digits.{Digits, digits-start, digits-next, digits-done}
+use Rattle.text.proofs.Digits.{Digits}
 use Rattle.text.proofs.put_number.Given as goal
 
 abbrev pub invariant-loop-rest : goal.invariant-loop-rest

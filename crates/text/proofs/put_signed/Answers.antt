@@ -9,10 +9,10 @@ use Rattle.text.proofs.put_signed.Goals as goal
 
 pub returns-then-n-lt0 : goal.returns-then-n-lt0
 returns-then-n-lt0 c =
-    signed-negative c.args.n _ _ _ _ _ (c.magnitude.ensures.0 ∙ ap nat_abs (to_z-of_z c.ranges.n)) c.put_number-start.ensures _ _ (search rules)
+    signed-negative c.args.n _ _ _ _ _ (c.from.ensures ∙ c.unsigned_abs.ensures.value ∙ ap nat_abs (to_z-of_z c.ranges.n)) c.put_number-start.ensures _ _ (search rules)
     (sym (held-negative c.ranges.n) ∙ c.if-n-lt0.true) c.put.ensures
 
 pub returns-else-n-lt0 : goal.returns-else-n-lt0
 returns-else-n-lt0 c =
-    signed-positive c.args.n _ _ _ _ _ (c.magnitude.ensures.0 ∙ ap nat_abs (to_z-of_z c.ranges.n)) c.put_number-start.ensures
+    signed-positive c.args.n _ _ _ _ _ (c.from.ensures ∙ c.unsigned_abs.ensures.value ∙ ap nat_abs (to_z-of_z c.ranges.n)) c.put_number-start.ensures
     (sym (held-negative c.ranges.n) ∙ c.if-n-lt0.false)

@@ -2,7 +2,6 @@
 use mathlib.Core.Path.{sym, subst}
 use mathlib.Core.List.{List, [], ◌∷◌}
 use Prim.Native.Nat.{ℕ}
-use borrow.Author.Rules.{rules}
 use Rattle.touched_cells.specs.Block.{Unpacked}
 use Rattle.touched_cells.proofs.Blocks.{unpacked}
 use Rattle.touched_cells.proofs.block_of.Goals as goal

@@ -1,6 +1,5 @@
 -- `touched_cells::code_of` meets its contract: the layers side by side.
 use lib.Dec.{lit≤}
-use borrow.Author.Rules.{rules}
 use Rattle.bits.specs.Bits.{bits}
 use Rattle.bits.proofs.Bits.{three}
 use Rattle.touched_cells.specs.Block.{layer_bit, block_bit}

@@ -2,7 +2,6 @@
 use mathlib.Core.Path.{◌≡◌, ◌∙◌}
 use Prim.Native.Nat.{ℕ, ◌<◌}
 use lib.Dec.{lit≤}
-use borrow.Author.Rules.{rules}
 use Rattle.bits.specs.Bits.{has, bits}
 use Rattle.bits.proofs.Bits.{three, bits-has}
 use Rattle.touched_cells.specs.Block.{layer_bit}
@@ -14,5 +13,5 @@ row {r} {x} e h = e ∙ bits-has 6 x h
 pub returns : goal.returns
 unfolding bits layer_bit
 returns c =
-    three 64 6 (layer_bit c.args.layer) (lit≤ tt) (row c.wide.ensures (c.requires 0)) (row c.wide-2.ensures (c.requires 1))
-    (row c.wide-3.ensures (c.requires 2))
+    three 64 6 (layer_bit c.args.layer) (lit≤ tt) (row c.from.ensures (c.requires 0)) (row c.from-2.ensures (c.requires 1))
+    (row c.from-3.ensures (c.requires 2))

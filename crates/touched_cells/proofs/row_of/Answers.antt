@@ -1,5 +1,4 @@
 -- `touched_cells::row_of` meets its contract: the low six bits.
-use Prim.Native.Nat.{◌<◌}
 use native.Mathlib.Omega.{arith}
 use lib.Bits.{and_le_r}
 use lib.Dec.{lit<}

@@ -1,6 +1,5 @@
 -- `touched_cells::touched` meets its contract: what the kept voxels of its code touch.
 use mathlib.Core.Path.{◌∙◌}
-use borrow.Author.Rules.{rules}
 use Rattle.touched_cells.proofs.Blocks.{touched-in-code}
 use Rattle.touched_cells.proofs.touched.Goals as goal
 

@@ -15,7 +15,10 @@ use Rattle.judging.specs.Judge.{entry_length, entry_at, allows}
 use Rattle.tallies.specs.Counts.{body_of}
 use Rattle.turns.proofs.Allowing.{goes-found}
 use Rattle.turns.proofs.entry_refusal.Goals as goal
-use Rattle.turns.proofs.entry_refusal.Goals.{After-allows, After-index_of-i, After-is_tagged, Else-is_short, Else-not-is_tagged-opens, Else-status-i}
+use Rattle.turns.proofs.entry_refusal.Goals.{After-allows, After-index_of-i, Else-is_short, Joined-else-not-opens, Else-status-i}
+use Rattle.turns.proofs.entry_refusal.Goals.{else-not-opens-via-then-not-opens+else-not-is_tagged, else-not-opens-via-else-not-opens}
+use mathlib.Core.Logic.{inl, inr}
+use Rattle.prelude.proofs.Bools.{true-or}
 
 -- 21
 enough : (c : Else-is_short) → let a = c.args in ltb (length a.list.now) (entry_length * a.t.removed + entry_length) ≡ false
@@ -25,14 +28,13 @@ whole : (c : Else-is_short) → let a = c.args in entry_length * a.t.removed + e
 whole c = ltb-false _ _ (enough c)
 
 -- 22
-mark : (c : After-is_tagged) (t : Bool) → (c.is_tagged.result || c.is_tagged-opens.result) ≡ t
-    → let a = c.args in
-    (tagged 0x52 a.list.now (entry_length * a.t.removed) || tagged 0x4F a.list.now (entry_length * a.t.removed)) ≡ t
-mark c t e = sym (ap₂ ◌||◌ c.is_tagged.ensures c.is_tagged-opens.ensures) ∙ e
-
-right : (c : Else-not-is_tagged-opens) → let a = c.args in
+right : (c : Joined-else-not-opens) → let a = c.args in
     (tagged 0x52 a.list.now (entry_length * a.t.removed) || tagged 0x4F a.list.now (entry_length * a.t.removed)) ≡ true
-right c = mark (goal.at.index_of-i-requires c).After-is_tagged true c.if-not-is_tagged-opens.false
+right c =
+    elim c.else-not-opens.branch [
+      | else-not-opens-via-then-not-opens+else-not-is_tagged w ↦ true-or _ _ (inl (sym w.is_tagged.ensures ∙ w.if-not-is_tagged.false))
+      | else-not-opens-via-else-not-opens w ↦ true-or _ _ (inr (sym c.is_tagged-opens.ensures ∙ w.if-not-opens.false))
+    ]
 
 pub overflow_mul-start : goal.overflow_mul-start
 overflow_mul-start c = let l = c.requires.listed.whole in search rules
@@ -47,9 +49,14 @@ is_tagged-opens-requires c = omega (arith, whole c)
 pub is_tagged-requires : goal.is_tagged-requires
 is_tagged-requires c = omega (arith, whole (goal.at.is_tagged-requires c).Else-is_short)
 
-pub returns-then-not-is_tagged-opens : goal.returns-then-not-is_tagged-opens
+pub returns-then-not-is_tagged : goal.returns-then-not-is_tagged
 unfolding first_failing
-returns-then-not-is_tagged-opens c = simp (enough (goal.at.returns-then-not-is_tagged-opens c).Else-is_short, mark (goal.at.returns-then-not-is_tagged-opens c).After-is_tagged false c.if-not-is_tagged-opens.true)
+returns-then-not-is_tagged c =
+    simp (
+      enough (goal.at.returns-then-not-is_tagged c).Else-is_short,
+      sym c.is_tagged.ensures ∙ c.if-not-is_tagged.true,
+      sym c.is_tagged-opens.ensures ∙ c.if-not-opens.true,
+    )
 
 pub index_of-i-requires : goal.index_of-i-requires
 index_of-i-requires c = whole (goal.at.index_of-i-requires c).Else-is_short
@@ -64,7 +71,7 @@ within c = index (goal.at.allows-requires c).After-index_of-i false (lt-leb _ _ 
 
 pub returns-then-status-i : goal.returns-then-status-i
 unfolding first_failing
-returns-then-status-i c = simp (enough (goal.at.returns-then-status-i c).Else-is_short, right (goal.at.returns-then-status-i c).Else-not-is_tagged-opens, index (goal.at.returns-then-status-i c).After-index_of-i true (le-leb _ _ c.if-status-i.true))
+returns-then-status-i c = simp (enough (goal.at.returns-then-status-i c).Else-is_short, right (goal.at.returns-then-status-i c).Joined-else-not-opens, index (goal.at.returns-then-status-i c).After-index_of-i true (le-leb _ _ c.if-status-i.true))
 
 pub allows-requires : goal.allows-requires
 allows-requires c = (c.requires, omega (arith, c.if-status-i.false, c.requires.held.body.statuses.lent))
@@ -79,9 +86,9 @@ goes c t e =
 pub returns-then-not-allows : goal.returns-then-not-allows
 unfolding first_failing
 returns-then-not-allows c =
-    simp (enough (goal.at.returns-then-not-allows c).Else-is_short, right (goal.at.returns-then-not-allows c).Else-not-is_tagged-opens, within (goal.at.returns-then-not-allows c).Else-status-i, goes (goal.at.returns-then-not-allows c).After-allows false c.if-not-allows.true)
+    simp (enough (goal.at.returns-then-not-allows c).Else-is_short, right (goal.at.returns-then-not-allows c).Joined-else-not-opens, within (goal.at.returns-then-not-allows c).Else-status-i, goes (goal.at.returns-then-not-allows c).After-allows false c.if-not-allows.true)
 
 pub returns : goal.returns
 unfolding first_failing
 returns c =
-    simp (enough (goal.at.returns c).Else-is_short, right (goal.at.returns c).Else-not-is_tagged-opens, within (goal.at.returns c).Else-status-i, goes (goal.at.returns c).After-allows true c.if-not-allows.false)
+    simp (enough (goal.at.returns c).Else-is_short, right (goal.at.returns c).Joined-else-not-opens, within (goal.at.returns c).Else-status-i, goes (goal.at.returns c).After-allows true c.if-not-allows.false)

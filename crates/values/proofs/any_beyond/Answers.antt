@@ -1,33 +1,19 @@
--- `any_beyond`: what is found before i, or stands from i on, is what stands in all.
-use Prim.Native.Nat.{◌-◌, ◌≤◌}
-use native.Mathlib.Omega.{arith}
-use mathlib.Core.Path.{◌≡◌, refl, ◌∙◌, ap}
-use mathlib.Core.Bool.{◌||◌}
-use borrow.Author.Rules.{rules, sfits_of}
+-- `any_beyond`: some value found, as a fold.
+use Rattle.std.proofs.Common.{◌≡◌, ◌∙◌, ◌||◌, ap, false, rules, to_z, of_z, w32}
+use mir.Val.{SFits}
 use mir.Facts.{to_z-of_z}
-use lib.ListN.{length, drop}
-use lib.IntN.{pos}
-use Rattle.prelude.specs.Lists.{any}
+use Rattle.std.proofs.lemmas.Iterator.{YieldsList-from_slice}
+use Rattle.std.proofs.lemmas.Iterator.Consumers.{fold_from_yields_List}
+use Rattle.loops.proofs.Spans.{fold-any}
 use Rattle.rules.specs.Value.{beyond}
-use Rattle.loops.proofs.Below.{look-next, look-done}
-use mir.Syntax.{w32}
 use Rattle.values.proofs.any_beyond.Goals as goal
-
-pub loop-i-init : goal.loop-i-init
-loop-i-init c = (omega arith, refl)
-
-pub loop-i-preserved : goal.loop-i-preserved
-loop-i-preserved c =
-    let a = c.args in
-    let i = c.loop-i.i in (
-      omega (arith, c.loop-i-test.true),
-      look-next (beyond a.bound) a.values.now i (pos 0) c.loop-i.found c.loop-i-test.true
-          (c.beyond-found.ensures ∙ ap (beyond a.bound) (to_z-of_z (sfits_of {w = w32} c.v-1.given)))
-          ∙ c.loop-i.invariant.1,
-    )
 
 pub returns : goal.returns
 returns c =
-    let l = c.loop-i in
     let a = c.args in
-    look-done (beyond a.bound) a.values.now l.i l.found c.loop-i-test.false ∙ l.invariant.1
+    fold_from_yields_List _ (λ found v. found || beyond a.bound v) false c.fold.result c.fold.ensures.ran (YieldsList-from_slice a.values.now cc)
+    (λ found x r q k.
+    let f : SFits w32 x.now = search rules in
+    let e : r ≡ (found || beyond a.bound (to_z w32 (of_z w32 x.now))) = search rules in
+    (search rules, e ∙ ap (λ v. found || beyond a.bound v) (to_z-of_z f)))
+    ∙ fold-any (beyond a.bound) false a.values.now

@@ -1,37 +1,48 @@
--- `any_long`: whether a size before i is long, or a value from i on, is whether one in all is.
-use Prim.Native.Nat.{◌+◌, ◌-◌, ◌≤◌}
-use native.Mathlib.Omega.{arith}
-use mathlib.Core.Path.{◌≡◌, refl, ◌∙◌, ap}
-use mathlib.Core.Bool.{Bool, ◌||◌}
-use borrow.Author.Rules.{rules, sfits_of}
+-- `any_long`: the sizes joined tell whether one is long.
+use Rattle.std.proofs.Common.{◌≡◌, ◌∙◌, ◌||◌, ap, ap₂, sym, refl, ℕ, ℤ, List, [], ◌∷◌, ◌++◌, not, ◌%◌, rules, bit_or, to_z, of_z, w32}
+use mathlib.Core.Logic.{⊎_elim}
+use borrow.Author.Tests.{ltb-true, ltb-false, lt-leb, le-leb}
+use lib.Dec.{leb, ltb}
+use lib.IntN.{nat_abs}
+use mir.Val.{SFits}
 use mir.Facts.{to_z-of_z}
-use lib.ListN.{length, drop}
-use lib.IntN.{pos, nat_abs}
+use Rattle.std.proofs.lemmas.Iterator.{YieldsList-from_slice}
+use Rattle.loops.proofs.Folds.{fold-keeps}
 use Rattle.prelude.specs.Lists.{any}
+use Rattle.prelude.proofs.Bools.{or-zero, two}
+use Rattle.prelude.proofs.Lists.{any_append}
 use Rattle.rules.specs.Value.{beyond}
-use Rattle.loops.proofs.Below.{look-next, look-done}
 use Rattle.values.proofs.Signs.{long, long-joined, long-size}
-use mir.Syntax.{w32}
 use Rattle.values.proofs.any_long.Goals as goal
 
-pub loop-i-init : goal.loop-i-init
-loop-i-init c = (omega arith, refl)
+abbrev Long : List ℤ → ℕ → Type 0
+Long vs all = long all ≡ any (beyond 32767) vs
 
-pub overflow_cast-all : goal.overflow_cast-all
-overflow_cast-all c = record { fits = omega (arith, c.magnitude.ensures.1) }
+none : Long [] 0
+unfolding any
+none = refl
 
-pub loop-i-preserved : goal.loop-i-preserved
-loop-i-preserved c =
-    let values = c.args.values.now in (
-      omega (arith, c.loop-i-test.true),
-      let fits = sfits_of {w = w32} c.v-1.given in
-          ap (λ (b : Bool). b || any (beyond 32767) (drop (c.loop-i.i + 1) values)) (long-joined c.loop-i.all c.magnitude.result)
-          ∙ look-next (beyond 32767) values c.loop-i.i (pos 0) (long c.loop-i.all) c.loop-i-test.true
-          (ap long (c.magnitude.ensures.0 ∙ ap nat_abs (to_z-of_z fits)) ∙ long-size _ fits)
-          ∙ c.loop-i.invariant.1,
-    )
+more : (vs : List ℤ) (v : ℤ) → any (beyond 32767) (vs ++ v ∷ []) ≡ any (beyond 32767) vs || beyond 32767 v
+unfolding any
+more vs v = any_append (beyond 32767) vs (v ∷ []) ∙ ap (λ t. any (beyond 32767) vs || t) (or-zero (beyond 32767 v))
+
+at-least : (k n : ℕ) → leb k n ≡ not (ltb n k)
+at-least k n =
+    ⊎_elim
+    (λ e. lt-leb k n (ltb-true n k e) ∙ sym (ap not e))
+    (λ e. le-leb k n (ltb-false n k e) ∙ sym (ap not e))
+    (two (ltb n k))
 
 pub returns : goal.returns
 returns c =
-    let l = c.loop-i in
-    look-done (beyond 32767) c.args.values.now l.i (long l.all) c.loop-i-test.false ∙ l.invariant.1
+    let h = fold-keeps _ Long 0 c.fold-all.result c.fold-all.ensures.ran (YieldsList-from_slice c.args.values.now cc) none
+    (λ vs all x r q J k.
+    let f : SFits w32 x.now = search rules in
+    let e : r ≡ bit_or all (nat_abs (to_z w32 (of_z w32 x.now))) = search rules in (
+      ap long e
+          ∙ long-joined all (nat_abs (to_z w32 (of_z w32 x.now)))
+          ∙ ap₂ ◌||◌ J (ap (λ (v : ℤ). long (nat_abs v)) (to_z-of_z f) ∙ long-size x.now f)
+          ∙ sym (more vs x.now),
+      search rules,
+    )) in
+    at-least 32768 (c.fold-all.result % 2147483648) ∙ h

@@ -1,5 +1,4 @@
 -- `beyond` is the rule's test.
-use borrow.Author.Rules.{rules}
 use Rattle.values.proofs.Signs.{beyond-test}
 use Rattle.values.proofs.beyond.Goals as goal
 

@@ -7,5 +7,5 @@ use Rattle.values.proofs.counted.Goals as goal
 pub returns-then-v-eqminus2147483648 : goal.returns-then-v-eqminus2147483648
 returns-then-v-eqminus2147483648 c = sym (counted-gap _ c.ranges.v c.if-v-eqminus2147483648.true)
 
-pub returns : goal.returns
-returns c = to_z-of_z c.ranges.v ∙ sym (counted-value _ c.ranges.v c.if-v-eqminus2147483648.false)
+pub returns-else-v-eqminus2147483648 : goal.returns-else-v-eqminus2147483648
+returns-else-v-eqminus2147483648 c = to_z-of_z c.ranges.v ∙ sym (counted-value _ c.ranges.v c.if-v-eqminus2147483648.false)

@@ -1,6 +1,5 @@
 -- `verdicts::end_refusal` meets its contract.
 use mathlib.Core.Path.{sym, ◌∙◌}
-use borrow.Author.Rules.{rules}
 use Rattle.rules.specs.Checks.{first_failing}
 use Rattle.verdicts.proofs.end_refusal.Goals as goal
 

@@ -1,19 +1,11 @@
 -- `verdicts::walk` meets its contract: the voxels of the entries so far are gone, and those from there on decide.
-use mathlib.Core.Path.{refl}
-use Prim.Native.Nat.{◌-◌, ◌^◌, ◌<◌}
-use native.Mathlib.Omega.{arith}
+use Prim.Native.Nat.{◌-◌}
 use lib.ListN.{length}
-use mir.Syntax.{w32}
-use mir.Val.{SFits}
-use mir.Facts.{to_z-of_z}
-use borrow.Author.Rules.{rules}
-use Rattle.counting.proofs.Sums.{small-fits}
-use Rattle.tallies.proofs.Counts.{tally-more}
-use Rattle.verdicts.proofs.Walking.{Walking, walking_start, walking-refused, walking-step, walking-next, walking-end}
+use Rattle.verdicts.proofs.Walking.{Walking}
 use Rattle.verdicts.proofs.walk.Given as goal
 
-abbrev pub invariant-loop-t : goal.invariant-loop-t
-invariant-loop-t l = Walking l.s l.dist l.allowed l.list l.initial.status l.status l.t
+abbrev pub invariant-loop-tally : goal.invariant-loop-tally
+invariant-loop-tally l = Walking l.s l.dist l.allowed l.list l.initial.status l.status l.tally
 
-abbrev pub decreases-loop-t : goal.decreases-loop-t
-decreases-loop-t l = length l.list - l.t.removed
+abbrev pub decreases-loop-tally : goal.decreases-loop-tally
+decreases-loop-tally l = length l.list - l.tally.removed

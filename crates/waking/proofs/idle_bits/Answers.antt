@@ -1,7 +1,6 @@
 -- `waking::idle_bits` meets its contract.
 use mathlib.Core.Path.{ap, ◌∙◌}
 use Prim.Native.Nat.{ℕ}
-use borrow.Author.Rules.{rules}
 use Rattle.bits.specs.Bits.{bits}
 use Rattle.waking.specs.Waking.{idle_bit}
 use Rattle.waking.proofs.Idle.{idle-bits}

@@ -1,7 +1,7 @@
 -- `waking::may_go` meets its contract.
 use mathlib.Core.Path.{ap₂, sym, ◌∙◌}
 use mathlib.Core.Bool.{Bool, not, ◌||◌}
-use borrow.Author.Rules.{sfits_of, rules}
+use borrow.Author.Rules.{sfits_of}
 use Rattle.prelude.proofs.Signs.{held-negative}
 use Rattle.rules.specs.Grid.{distance_at}
 use Rattle.rules.specs.Marks.{marked}

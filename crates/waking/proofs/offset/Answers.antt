@@ -1,7 +1,6 @@
 -- `waking::offset` meets its contract.
 use Prim.Native.Nat.{◌≤◌}
 use native.Mathlib.Omega.{arith}
-use borrow.Author.Rules.{rules}
 use Rattle.neighbourhood.specs.Neighbourhood.{offset}
 use Rattle.neighbourhood.proofs.Interior.{offset-most}
 use Rattle.waking.proofs.offset.Goals as goal

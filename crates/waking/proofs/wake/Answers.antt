@@ -1,6 +1,6 @@
 -- `waking::wake` meets its contract: the loop wakes the voxels at the bits that it has dropped.
 use mathlib.Core.Path.{◌≡◌, refl, sym, ap, ◌∙◌}
-use Prim.Native.Nat.{ℕ, ◌+◌, ◌-◌, ◌/◌, ◌≤◌, ◌<◌}
+use Prim.Native.Nat.{ℕ, ◌+◌, ◌-◌, ◌<◌}
 use native.Mathlib.Omega.{arith}
 use borrow.Author.Rules.{rules}
 use lib.Dec.{lit<}
@@ -11,7 +11,7 @@ use Rattle.rules.specs.Machine.{may_go}
 use Rattle.bits.specs.Bits.{has}
 use Rattle.waking.specs.Waking.{from_voxel}
 use Rattle.waking.proofs.Idle.{has-beyond}
-use Rattle.waking.proofs.Waking.{lowest-position, position-below, Rousing, rousing-start, rousing-next, rousing-done}
+use Rattle.waking.proofs.Waking.{lowest-position, position-below, rousing-start, rousing-next, rousing-done}
 use Rattle.waking.proofs.wake.Goals as goal
 use Rattle.waking.proofs.wake.Goals.{After-offset}
 

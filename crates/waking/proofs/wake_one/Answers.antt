@@ -1,7 +1,7 @@
 -- `waking::wake_one` meets its contract.
 use mathlib.Core.Path.{ap₂, ◌∙◌}
 use mathlib.Core.Bool.{Bool}
-use borrow.Author.Rules.{sfits_of, rules}
+use borrow.Author.Rules.{sfits_of}
 use lib.IntN.{ℤ}
 use mir.Facts.{to_z-of_z}
 use Rattle.rules.specs.Marks.{marked}

@@ -1,7 +1,6 @@
 -- `waking::woken_status` meets its contract.
 use mathlib.Core.Bool.{Bool, cond, ◌||◌}
 use mathlib.Core.Path.{◌≡◌, sym, ap, ◌∙◌}
-use borrow.Author.Rules.{rules}
 use lib.IntN.{ℤ, pos}
 use lib.Signed.{lt_z}
 use mir.Syntax.{w32}
@@ -20,8 +19,8 @@ unfolding woken_if
 returns-then-d-pinned c =
     sym (ap (λ (t : Bool). cond t c.args.x (woken c.args.x)) (by-machine c.args.d c.args.pinned c.ranges.d ∙ c.if-d-pinned.true))
 
-pub returns : goal.returns
+pub returns-else-d-pinned : goal.returns-else-d-pinned
 unfolding woken_if
-returns c =
+returns-else-d-pinned c =
     c.woken.ensures
     ∙ sym (ap (λ (t : Bool). cond t c.args.x (woken c.args.x)) (by-machine c.args.d c.args.pinned c.ranges.d ∙ c.if-d-pinned.false))

@@ -1,7 +1,6 @@
 -- `watching::some_pass` meets its contract.
 use mathlib.Core.Path.{subst}
 use mathlib.Core.Bool.{Bool}
-use borrow.Author.Rules.{rules}
 use Rattle.watching.specs.Watching.{Since}
 use Rattle.watching.proofs.some_pass.Goals as goal
 

@@ -1,7 +1,5 @@
 -- `lift` meets its contract: the way up, to the root or to a node that is great enough.
-use borrow.Author.Rules.{rules}
-use native.Mathlib.Omega.{arith}
-use Rattle.winners.proofs.Nodes.{Lifting, lifting-start, lifting-step, lifting-stop, lifting-done}
+use Rattle.winners.proofs.Nodes.{Lifting}
 use Rattle.winners.proofs.lift.Given as goal
 
 abbrev pub invariant-loop-i : goal.invariant-loop-i

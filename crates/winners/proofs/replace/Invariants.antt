@@ -1,9 +1,5 @@
 -- `replace` meets its contract: the ways up of `Nodes`.
-use mathlib.Core.Path.{◌∙◌}
-use borrow.Author.Rules.{rules}
-use native.Mathlib.Omega.{arith}
-use lib.ListN.{length-set}
-use Rattle.winners.proofs.Nodes.{Rising, rising-start, rising_step, rising-done}
+use Rattle.winners.proofs.Nodes.{Rising}
 use Rattle.winners.proofs.replace.Given as goal
 
 abbrev pub invariant-loop-i : goal.invariant-loop-i

@@ -1,16 +1,15 @@
 -- `words::is_short` meets its contract.
-use mathlib.Core.Path.{◌≡◌, sym}
+use mathlib.Core.Path.{◌≡◌, sym, ◌∙◌}
 use native.Mathlib.Omega.{arith}
 use Prim.Native.Nat.{ℕ, ◌+◌, ◌-◌, ◌≤◌, ◌<◌}
-use mathlib.Core.Bool.{true}
 use lib.Dec.{ltb}
 use borrow.Author.Tests.{lt-ltb, ltb-true}
 use Rattle.prelude.proofs.Bools.{both_ways}
 use Rattle.words.proofs.is_short.Goals as goal
 
 module _ (len start needed : ℕ) where
-  beyond : len < start → true ≡ ltb len (start + needed)
-  beyond h = let k : len < start + needed = omega arith in sym (lt-ltb len (start + needed) k)
+  beyond : len < start → ltb len start ≡ ltb len (start + needed)
+  beyond h = let k : len < start + needed = omega arith in lt-ltb len start h ∙ sym (lt-ltb len (start + needed) k)
 
   left : start ≤ len → ltb (len - start) needed ≡ ltb len (start + needed)
   left h =
@@ -21,5 +20,5 @@ module _ (len start needed : ℕ) where
 pub returns-then-len-start : goal.returns-then-len-start
 returns-then-len-start c = beyond _ _ _ c.if-len-start.true
 
-pub returns : goal.returns
-returns c = left _ _ _ c.if-len-start.false
+pub returns-else-len-start : goal.returns-else-len-start
+returns-else-len-start c = left _ _ _ c.if-len-start.false

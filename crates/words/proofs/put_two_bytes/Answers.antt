@@ -3,7 +3,6 @@ use mathlib.Core.Path.{ap₂}
 use Prim.Native.Nat.{◌%◌}
 use native.Mathlib.Omega.{arith}
 use lib.ListN.{set, length-set}
-use borrow.Author.Rules.{rules}
 use Rattle.words.proofs.put_two_bytes.Goals as goal
 
 pub bounds-bytes-at-2 : goal.bounds-bytes-at-2

@@ -5,7 +5,7 @@ use lib.IntN.{pos, ◌-ℤ◌}
 use mir.Syntax.{w32}
 use mir.Val.{SFits, to_z, of_z}
 use mir.Facts.{to_z-of_z}
-use borrow.Author.Rules.{rules, sfits_of}
+use borrow.Author.Rules.{sfits_of}
 use Rattle.words.proofs.Turning.{turned-small, turned-over, short-fits, fallen, fallen-is, fallen-fits}
 use Rattle.words.proofs.short_value.Goals as goal
 use Rattle.words.proofs.short_value.Goals.{After-fall}

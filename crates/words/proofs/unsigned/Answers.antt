@@ -1,6 +1,5 @@
 -- `words::unsigned` meets its contract.
 use native.Mathlib.Omega.{arith}
-use borrow.Author.Rules.{rules}
 use Rattle.prelude.proofs.Signs.{small, as-it-is, turned}
 use Rattle.words.proofs.Turning.{stands, stands-turned}
 use Rattle.words.proofs.unsigned.Goals as goal

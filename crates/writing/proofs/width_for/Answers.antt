@@ -1,8 +1,6 @@
 -- `writing::width_for` meets its contract.
-use mathlib.Core.Path.{◌≡◌, refl, ap}
-use mathlib.Core.Logic.{inl, inr}
+use mathlib.Core.Path.{◌≡◌, ap}
 use mathlib.Core.Bool.{Bool, cond}
-use borrow.Author.Rules.{rules}
 use Rattle.format.specs.Written.{width_for}
 use Rattle.writing.proofs.width_for.Goals as goal
 use Rattle.writing.proofs.width_for.Goals.{After-any_long}
@@ -13,7 +11,7 @@ unfolding width_for
 width_is c = ap (λ (t : Bool). cond t 4 2) c.any_long.ensures
 
 pub returns-then-any_long : goal.returns-then-any_long
-returns-then-any_long c = (rw c.if-any_long.true at (width_is (goal.at.returns-then-any_long c).After-any_long), inr refl)
+returns-then-any_long c = rw c.if-any_long.true at (width_is (goal.at.returns-then-any_long c).After-any_long)
 
-pub returns : goal.returns
-returns c = (rw c.if-any_long.false at (width_is (goal.at.returns c).After-any_long), inl refl)
+pub returns-else-any_long : goal.returns-else-any_long
+returns-else-any_long c = rw c.if-any_long.false at (width_is (goal.at.returns-else-any_long c).After-any_long)

@@ -2,7 +2,6 @@
 use mathlib.Core.Path.{ap}
 use Prim.Native.Nat.{ℕ, ◌+◌, ◌*◌, ◌≤◌}
 use native.Mathlib.Omega.{arith}
-use borrow.Author.Rules.{rules}
 use Rattle.format.specs.File.{header_length}
 use Rattle.writing.proofs.Layers.{records-end}
 use Rattle.writing.proofs.written_length.Goals as goal
@@ -11,7 +10,7 @@ use Rattle.writing.proofs.written_length.Goals.{After-struct_known-1}
 small : (c : After-struct_known-1) → header_length + c.args.sides.c * c.layer_length.result ≤ 1048775
 small c =
     let s = c.args.sides in
-    records-end s s.c c.layer_length.result c.requires.0 (omega arith) c.layer_length.ensures.1
+    records-end s s.c c.layer_length.result c.requires (omega arith) c.layer_length.ensures.1
 
 pub overflow_mul-result : goal.overflow_mul-result
 overflow_mul-result c = omega (arith, small c)

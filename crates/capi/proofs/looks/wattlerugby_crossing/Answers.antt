@@ -9,8 +9,8 @@ pub returns : goal.returns
 returns c =
     let a = c.args in
     record {
-      answer = rw (c.crossing_answer.ensures, ← c.record_in-r.ensures, ← c.crossing.ensures.status_value);
+      answer = rw (c.from.ensures, ← c.from-r.ensures, ← c.crossing.ensures.status_value);
       near = λ o e.
-          subst (λ (x : Record). BoundedAt x.sides a.dist.now a.index a.axis o) c.record_in-r.ensures
-          (c.crossing.ensures.bounded_at o (rw (← c.record_in-r.ensures, ← c.crossing.ensures.status_value) at e));
+          subst (λ (x : Record). BoundedAt x.sides a.dist.now a.index a.axis o) c.from-r.ensures
+          (c.crossing.ensures.bounded_at o (rw (← c.from-r.ensures, ← c.crossing.ensures.status_value) at e));
     }

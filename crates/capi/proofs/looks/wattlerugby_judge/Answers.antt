@@ -4,4 +4,4 @@ use Rattle.capi.proofs.looks.wattlerugby_judge.Goals as goal
 
 pub returns : goal.returns
 returns c =
-    rw (c.judge_answer.ensures, ← c.record_in-r.ensures, ← c.judge.ensures)
+    rw (c.from.ensures, ← c.from-r.ensures, ← c.judge.ensures)

@@ -4,4 +4,4 @@ use Rattle.capi.proofs.looks.wattlerugby_points.Goals as goal
 
 pub returns : goal.returns
 returns c =
-    rw (c.points_answer.ensures, ← c.record_in-r.ensures, ← c.points.ensures)
+    rw (c.from.ensures, ← c.from-r.ensures, ← c.points.ensures)

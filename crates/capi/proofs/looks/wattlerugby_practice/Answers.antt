@@ -3,4 +3,4 @@ use borrow.Author.Rules.{rules}
 use Rattle.capi.proofs.looks.wattlerugby_practice.Goals as goal
 
 pub returns : goal.returns
-returns c = rw (c.practice_answer.ensures, ← c.practice.ensures)
+returns c = rw (c.from.ensures, ← c.practice.ensures)

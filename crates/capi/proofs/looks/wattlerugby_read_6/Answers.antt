@@ -3,4 +3,4 @@ use borrow.Author.Rules.{rules}
 use Rattle.capi.proofs.looks.wattlerugby_read_6.Goals as goal
 
 pub returns : goal.returns
-returns c = rw (c.read_answer.ensures, ← c.read.ensures)
+returns c = rw (c.from.ensures, ← c.read.ensures)

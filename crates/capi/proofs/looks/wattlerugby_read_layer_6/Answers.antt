@@ -3,4 +3,4 @@ use borrow.Author.Rules.{rules}
 use Rattle.capi.proofs.looks.wattlerugby_read_layer_6.Goals as goal
 
 pub returns : goal.returns
-returns c = rw (c.layer_answer.ensures, c.layer.ensures)
+returns c = rw (c.from.ensures, c.layer.ensures)

@@ -3,4 +3,4 @@ use borrow.Author.Rules.{rules}
 use Rattle.capi.proofs.looks.wattlerugby_write_6.Goals as goal
 
 pub returns : goal.returns
-returns c = rw (c.write_answer.ensures, ← c.write.ensures)
+returns c = rw (c.from.ensures, ← c.write.ensures)

@@ -3,4 +3,4 @@ use borrow.Author.Rules.{rules}
 use Rattle.capi.proofs.machine.wattlerugby_begin_8.Goals as goal
 
 pub returns : goal.returns
-returns c = rw (c.begin_answer.ensures, ← c.begin.ensures)
+returns c = rw (c.from.ensures, ← c.begin.ensures)

@@ -3,4 +3,4 @@ use borrow.Author.Rules.{rules}
 use Rattle.capi.proofs.machine.wattlerugby_begin_coarse.Goals as goal
 
 pub returns : goal.returns
-returns c = rw (c.begin_coarse_answer.ensures, ← c.begin_coarse.ensures)
+returns c = rw (c.from.ensures, ← c.begin_coarse.ensures)

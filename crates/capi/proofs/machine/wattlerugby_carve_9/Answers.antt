@@ -4,4 +4,4 @@ use Rattle.capi.proofs.machine.wattlerugby_carve_9.Goals as goal
 
 pub returns : goal.returns
 returns c =
-    rw (c.carve_answer.ensures, ← c.record_in-r.ensures, ← c.carve.ensures)
+    rw (c.carve_answer.ensures, ← c.from-r.ensures, ← c.carve.ensures)

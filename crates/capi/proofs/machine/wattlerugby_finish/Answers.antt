@@ -4,4 +4,4 @@ use Rattle.capi.proofs.machine.wattlerugby_finish.Goals as goal
 
 pub returns : goal.returns
 returns c =
-    rw (c.finish_answer.ensures, ← c.record_in-r.ensures, ← c.finish.ensures)
+    rw (c.finish_answer.ensures, ← c.from-r.ensures, ← c.finish.ensures)

@@ -4,4 +4,4 @@ use Rattle.capi.proofs.machine.wattlerugby_open_9.Goals as goal
 
 pub returns : goal.returns
 returns c =
-    rw (c.open_answer.ensures, ← c.record_in-r.ensures, ← c.open_next.ensures)
+    rw (c.open_answer.ensures, ← c.from-r.ensures, ← c.open_next.ensures)

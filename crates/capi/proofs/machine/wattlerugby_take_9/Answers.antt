@@ -4,4 +4,4 @@ use Rattle.capi.proofs.machine.wattlerugby_take_9.Goals as goal
 
 pub returns : goal.returns
 returns c =
-    rw (c.take_answer.ensures, ← c.record_in-r.ensures, ← c.take.ensures)
+    rw (c.take_answer.ensures, ← c.from-r.ensures, ← c.take.ensures)

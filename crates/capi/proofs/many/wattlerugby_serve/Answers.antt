@@ -7,7 +7,8 @@ use borrow.Author.Rules.{rules}
 use Rattle.rules.specs.Answer.{Outcome}
 use Rattle.office.specs.declared.Grids.{Grids}
 use Rattle.office.specs.declared.Order.{Order}
-use Rattle.office.specs.Serve.{Serving, serve}
+use Rattle.office.specs.declared.Serving.{Serving}
+use Rattle.office.specs.Serve.{serve}
 use Rattle.office.specs.Structs.{Kept, as_struct, office_given}
 use Rattle.office_replies.specs.Serving.{kept_out, served_out}
 use Rattle.capi.proofs.many.wattlerugby_serve.Goals as goal

@@ -1,9 +1,0 @@
--- `chosen` by the test.
-use borrow.Author.Tests.{eq-eqb, ne_eqb}
-use Rattle.bounding_box.proofs.chosen.Goals as goal
-
-pub returns-then-d-eq0 : goal.returns-then-d-eq0
-returns-then-d-eq0 c = rw (eq-eqb _ _ c.if-d-eq0.true)
-
-pub returns : goal.returns
-returns c = rw (ne_eqb _ _ c.if-d-eq0.false)

@@ -1,9 +1,0 @@
--- `serving::placed` meets its contract, case by case.
-use borrow.Author.Rules.{rules}
-use Rattle.serving.proofs.placed.Goals as goal
-
-pub returns-in-Done : goal.returns-in-Done
-returns-in-Done c = rw c.in-Done.is
-
-pub returns-in-Refused : goal.returns-in-Refused
-returns-in-Refused c = rw c.in-Refused.is
