@@ -53,7 +53,11 @@ pub fn edge_negative(sides: Sides, values: &[i32], width: usize) -> bool
     requires { Sized sides (length values.now) × (2 * width ≤ sides.a) }
     ensures { result ≡ any (edge_negative sides width values.now) (range 0 (size sides)) }
 {
-    (0..sides.b * sides.c).any(|row| edge_row(sides, values, width, row))
+    let mut found = false;
+    for row in 0..sides.b * sides.c {
+        found |= edge_row(sides, values, width, row);
+    }
+    found
 }
 
 // The first of these checks that fails.

@@ -32,7 +32,11 @@ fn opens(label: &[u8], base: usize, offsets: &[usize]) -> bool
     requires { (k : ℕ) → k < length offsets.now → base + get_or offsets.now k 0 < length label.now }
     ensures { result ≡ opens_of offsets.now base label.now }
 {
-    offsets.iter().any(|o| label[base + *o] == 3)
+    let mut found = false;
+    for o in offsets {
+        found |= label[base + *o] == 3;
+    }
+    found
 }
 
 // Floods from voxel i, if its gap is open beside it.

@@ -20,9 +20,11 @@ pub fn any_beyond(values: &[i32], bound: u32) -> bool
     requires { bound < 2147483648 }
     ensures { result ≡ any (beyond_of bound) values.now }
 {
-    values
-        .iter()
-        .fold(false, |found, &v| found | beyond(v, bound))
+    let mut found = false;
+    for &v in values {
+        found |= beyond(v, bound);
+    }
+    found
 }
 
 // Whether some value is measured and not from -32,767 to 32,767: it then has one of the bits from 15 to 30 in its size, as no other has. The missing

@@ -1,31 +1,27 @@
--- `opens`: what `any` finds is what the definition finds.
-use Rattle.std.proofs.Common.{◌≡◌, ℕ, ◌+◌, ◌<◌, get_or, length, refl, rules, tests, arith, ◌∙◌, ap, Bool, ◌||◌, List, [], ◌∷◌}
-use lib.Dec.{eqb}
-use Rattle.std.proofs.lemmas.Iterator.{YieldsList-from_slice}
-use Rattle.std.proofs.lemmas.Iterator.Adapters.{serves_from_places}
-use Rattle.std.proofs.lemmas.Iterator.Search.{any_from_yields_List}
-use Rattle.std.proofs.lemmas.Grind.{get_or_default_zero}
-use Rattle.std.specs.List.{list_any}
-use Rattle.prelude.specs.Lists.{any}
+-- `opens`: what is found before o, or stands from o on, is what stands in all.
+use mathlib.Core.Path.{refl, ◌∙◌}
+use native.Mathlib.Omega.{arith}
+use Rattle.loops.proofs.Below.{look-next, look-done}
 use Rattle.gaps.specs.Gaps.{opens}
+use Rattle.gaps.proofs.opens.Invariants.{three}
 use Rattle.gaps.proofs.opens.Goals as goal
 
-any-is : (p : ℕ → Bool) (xs : List ℕ) → list_any p xs ≡ any p xs
-unfolding any
-any-is p [] = refl
-any-is p (x ∷ xs) = ap (λ (t : Bool). p x || t) (any-is p xs)
+pub overflow_add-found : goal.overflow_add-found
+overflow_add-found c =
+    let h = c.requires c.loop-o.o-index c.loop-o-test.true in
+    omega arith
 
-pub any-requires-clause-callable : goal.any-requires-clause-callable
-any-requires-clause-callable c =
-    serves_from_places (YieldsList-from_slice c.args.offsets.now cc) (λ x q k. search rules)
-    (λ x k h e.
-    let r : c.args.base + x.now < length c.args.label.now = omega (arith, e, get_or_default_zero c.args.offsets.now k x.now h, c.requires k h) in
-    (λ _ _ _ _ _ _ _ _. search rules, λ _ _ _ _ _ _ _ _ _. r))
+pub bounds-label-base : goal.bounds-label-base
+bounds-label-base c = c.requires c.loop-o.o-index c.loop-o-test.true
+
+pub loop-o-preserved : goal.loop-o-preserved
+loop-o-preserved c =
+    let a = c.args in
+    look-next (three a.label.now a.base) a.offsets.now c.loop-o.o-index 0 c.loop-o.found c.loop-o-test.true refl ∙ c.loop-o.invariant
 
 pub returns : goal.returns
 unfolding opens
 returns c =
+    let l = c.loop-o in
     let a = c.args in
-    let three = λ (o : ℕ). eqb (get_or a.label.now (a.base + o) 0) 3 in
-    any_from_yields_List three _ _ c.any.result c.any.ensures.ran (YieldsList-from_slice a.offsets.now cc) (λ x b q k. search (rules, tests))
-    ∙ any-is three a.offsets.now
+    look-done (three a.label.now a.base) a.offsets.now l.o-index l.found c.loop-o-test.false ∙ l.invariant

@@ -1,19 +1,22 @@
--- `any_beyond`: some value found, as a fold.
-use Rattle.std.proofs.Common.{◌≡◌, ◌∙◌, ◌||◌, ap, false, rules, to_z, of_z, w32}
+-- `any_beyond`: what is found before v, or stands from v on, is what stands in all.
+use mathlib.Core.Path.{ap, ◌∙◌}
+use lib.IntN.{pos}
+use lib.ListN.{get_or}
+use mir.Syntax.{w32}
 use mir.Val.{SFits}
 use mir.Facts.{to_z-of_z}
-use Rattle.std.proofs.lemmas.Iterator.{YieldsList-from_slice}
-use Rattle.std.proofs.lemmas.Iterator.Consumers.{fold_from_yields_List}
-use Rattle.loops.proofs.Spans.{fold-any}
+use borrow.Author.Rules.{rules}
 use Rattle.rules.specs.Value.{beyond}
+use Rattle.loops.proofs.Below.{look-next, look-done}
 use Rattle.values.proofs.any_beyond.Goals as goal
 
-pub returns : goal.returns
-returns c =
+pub loop-v-preserved : goal.loop-v-preserved
+loop-v-preserved c =
     let a = c.args in
-    fold_from_yields_List _ (λ found v. found || beyond a.bound v) false c.fold.result c.fold.ensures.ran (YieldsList-from_slice a.values.now cc)
-    (λ found x r q k.
-    let f : SFits w32 x.now = search rules in
-    let e : r ≡ (found || beyond a.bound (to_z w32 (of_z w32 x.now))) = search rules in
-    (search rules, e ∙ ap (λ v. found || beyond a.bound v) (to_z-of_z f)))
-    ∙ fold-any (beyond a.bound) false a.values.now
+    let i = c.loop-v.v-index in
+    let f : SFits w32 (get_or a.values.now i (pos 0)) = search rules in
+    look-next (beyond a.bound) a.values.now i (pos 0) c.loop-v.found c.loop-v-test.true (c.beyond-found.ensures ∙ ap (beyond a.bound) (to_z-of_z f))
+    ∙ c.loop-v.invariant
+
+pub returns : goal.returns
+returns c = look-done (beyond c.args.bound) c.args.values.now c.loop-v.v-index c.loop-v.found c.loop-v-test.false ∙ c.loop-v.invariant
