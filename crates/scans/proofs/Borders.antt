@@ -1,33 +1,26 @@
 -- Number 7 row by row on the border, and its three scans as one.
 use mathlib.Core.Path.{◌≡◌, sym, ap, ap₂, ◌∙◌}
 use mathlib.Core.Bool.{Bool, true, false, not, cond, ◌||◌, ◌&&◌}
-use mathlib.Core.List.{List, [], ◌∷◌, ◌++◌}
+use mathlib.Core.List.{List}
 use Prim.Native.Nat.{ℕ, suc, ◌+◌, ◌*◌, ◌≤◌, ◌<◌}
 use native.Mathlib.Omega.{arith}
 use native.Mathlib.Nat.{mul-le-mul_left, mul-suc, mul-add}
 use lib.Dec.{eqb}
 use lib.IntN.{ℤ, pos}
-use lib.Bits.{bit_or}
-use lib.ListN.{length, get_or}
-use lib.Signed.{lt_z}
+use lib.ListN.{length}
 use mir.Syntax.{w32}
-use mir.Val.{SFits, to_z, of_z}
-use mir.Facts.{to_z-of_z}
-use Rattle.std.specs.List.{zip}
-use Rattle.std.proofs.lemmas.Slice.Zip.{length-zip, get_or-zip}
+use mir.Val.{SFits, of_z}
 use Rattle.cells.specs.Groups.{any}
-use Rattle.prelude.proofs.Bools.{and_zero, and_one, or-zero}
-use Rattle.prelude.proofs.Lists.{any_append}
-use Rattle.prelude.proofs.Ranges.{any-or, any-run-ext}
-use Rattle.prelude.proofs.Signs.{sign_bit, sign-held, sign_read, high-joined}
+use Rattle.prelude.proofs.Bools.{and_zero, and_one}
+use Rattle.prelude.proofs.Ranges.{any-or}
+use Rattle.prelude.proofs.Signs.{sign_bit, sign-held}
 use Rattle.rules.specs.declared.Sides.{Sides}
 use Rattle.rules.specs.Grid.{size, range, is_negative}
-use Rattle.rules.specs.Machine.{unfit_voxel, is_inside}
+use Rattle.rules.specs.Machine.{unfit_voxel}
 use Rattle.rules.specs.Fit.{Sized}
 use Rattle.loops.specs.Rows.{Row}
 use Rattle.loops.proofs.Rows.{row_of, rows_few, rows_more}
 use Rattle.loops.proofs.Borders.{edge_at, row-on-border, row_ends}
-use Rattle.loops.proofs.Spans.{any-read}
 use Rattle.scans.specs.Scans.{unknown_at, used_at, used_border_at, unheld_at, held_up}
 
 -- ---- row y of layer z
@@ -89,36 +82,3 @@ sign-held-up d s h = by-test (eqb s 1)
     by-test : (t : Bool) → sign_bit (of_z w32 (cond t (pos 0) d)) ≡ is_negative d && not t
     by-test true = sym (and_zero (is_negative d))
     by-test false = sign-held d h ∙ sym (and_one (is_negative d))
-
--- ---- the pairs of a distance and a status
-
-abbrev pub unheld : ℤ × ℕ → Bool
-unheld p = is_negative p.0 && not (eqb p.1 1)
-
--- the sign of one pair more, joined
-pub sign-more :
-    (all d r : ℤ) (s : ℕ) (ps : List (ℤ × ℕ))
-    → SFits w32 d
-    → SFits w32 r
-    → r ≡ to_z w32 (bit_or (of_z w32 all) (of_z w32 (held_up d s)))
-    → lt_z (to_z w32 (of_z w32 all)) (pos 0) ≡ any unheld ps
-    → lt_z (to_z w32 (of_z w32 r)) (pos 0) ≡ any unheld (ps ++ ((d, s) ∷ []))
-unfolding any
-sign-more all d r s ps f g e J =
-    let h = of_z w32 (held_up d s) in
-    ap (λ (x : ℤ). lt_z x (pos 0)) (to_z-of_z g ∙ e)
-    ∙ sign_read (bit_or (of_z w32 all) h)
-    ∙ high-joined 31 (of_z w32 all) h
-    ∙ ap₂ ◌||◌ (sym (sign_read (of_z w32 all)) ∙ J) (sign-held-up d s f ∙ sym (or-zero (unheld (d, s))))
-    ∙ sym (any_append unheld ps ((d, s) ∷ []))
-
--- the pairs are those of the indices
-pub pairs-read : (dist : List ℤ) (status : List ℕ) → length dist ≡ length status
-    → any unheld (zip dist status) ≡ any (unheld_at dist status) (range 0 (length status))
-unfolding unheld_at is_inside
-pairs-read dist status e =
-    let n : length (zip dist status) ≡ length status = omega (arith, length-zip dist status) in
-    any-read unheld (pos 0, 0) (zip dist status)
-    ∙ ap (λ (n : ℕ). any (λ i. unheld (get_or (zip dist status) i (pos 0, 0))) (range 0 n)) n
-    ∙ any-run-ext (λ i. unheld (get_or (zip dist status) i (pos 0, 0))) (unheld_at dist status) 0 (length status)
-    (λ i l h. ap unheld (get_or-zip dist status i (pos 0, 0) (omega arith) (omega arith)))

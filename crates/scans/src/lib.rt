@@ -31,10 +31,11 @@ fn unheld(dist: &[i32], status: &[u8]) -> bool
     requires { length dist.now ≡ length status.now }
     ensures { result ≡ any (unheld_at dist.now status.now) (range 0 (length status.now)) }
 {
-    dist.iter()
-        .zip(status)
-        .fold(0, |all, (&d, &s)| all | held_up(d, s))
-        < 0
+    let mut all = 0;
+    for (&d, &s) in dist.iter().zip(status) {
+        all |= held_up(d, s);
+    }
+    all < 0
 }
 
 // Some voxel from first up to end has a status other than 0.
