@@ -108,7 +108,8 @@ fn bare_face(t: u64) -> u32
     u64::trailing_zeros(face_bits(t) + 1)
 }
 
-// The whole test.
+// The whole test. Two functions go by it, and each is to have it in place: by a call of its own C's local test took a third more time.
+#[inline(always)]
 pub fn local_test(block: [[u8; 3]; 3]) -> Local
     requires { Rows block }
     ensures { as_test result ≡ test (kept_in block) }
